@@ -1,0 +1,67 @@
+-- Document 01, "The store": the sizes, where a page lies, and how long each lent part is.
+use mathlib.Core.Bool.{Bool, _&&_}
+use Prim.Native.Nat.{ℕ, _+_, _-_, _*_, _/_, _%_}
+use lib.Dec.{leb, ltb}
+
+-- What each call is given besides the lent parts.
+pub record Sizes : Type 0 where
+  -- "n data blocks, 1 to 64, numbered 1 to n. Block 0 is the spare."
+  pub n : ℕ
+  -- "Each has m pages, 1 to 64,"
+  pub m : ℕ
+  -- "of P bytes, 1 to 4,096."
+  pub P : ℕ
+  -- "a start letter s": the letter that marks the data blocks before the move
+  pub s : ℕ
+
+-- "A mark is 0, 1 or 2, a letter": a letter is a phase tag, the pass of the move in which a page was written.
+unfoldable pub isLetter : ℕ → Bool
+isLetter mark = ltb mark 3
+
+unfoldable pub inRange : Sizes → Bool
+inRange Z =
+    leb 1 (Z .n) && leb (Z .n) 64 && leb 1 (Z .m) && leb (Z .m) 64 && leb 1 (Z .P) && leb (Z .P) 4096 && isLetter (Z .s)
+
+-- "A slot is block × m + page (page 0 to m − 1)."
+abbrev pub slot : (m block page : ℕ) → ℕ
+slot m block page = block * m + page
+
+-- "Original page k, 0 to n × m − 1, is page k mod m of block k div m + 1."
+abbrev pub blockOf : (m k : ℕ) → ℕ
+blockOf m k = k / m + 1
+
+abbrev pub pageOf : (m k : ℕ) → ℕ
+pageOf m k = k % m
+
+abbrev pub slotOf : (m k : ℕ) → ℕ
+slotOf m k = slot m (blockOf m k) (pageOf m k)
+
+-- the original that is page `page` of data block `block`
+abbrev pub numberAt : (m block page : ℕ) → ℕ
+numberAt m block page = (block - 1) * m + page
+
+abbrev pub originalCount : Sizes → ℕ
+originalCount Z = Z .n * Z .m
+
+abbrev pub slotCount : Sizes → ℕ
+slotCount Z = (Z .n + 1) * Z .m
+
+-- "The store is (n + 1) × m × P bytes in slot order."
+abbrev pub storeLength : Sizes → ℕ
+storeLength Z = slotCount Z * Z .P
+
+-- "The marks are (n + 1) × m bytes, one a slot"
+abbrev pub marksLength : Sizes → ℕ
+marksLength Z = slotCount Z
+
+-- "The caller lends the list of destinations, n × m numbers of 16 bits"
+abbrev pub listLength : Sizes → ℕ
+listLength Z = originalCount Z
+
+-- "He lends n × m set bytes,"
+abbrev pub setsLength : Sizes → ℕ
+setsLength Z = originalCount Z
+
+-- "a work page of P bytes"
+abbrev pub workLength : Sizes → ℕ
+workLength Z = Z .P

@@ -1,0 +1,5 @@
+pub mod Lists
+pub mod Tables
+pub mod Geometry
+pub mod PageSum
+pub mod Chip

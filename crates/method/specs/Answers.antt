@@ -1,0 +1,152 @@
+-- Document 01, "Refused calls": the refusals of run, mend and read, and the whole answer of each.
+use mathlib.Core.Bool.{Bool, true, false, cond, _&&_, _||_, not}
+use mathlib.Core.List.{List, [], _∷_}
+use mathlib.Core.Option.{Option, none, some}
+use Prim.Native.Nat.{ℕ, _+_, _-_, min}
+use lib.Dec.{eqb, leb, ltb}
+use lib.ListN.{length}
+use Rattle.flash.specs.Lists.{range, any, isSame}
+use Rattle.flash.specs.Tables.{Row, refusal}
+use Rattle.flash.specs.Geometry.{Sizes, inRange, originalCount, slotCount, storeLength, marksLength, listLength, setsLength, workLength}
+use Rattle.flash.specs.Chip.{Chip, erased, markAt, isBlank, eraseBlock}
+use Rattle.split.specs.OneToOne.{badList}
+use Rattle.split.specs.Split.{isSplit}
+use Rattle.method.specs.Move.{Move}
+use Rattle.method.specs.Place.{lastPlace, marksOf}
+use Rattle.method.specs.Read.{readSlots, readPage}
+use Rattle.method.specs.Step.{Running, steps, Tally, tally, operationsFrom}
+use Rattle.method.specs.Mend.{Reading, reading}
+
+-- "a lent part not of its exact length": "mend the store and the marks, run and read all five lent parts"
+unfoldable pub badChip : Sizes → Chip → Bool
+badChip Z chip = not (eqb (length (chip .store)) (storeLength Z)) || not (eqb (length (chip .marks)) (marksLength Z))
+
+unfoldable pub badParts : Move → Chip → (work : List ℕ) → Bool
+badParts M chip work =
+    not (eqb (length (M .list)) (listLength (M .sizes))) || not (eqb (length (M .sets)) (setsLength (M .sizes)))
+    || badChip (M .sizes) chip || not (eqb (length work) (workLength (M .sizes)))
+
+-- "marks fit no moment of the move"
+unfoldable pub fitsNone : Option Reading → Bool
+fitsNone none = true
+fitsNone (some found) = false
+
+-- "place above 2 × n × (m + 1), or marks other than that place has, or a slot marked 255 not blank"
+unfoldable pub isElsewhere : Move → Chip → (place : ℕ) → Bool
+isElsewhere M chip place =
+    ltb (lastPlace (M .sizes)) place || not (isSame (chip .marks) (marksOf (M .sizes) place))
+    || any (λ t. eqb (markAt (chip .marks) t) erased && not (isBlank (M .sizes .P) chip t)) (range 0 (slotCount (M .sizes)))
+
+-- the rows that run and read share, in the table's order
+unfoldable pub moveRows : Move → Chip → (work : List ℕ) → (rest : List (Row ℕ)) → List (Row ℕ)
+moveRows M chip work rest =
+    -- "n, m, P or s out of its range"
+    record { fits = not (inRange (M .sizes)); gives = 1 }
+    -- "a lent part not of its exact length"
+    ∷ record { fits = badParts M chip work; gives = 2 }
+    -- "a list entry at or above n × m, or met twice"
+    ∷ record { fits = badList (originalCount (M .sizes)) (M .list); gives = 3 }
+    -- "the set bytes aren't a split of the list"
+    ∷ record { fits = not (isSplit (M .sizes .n) (M .sizes .m) (M .list) (M .sets)); gives = 4 }
+    ∷ rest
+
+unfoldable pub runRows : Move → Chip → (work : List ℕ) → (place : ℕ) → List (Row ℕ)
+runRows M chip work place = moveRows M chip work (record { fits = isElsewhere M chip place; gives = 5 } ∷ [])
+
+unfoldable pub mendRows : Sizes → Chip → List (Row ℕ)
+mendRows Z chip =
+    record { fits = not (inRange Z); gives = 1 }
+    ∷ record { fits = badChip Z chip; gives = 2 }
+    ∷ record { fits = fitsNone (reading Z (chip .marks)); gives = 6 }
+    ∷ []
+
+unfoldable pub readRows : Move → Chip → (work : List ℕ) → (k : ℕ) → List (Row ℕ)
+readRows M chip work k =
+    moveRows M chip work
+    (record { fits = fitsNone (reading (M .sizes) (chip .marks)); gives = 6 }
+    -- "original number at or above n × m"
+    ∷ record { fits = leb (originalCount (M .sizes)) k; gives = 7 }
+    ∷ [])
+
+-- "returns the place reached, writes, erases, and 'finished' .., else 'stopped'": 1 for finished, 0 for stopped. The shape that
+-- the document's last section names adds the steps.
+pub record RunAnswer : Type 0 where
+  pub number : ℕ
+  pub place : ℕ
+  pub steps : ℕ
+  pub writes : ℕ
+  pub erases : ℕ
+  pub finished : ℕ
+  pub chip : Chip
+  pub work : List ℕ
+
+-- "It does the smaller of budget and steps left"
+unfoldable pub stepsTaken : Sizes → (place budget : ℕ) → ℕ
+stepsTaken Z place budget = min budget (lastPlace Z - place)
+
+unfoldable pub runCarriedOut : Move → Chip → (work : List ℕ) → (place budget : ℕ) → RunAnswer
+runCarriedOut M chip work place budget =
+    let taken = stepsTaken (M .sizes) place budget in
+    let after = steps M taken place (record { chip = chip; work = work }) in
+    let counts = tally (operationsFrom M place taken) in
+    record {
+      number = 0;
+      place = place + taken;
+      steps = counts .steps;
+      writes = counts .writes;
+      erases = counts .erases;
+      -- "'finished' if the place is 2 × n × (m + 1)"
+      finished = cond (eqb (place + taken) (lastPlace (M .sizes))) 1 0;
+      chip = after .chip;
+      work = after .work;
+    }
+
+-- "With a refusal every other number returned is 0 and each lent byte stays."
+unfoldable pub runRefused : (number : ℕ) → Chip → (work : List ℕ) → RunAnswer
+runRefused number chip work = record {
+  number = number;
+  place = 0;
+  steps = 0;
+  writes = 0;
+  erases = 0;
+  finished = 0;
+  chip = chip;
+  work = work;
+}
+
+unfoldable pub runAnswer : Move → Chip → (work : List ℕ) → (place budget : ℕ) → RunAnswer
+runAnswer M chip work place budget =
+    let number = refusal (runRows M chip work place) in
+    cond (eqb number 0) (runCarriedOut M chip work place budget) (runRefused number chip work)
+
+-- "Mend returns the place and the erases, 0 or 1."
+pub record MendAnswer : Type 0 where
+  pub number : ℕ
+  pub place : ℕ
+  pub erases : ℕ
+  pub chip : Chip
+
+unfoldable pub mended : Sizes → Chip → Reading → MendAnswer
+mended Z chip found = elim (found .toErase) [
+  none ↦ record { number = 0; place = found .place; erases = 0; chip = chip }
+  | some b ↦ record { number = 0; place = found .place; erases = 1; chip = eraseBlock (Z .m) (Z .P) b chip }
+]
+
+unfoldable pub mendAnswer : Sizes → Chip → MendAnswer
+mendAnswer Z chip =
+    let number = refusal (mendRows Z chip) in
+    let refused : MendAnswer = record { number = number; place = 0; erases = 0; chip = chip } in
+    cond (eqb number 0) (elim (reading Z (chip .marks)) [ none ↦ refused | some found ↦ mended Z chip found ]) refused
+
+-- "Read puts original k in the work page and returns how many stored pages were summed."
+pub record ReadAnswer : Type 0 where
+  pub number : ℕ
+  pub count : ℕ
+  pub work : List ℕ
+
+unfoldable pub readAnswer : Move → Chip → (work : List ℕ) → (k : ℕ) → ReadAnswer
+readAnswer M chip work k =
+    let number = refusal (readRows M chip work k) in
+    cond (eqb number 0)
+      (record { number = 0; count = length (readSlots M (chip .marks) k); work = readPage M chip k })
+      (record { number = number; count = 0; work = work })

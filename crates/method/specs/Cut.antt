@@ -1,0 +1,47 @@
+-- Document 01, "The cut": what a cut inside a step leaves. This is the one relation among the definitions, since marks and
+-- bytes that a cut leaves are all that the document leaves open. A cut between steps leaves what the steps left.
+use mathlib.Core.Bool.{Bool, true, false}
+use mathlib.Core.Path.{_≡_}
+use mathlib.Core.Logic.{_⊎_}
+use Prim.Native.Nat.{ℕ, _/_, _<_}
+use lib.Dec.{eqb}
+use lib.ListN.{length}
+use Rattle.flash.specs.Geometry.{Sizes, slot, slotCount, storeLength, marksLength}
+use Rattle.flash.specs.Chip.{Chip, erased, pageAt, markAt}
+use Rattle.method.specs.Place.{Pass, Operation, write, erase, done}
+
+-- a mark that a cut may leave
+unfoldable pub isTornMark : ℕ → Bool
+isTornMark mark = eqb mark erased
+
+module _ (Z : Sizes) where
+  open Sizes Z using (m, P)
+
+  -- the slots that an operation writes or erases
+  unfoldable pub touches : Operation → (t : ℕ) → Bool
+  touches (write pass block page) t = eqb t (slot m block page)
+  touches (erase block) t = eqb (t / m) block
+  touches done t = false
+
+  -- the page "is as it was"
+  pub record Kept (before after : Chip) (t : ℕ) : Type 0 where
+    pub mark : markAt (after .marks) t ≡ markAt (before .marks) t
+    pub page : pageAt P after t ≡ pageAt P before t
+
+  -- the page "has mark 255 and unknown bytes"
+  pub record Torn (after : Chip) (t : ℕ) : Type 0 where
+    pub mark : isTornMark (markAt (after .marks) t) ≡ true
+
+  -- "Inside a write: that page has mark 255 and unknown bytes. Inside an erase: each page of that block is as it was, or has
+  -- mark 255 and unknown bytes."
+  abbrev pub Touched : Operation → (before after : Chip) → (t : ℕ) → Type 0
+  Touched (write pass block page) before after t = Torn after t
+  Touched (erase block) before after t = Kept before after t ⊎ Torn after t
+  Touched done before after t = Kept before after t
+
+  -- a cut inside the operation, on the chip `before`, may leave the chip `after`; "Nothing else changes."
+  pub record CutInside (operation : Operation) (before after : Chip) : Type 0 where
+    pub store-length : length (after .store) ≡ storeLength Z
+    pub marks-length : length (after .marks) ≡ marksLength Z
+    pub inside : (t : ℕ) → t < slotCount Z → touches operation t ≡ true → Touched operation before after t
+    pub outside : (t : ℕ) → t < slotCount Z → touches operation t ≡ false → Kept before after t

@@ -1,0 +1,9 @@
+pub mod Move
+pub mod Cycle
+pub mod Place
+pub mod Read
+pub mod State
+pub mod Step
+pub mod Cut
+pub mod Mend
+pub mod Answers

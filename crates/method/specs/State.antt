@@ -1,0 +1,49 @@
+-- Document 01: the store at rest, and the store and marks that each place of a move from rest has.
+use mathlib.Core.Bool.{Bool, _&&_}
+use mathlib.Core.List.{List, [], _∷_, _++_}
+use Prim.Native.Nat.{ℕ, suc, _+_, _*_, _/_, _%_}
+use lib.ListN.{replicate}
+use Rattle.flash.specs.Lists.{range, all, concatMap, part}
+use Rattle.flash.specs.Geometry.{Sizes, slot, numberAt, originalCount, slotCount}
+use Rattle.flash.specs.PageSum.{sum}
+use Rattle.flash.specs.Chip.{Chip, erased, isBlank, isFull}
+use Rattle.method.specs.Move.{Move}
+use Rattle.method.specs.Cycle.{coded, sentTo}
+use Rattle.method.specs.Place.{Held, blank, plain, code, final, heldAt, marksOf}
+
+-- "At rest, blocks 1 to n are full of s and block 0 is blank."
+unfoldable pub isAtRest : Sizes → Chip → Bool
+isAtRest Z chip =
+    all (λ block. isFull (Z .m) (chip .marks) block (Z .s)) (range 1 (Z .n))
+    && all (λ page. isBlank (Z .P) chip (slot (Z .m) 0 page)) (range 0 (Z .m))
+
+-- The store at rest whose pages are the originals: n × m pages, one after the other.
+unfoldable pub atRest : Sizes → (originals : List ℕ) → Chip
+atRest Z originals = record {
+  store = replicate (Z .m * Z .P) erased ++ originals;
+  marks = replicate (Z .m) erased ++ replicate (originalCount Z) (Z .s);
+}
+
+-- the originals whose sum a page holds
+unfoldable pub heldOriginals : Move → Held → (block page : ℕ) → List ℕ
+heldOriginals M blank block page = []
+heldOriginals M plain block page = numberAt (M .sizes .m) block page ∷ []
+heldOriginals M code block page = coded M page (block + 1)
+heldOriginals M final block page = sentTo M (numberAt (M .sizes .m) block page) ∷ []
+
+module _ (M : Move) (originals : List ℕ) where
+  open Sizes (M .sizes) using (m, P)
+
+  -- the bytes of a page from the originals
+  unfoldable pub heldPage : Held → (block page : ℕ) → List ℕ
+  heldPage blank block page = replicate P erased
+  heldPage plain block page = sum (λ k. part P k originals) (heldOriginals M plain block page)
+  heldPage code block page = sum (λ k. part P k originals) (heldOriginals M code block page)
+  heldPage final block page = sum (λ k. part P k originals) (heldOriginals M final block page)
+
+  -- the state of a place: the bytes and the mark of every slot
+  unfoldable pub stateOf : (place : ℕ) → Chip
+  stateOf place = record {
+    store = concatMap (λ t. heldPage (heldAt (M .sizes) place (t / m) (t % m)) (t / m) (t % m)) (range 0 (slotCount (M .sizes)));
+    marks = marksOf (M .sizes) place;
+  }

@@ -1,0 +1,69 @@
+-- Document 01, "Two passes": one step, and run as that step repeated.
+use mathlib.Core.Bool.{cond}
+use mathlib.Core.List.{List, [], _∷_}
+use Prim.Native.Nat.{ℕ, zero, suc, _+_, _-_, min}
+use lib.ListN.{take, drop}
+use Rattle.flash.specs.Lists.{concatMap}
+use Rattle.flash.specs.Geometry.{slot}
+use Rattle.flash.specs.PageSum.{sum}
+use Rattle.flash.specs.Chip.{Chip, pageAt, eraseBlock, writePage}
+use Rattle.method.specs.Move.{Move}
+use Rattle.method.specs.Place.{Pass, Operation, write, erase, done, markOf, written, operations, operationAt}
+use Rattle.method.specs.Read.{readSlots}
+use Rattle.method.specs.State.{heldOriginals}
+
+-- what a run changes: the store and the marks, and the work page
+pub record Running : Type 0 where
+  pub chip : Chip
+  pub work : List ℕ
+
+module _ (M : Move) where
+  -- the originals whose sum is written: "page q being c(i) of set q", "the original that the list sends there"
+  unfoldable pub originalsOf : Pass → (block page : ℕ) → List ℕ
+  originalsOf pass block page = heldOriginals M (written pass) block page
+
+  -- "A page no longer stored plain is rebuilt by read's rules": the slots that are summed for a write
+  unfoldable pub writeSlots : Pass → (block page : ℕ) → (marks : List ℕ) → List ℕ
+  writeSlots pass block page marks = concatMap (readSlots M marks) (originalsOf pass block page)
+
+  unfoldable pub writtenPage : Pass → (block page : ℕ) → Chip → List ℕ
+  writtenPage pass block page chip = sum (pageAt (M .sizes .P) chip) (writeSlots pass block page (chip .marks))
+
+  -- "The work page holds the last page written, unchanged if none."
+  unfoldable pub perform : Operation → Running → Running
+  perform (write pass block page) run =
+      let new = writtenPage pass block page (run .chip) in
+      record {
+        chip = writePage (M .sizes .P) (slot (M .sizes .m) block page) new (markOf (M .sizes) pass) (run .chip);
+        work = new;
+      }
+  perform (erase block) run = record { chip = eraseBlock (M .sizes .m) (M .sizes .P) block (run .chip); work = run .work }
+  perform done run = run
+
+  -- the step at a place
+  unfoldable pub step : (place : ℕ) → Running → Running
+  step place run = perform (operationAt (M .sizes) place) run
+
+  -- "taking a step gives the next place": as many steps as `count` says
+  unfoldable pub steps : (count place : ℕ) → Running → Running
+  steps zero place run = run
+  steps (suc count) place run = steps count (suc place) (step place run)
+
+-- what is counted of the operations done
+pub record Tally : Type 0 where
+  pub steps : ℕ
+  pub writes : ℕ
+  pub erases : ℕ
+
+unfoldable pub tallied : Operation → Tally → Tally
+tallied (write pass block page) t = record { steps = suc (t .steps); writes = suc (t .writes); erases = t .erases }
+tallied (erase block) t = record { steps = suc (t .steps); writes = t .writes; erases = suc (t .erases) }
+tallied done t = t
+
+unfoldable pub tally : List Operation → Tally
+tally [] = record { steps = 0; writes = 0; erases = 0 }
+tally (op ∷ ops) = tallied op (tally ops)
+
+-- the operations of `count` steps from a place on
+unfoldable pub operationsFrom : Move → (place count : ℕ) → List Operation
+operationsFrom M place count = take count (drop place (operations (M .sizes)))

@@ -1,0 +1,32 @@
+-- The split call: its refusals and its whole answer.
+use mathlib.Core.Bool.{Bool, cond, _||_, not}
+use mathlib.Core.List.{List, [], _∷_}
+use Prim.Native.Nat.{ℕ}
+use lib.Dec.{eqb}
+use lib.ListN.{length}
+use Rattle.flash.specs.Tables.{Row, refusal}
+use Rattle.flash.specs.Geometry.{Sizes, inRange, originalCount, listLength, setsLength}
+use Rattle.split.specs.OneToOne.{badList}
+use Rattle.split.specs.Rule.{splitByRule}
+
+-- the rows of document 01's table that the split call gives, in the table's order
+unfoldable pub splitRows : Sizes → (list sets : List ℕ) → List (Row ℕ)
+splitRows Z list sets =
+    -- "n, m, P or s out of its range"
+    record { fits = not (inRange Z); gives = 1 }
+    -- "a lent part not of its exact length"
+    ∷ record { fits = not (eqb (length list) (listLength Z)) || not (eqb (length sets) (setsLength Z)); gives = 2 }
+    -- "a list entry at or above n × m, or met twice"
+    ∷ record { fits = badList (originalCount Z) list; gives = 3 }
+    ∷ []
+
+-- what the split call returns and leaves
+pub record SplitAnswer : Type 0 where
+  pub number : ℕ
+  pub sets : List ℕ
+
+unfoldable pub splitAnswer : Sizes → (list sets : List ℕ) → SplitAnswer
+splitAnswer Z list sets =
+    let number = refusal (splitRows Z list sets) in
+    -- "With a refusal .. each lent byte stays."
+    record { number = number; sets = cond (eqb number 0) (splitByRule (Z .n) (Z .m) list) sets }

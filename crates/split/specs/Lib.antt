@@ -1,0 +1,4 @@
+pub mod OneToOne
+pub mod Split
+pub mod Rule
+pub mod Answer

@@ -1,0 +1,19 @@
+-- Document 01, "Refused calls", number 3: which lists of destinations are accepted.
+use mathlib.Core.Bool.{Bool, false, _||_, not}
+use mathlib.Core.List.{List, [], _∷_}
+use Prim.Native.Nat.{ℕ}
+use lib.Dec.{eqb, leb}
+use Rattle.flash.specs.Lists.{any}
+
+-- an entry is met twice
+unfoldable pub metTwice : List ℕ → Bool
+metTwice [] = false
+metTwice (entry ∷ entries) = any (eqb entry) entries || metTwice entries
+
+-- "a list entry at or above n × m, or met twice"
+unfoldable pub badList : (originals : ℕ) → List ℕ → Bool
+badList originals list = any (leb originals) list || metTwice list
+
+-- The check of a move list. A list of its length that passes is a permutation of the page numbers.
+unfoldable pub isOneToOne : (originals : ℕ) → List ℕ → Bool
+isOneToOne originals list = not (badList originals list)

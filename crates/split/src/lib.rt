@@ -1,0 +1,1 @@
+// A list of destinations and its split into sets. The definitions are in specs/.
