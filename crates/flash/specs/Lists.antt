@@ -1,7 +1,7 @@
 -- Tests, searches and counts over lists, and lists cut into parts of equal size. Nothing here is about flash.
 use mathlib.Core.Bool.{Bool, true, false, cond, _&&_, _||_}
 use mathlib.Core.List.{List, [], _∷_, _++_}
-use Prim.Native.Nat.{ℕ, zero, suc, _+_, _*_, max}
+use Prim.Native.Nat.{ℕ, zero, suc, _+_, _*_}
 use lib.Dec.{eqb}
 use lib.ListN.{take, drop}
 
@@ -19,10 +19,6 @@ downFrom (suc n) = suc n ∷ downFrom n
 unfoldable pub iterates : (ℕ → ℕ) → (count start : ℕ) → List ℕ
 iterates step zero start = []
 iterates step (suc count) start = start ∷ iterates step count (step start)
-
-unfoldable pub highest : List ℕ → ℕ
-highest [] = 0
-highest (x ∷ xs) = max x (highest xs)
 
 module _ {A : Type 0} where
   -- the test holds of each element

@@ -1,9 +1,9 @@
 -- A table whose first fitting row decides.
-use mathlib.Core.Bool.{Bool, true, false, cond, _&&_}
-use mathlib.Core.List.{List, [], _∷_}
+use mathlib.Core.Bool.{Bool, true, cond}
+use mathlib.Core.Path.{_≡_}
+use mathlib.Core.List.{List, [], _∷_, List·Memᴰ}
 use mathlib.Core.Option.{Option, none, some}
-use Prim.Native.Nat.{ℕ}
-use lib.Dec.{ltb}
+use Prim.Native.Nat.{ℕ, _≤_}
 
 pub record Row (A : Type 0) : Type 0 where
   pub fits : Bool
@@ -20,3 +20,8 @@ numberOr0 (some number) = number
 
 unfoldable pub refusal : List (Row ℕ) → ℕ
 refusal rows = numberOr0 (firstFit rows)
+
+-- "The lowest number that applies is returned": a number of the table that applies, and the lowest; 0 exactly where none does.
+pub record Lowest (rows : List (Row ℕ)) (number : ℕ) : Type 0 where
+  pub applies : 1 ≤ number → (row : Row ℕ) × List·Memᴰ row rows × (row .fits ≡ true) × (row .gives ≡ number)
+  pub lowest : (row : Row ℕ) → List·Memᴰ row rows → row .fits ≡ true → (1 ≤ number) × (number ≤ row .gives)

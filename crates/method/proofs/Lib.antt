@@ -1,1 +1,5 @@
 pub mod Open
+pub mod Cases
+pub mod MendLines
+pub mod Refusals
+pub mod Steps

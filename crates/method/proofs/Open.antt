@@ -1,5 +1,5 @@
 -- Opens every definition, so that a case is proved by computing it: `unfolding all-open`.
-use Rattle.flash.specs.Lists.{range, downFrom, iterates, highest, all, any, count, first, concatMap, part, setPart, isSame}
+use Rattle.flash.specs.Lists.{range, downFrom, iterates, all, any, count, first, concatMap, part, setPart, isSame}
 use Rattle.flash.specs.Tables.{firstFit, numberOr0, refusal}
 use Rattle.flash.specs.Geometry.{isLetter, inRange}
 use Rattle.flash.specs.PageSum.{_⊕_, sum}
@@ -9,7 +9,7 @@ use Rattle.split.specs.Split.{sourceBlock, destBlock, setOf, pagesFrom, pagesTo
 use Rattle.split.specs.Rule.{otherEnd, swapped, blockAt, isPageOf, isUsed, lowestUnused, pagesMet, exchange, giveNext, setsGiven, splitByRule}
 use Rattle.split.specs.Answer.{splitRows, splitAnswer}
 use Rattle.method.specs.Move.{letter}
-use Rattle.method.specs.Cycle.{D, dest, pred, cycle, top, isTop, coded, sentTo}
+use Rattle.method.specs.Cycle.{highest, D, dest, pred, cycle, top, isTop, coded, sentTo}
 use Rattle.method.specs.Place.{markOf, writes, forwardTurn, backwardTurn, operations, lastPlace, operationAt, passAt, filling, filled, written, above, heldAt, heldMark, marksOf}
 use Rattle.method.specs.Read.{fullOf, codedSlot, plainSlot, finalSlot, goBack, goOn, readSlots, readPage}
 use Rattle.method.specs.State.{isAtRest, atRest, heldOriginals, heldPage, stateOf}

@@ -1,13 +1,18 @@
 -- Document 01, "Two passes": the blocks of a set, their cycles and the coded pages. Blocks are numbered from 1, as there.
 use mathlib.Core.Bool.{Bool, cond}
 use mathlib.Core.List.{List, [], _∷_}
-use Prim.Native.Nat.{ℕ, _-_, _*_}
+use Prim.Native.Nat.{ℕ, _-_, _*_, max}
 use lib.Dec.{eqb}
 use lib.ListN.{getD}
-use Rattle.flash.specs.Lists.{range, iterates, highest, first}
+use Rattle.flash.specs.Lists.{range, iterates, first}
 use Rattle.flash.specs.Geometry.{Sizes, originalCount}
 use Rattle.split.specs.Split.{destBlock, setOf}
 use Rattle.method.specs.Move.{Move}
+
+-- the highest of x and the numbers of a list
+unfoldable pub highest : (x : ℕ) → List ℕ → ℕ
+highest x [] = x
+highest x (y ∷ ys) = highest (max x y) ys
 
 module _ (M : Move) where
   open Sizes (M .sizes) using (n, m)
@@ -30,7 +35,7 @@ module _ (M : Move) where
 
   -- "The top of a cycle is its highest block." The source document 002 calls it the tail of a semi-cycle.
   unfoldable pub top : (set i : ℕ) → ℕ
-  top set i = highest (cycle set i)
+  top set i = highest i (cycle set i)
 
   unfoldable pub isTop : (set i : ℕ) → Bool
   isTop set i = eqb (top set i) i

@@ -7,3 +7,5 @@ pub mod Step
 pub mod Cut
 pub mod Mend
 pub mod Answers
+pub mod Cases
+pub mod Claims

@@ -1,0 +1,37 @@
+-- The theorems of this crate, each a statement about the definitions; `claims` in src/lib.rt demands their proofs.
+use mathlib.Core.Bool.{Bool, true}
+use mathlib.Core.Path.{_≡_}
+use mathlib.Core.List.{List, List·Memᴰ}
+use Prim.Native.Nat.{ℕ}
+use lib.ListN.{length}
+use Rattle.flash.specs.Tables.{Row, Lowest, refusal}
+use Rattle.flash.specs.Geometry.{Sizes, inRange}
+use Rattle.flash.specs.Chip.{Chip}
+use Rattle.method.specs.Move.{Move}
+use Rattle.method.specs.Place.{operations, lastPlace}
+use Rattle.method.specs.Mend.{Reading, lines}
+use Rattle.method.specs.Answers.{runRows, mendRows, readRows}
+use Rattle.method.specs.Cases.{CasesHold}
+
+-- "There are 2 × n × (m + 1) steps"
+unfoldable pub StepsCounted : Type 0
+StepsCounted = (Z : Sizes) → length (operations Z) ≡ lastPlace Z
+
+-- Two of mend's lines that fit the same marks give the same answer: it does not matter which is tried first.
+unfoldable pub LinesAgree : Type 0
+LinesAgree =
+    (Z : Sizes) → inRange Z ≡ true → (marks : List ℕ) (one other : Row Reading)
+    → List·Memᴰ one (lines Z marks) → List·Memᴰ other (lines Z marks)
+    → one .fits ≡ true → other .fits ≡ true → one .gives ≡ other .gives
+
+-- "The lowest number that applies is returned."
+pub record LowestReturned : Type 0 where
+  pub by-run : (M : Move) (chip : Chip) (work : List ℕ) (place : ℕ) → Lowest (runRows M chip work place) (refusal (runRows M chip work place))
+  pub by-mend : (Z : Sizes) (chip : Chip) → Lowest (mendRows Z chip) (refusal (mendRows Z chip))
+  pub by-read : (M : Move) (chip : Chip) (work : List ℕ) (k : ℕ) → Lowest (readRows M chip work k) (refusal (readRows M chip work k))
+
+pub record Claims : Type 0 where
+  pub cases : CasesHold
+  pub steps : StepsCounted
+  pub lines : LinesAgree
+  pub lowest : LowestReturned
