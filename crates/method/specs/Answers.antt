@@ -138,7 +138,8 @@ mendAnswer Z chip =
     let refused : MendAnswer = record { number = number; place = 0; erases = 0; chip = chip } in
     cond (eqb number 0) (elim (reading Z (chip .marks)) [ none ↦ refused | some found ↦ mended Z chip found ]) refused
 
--- "Read puts original k in the work page and returns how many stored pages were summed."
+-- "Read puts original k in the work page and returns how many stored pages were summed." "Read answers for every store whose marks
+-- fit; the sum is by these rules even if the bytes are nonsense": no row of its table looks at bytes.
 pub record ReadAnswer : Type 0 where
   pub number : ℕ
   pub count : ℕ

@@ -1,4 +1,5 @@
--- Document 01, "The cut": what a cut inside a step leaves. This is the one relation among the definitions, since marks and
+-- Document 01, "The cut": "A cut falls between steps or inside one." What a cut inside a step leaves. "Mend is cut likewise, inside
+-- its erase." This is the one relation among the definitions, since marks and
 -- bytes that a cut leaves are all that the document leaves open. A cut between steps leaves what the steps left.
 use mathlib.Core.Bool.{Bool, true, false}
 use mathlib.Core.Path.{_≡_}

@@ -51,7 +51,8 @@ module _ (Z : Sizes) (marks : List ℕ) where
     gives = record { place = (2 * n - b) * (m + 1) + m; toErase = none };
   }
 
-  -- the four lines, each for all its blocks, as printed
+  -- the four lines, each for all its blocks, as printed. "For b = n both lines agree; for b = 0 only the letter above decides":
+  -- two lines that fit give the same answer (Claims.LinesAgree). "What an unfinished block holds isn't judged".
   unfoldable pub lines : List (Row Reading)
   lines =
       map forwardTorn (range 0 (n + 1)) ++ (map backwardTorn (range 0 (n + 1))
@@ -61,6 +62,7 @@ module _ (Z : Sizes) (marks : List ℕ) where
   unfoldable pub legalMarks : Bool
   legalMarks = all isMark marks
 
-  -- "Mend reads the marks. They fit the move if .. thus": the place that they tell, or none
+  -- "Mend reads the marks. They fit the move if at most one block is unfinished and all blocks below some point are full of one
+  -- letter and all above of another, thus": what they tell, or none where they fit no moment
   unfoldable pub reading : Option Reading
   reading = cond legalMarks (firstFit lines) none

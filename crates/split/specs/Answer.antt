@@ -14,7 +14,7 @@ unfoldable pub splitRows : Sizes → (list sets : List ℕ) → List (Row ℕ)
 splitRows Z list sets =
     -- "n, m, P or s out of its range"
     record { fits = not (inRange Z); gives = 1 }
-    -- "a lent part not of its exact length"
+    -- "a lent part not of its exact length": "Split takes the list and the set bytes"
     ∷ record { fits = not (eqb (length list) (listLength Z)) || not (eqb (length sets) (setsLength Z)); gives = 2 }
     -- "a list entry at or above n × m, or met twice"
     ∷ record { fits = badList (originalCount Z) list; gives = 3 }
