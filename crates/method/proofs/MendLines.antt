@@ -13,7 +13,7 @@ use Rattle.flash.specs.Tables.{Row}
 use Rattle.flash.specs.Geometry.{Sizes, inRange, isLetter, slot}
 use Rattle.flash.specs.Chip.{markAt, isFull, isUnfinished}
 use Rattle.flash.proofs.Bools.{bool-cases, both}
-use Rattle.flash.proofs.Ranges.{in-range}
+use Rattle.flash.proofs.Sizes.{in-range}
 use Rattle.method.specs.Move.{letter}
 use Rattle.method.specs.Mend.{Reading, fullFrom, forwardTorn, backwardTorn, forwardFull, backwardFull, lines}
 use Rattle.method.specs.Claims.{LinesAgree}
