@@ -1,10 +1,10 @@
 -- Document 01: "Sums are bytewise exclusive-or."
+use mathlib.Core.Bool.{Bool, cond}
 use mathlib.Core.List.{List, [], _∷_}
 use Prim.Native.Nat.{ℕ}
 use lib.Bits.{bitXor}
 
 infixl 40 _⊕_
-
 -- Of two pages of one length. A shorter list counts as filled up with zeros, so that the empty list is the sum of no pages.
 unfoldable pub _⊕_ : List ℕ → List ℕ → List ℕ
 _⊕_ [] ys = ys
@@ -15,3 +15,7 @@ _⊕_ (x ∷ xs) (y ∷ ys) = bitXor x y ∷ (xs ⊕ ys)
 unfoldable pub sum : (page : ℕ → List ℕ) → List ℕ → List ℕ
 sum page [] = []
 sum page (t ∷ ts) = page t ⊕ sum page ts
+
+-- A page is put into the work page, or added to what is there.
+unfoldable pub putOrAdd : (add : Bool) → (work page : List ℕ) → List ℕ
+putOrAdd add work page = cond add (work ⊕ page) page

@@ -1,0 +1,9 @@
+pub mod Bools
+pub mod Searches
+pub mod Ranges
+pub mod Same
+pub mod Parts
+pub mod Xor
+pub mod Sums
+pub mod Blocks
+pub mod Chips
