@@ -1,3 +1,11 @@
 pub mod Bools
 pub mod Tables
+pub mod Sizes
+pub mod Searches
 pub mod Ranges
+pub mod Same
+pub mod Parts
+pub mod Xor
+pub mod Sums
+pub mod Blocks
+pub mod Chips

@@ -1,10 +1,11 @@
 -- Document 01, "The store": the chip's pages and marks, what is blank, whole or full, and the two things done to them.
 use mathlib.Core.Bool.{Bool, _&&_, _||_, not}
+use mathlib.Core.Path.{_≡_}
 use mathlib.Core.List.{List}
 use Prim.Native.Nat.{ℕ, _*_}
 use lib.Dec.{eqb}
 use lib.ListN.{getD, set, replicate}
-use Rattle.flash.specs.Lists.{range, all, part, setPart}
+use Rattle.flash.specs.Lists.{range, all, first, part, setPart}
 use Rattle.flash.specs.Geometry.{isLetter, slot}
 
 -- "The store is .. bytes in slot order. The marks are .. bytes, one a slot, kept in the chip's spare area."
@@ -43,6 +44,13 @@ isFull m marks block letter = all (λ page. eqb (markAt marks (slot m block page
 unfoldable pub isUnfinished : (m : ℕ) → List ℕ → (block : ℕ) → Bool
 isUnfinished m marks block = not (isFull m marks block 0 || isFull m marks block 1 || isFull m marks block 2)
 
+-- The letter that fills a block, or 3, which is no letter, of an unfinished block.
+abbrev pub noLetter : ℕ
+noLetter = 3
+
+unfoldable pub letterOf : (m : ℕ) → List ℕ → (block : ℕ) → ℕ
+letterOf m marks block = first (isFull m marks block) (range 0 3) noLetter
+
 -- "An erase makes all pages of a block blank. An erase touches one block and nothing beside it."
 unfoldable pub eraseBlock : (m P block : ℕ) → Chip → Chip
 eraseBlock m P block chip = record {
@@ -53,3 +61,8 @@ eraseBlock m P block chip = record {
 -- a page is written to a slot with its mark
 unfoldable pub writePage : (P t : ℕ) → (page : List ℕ) → (mark : ℕ) → Chip → Chip
 writePage P t page mark chip = record { store = setPart P t (chip .store) page; marks = set (chip .marks) t mark }
+
+-- the lent store and the lent marks are those of a chip
+pub record Holds (chip : Chip) (store marks : List ℕ) : Type 0 where
+  pub store-is : store ≡ chip .store
+  pub marks-is : marks ≡ chip .marks

@@ -1,4 +1,5 @@
 -- Document 01: "Sums are bytewise exclusive-or."
+use mathlib.Core.Bool.{Bool, cond}
 use mathlib.Core.List.{List, [], _∷_}
 use Prim.Native.Nat.{ℕ}
 use lib.Bits.{bitXor}
@@ -14,3 +15,7 @@ _⊕_ (x ∷ xs) (y ∷ ys) = bitXor x y ∷ (xs ⊕ ys)
 unfoldable pub sum : (page : ℕ → List ℕ) → List ℕ → List ℕ
 sum page [] = []
 sum page (t ∷ ts) = page t ⊕ sum page ts
+
+-- A page is put into the work page, or added to what is there.
+unfoldable pub putOrAdd : (add : Bool) → (work page : List ℕ) → List ℕ
+putOrAdd add work page = cond add (work ⊕ page) page

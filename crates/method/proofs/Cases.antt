@@ -1,13 +1,12 @@
 -- Document 01's cases hold: each by computing the definitions.
 use mathlib.Core.Path.{_≡_, refl, sym}
-use mathlib.Core.Bool.{Bool, true, false, true≢false}
-use mathlib.Core.Logic.{_⊎_, inr}
-use mathlib.Core.List.{List, [], _∷_}
+use mathlib.Core.Bool.{true, false, true≢false}
+use mathlib.Core.Logic.{inr}
 use Prim.Native.Nat.{ℕ, zero, suc, _<_}
 use native.Mathlib.Omega.{arith}
-use Rattle.method.specs.Cut.{Kept, Torn, CutInside, Touched, touches, isTornMark}
+use Rattle.method.specs.Cut.{Kept, CutInside, Touched, touches, isTornMark}
 use Rattle.method.specs.Place.{erase}
-use Rattle.method.specs.Cases.{Holds, Every, nil, _then_, listing, lineOf, figure, writtenAt, chipsFrom, sumOfBits, three, threeBeforeErase, threeTorn, cases, CasesHold}
+use Rattle.method.specs.Cases.{nil, _then_, listing, lineOf, figure, writtenAt, chipsFrom, sumOfBits, three, threeBeforeErase, threeTorn, cases, CasesHold}
 use Rattle.method.proofs.Open.{all-open}
 
 -- P9: the torn chip is one that a cut inside the erase of block 2 may leave

@@ -1,39 +1,24 @@
 -- Two of mend's four lines that fit give the same answer.
-use mathlib.Core.Path.{_≡_, refl, sym, ap, ap₂, _∙_, subst}
+use mathlib.Core.Path.{_≡_, sym, ap, ap₂, _∙_, subst}
 use mathlib.Core.Logic.{_⊎_, inl, inr, ⊎-elim, _≢_}
-use mathlib.Core.Bool.{Bool, true, false, _&&_, _||_, not, true≢false}
-use mathlib.Core.Option.{Option, none, some}
-use mathlib.Core.List.{List, [], _∷_, _++_, map, List·Memᴰ, List·Memᴰ·not-nil, List·Memᴰ·cases-cons, List·Memᴰ·append-cases}
-use Prim.Native.Nat.{ℕ, zero, suc, _+_, _-_, _*_, _%_, _≤_, _<_}
+use mathlib.Core.Bool.{Bool, true, false, _&&_}
+use mathlib.Core.Option.{some}
+use mathlib.Core.List.{List, map, List·Memᴰ, List·Memᴰ·not-nil, List·Memᴰ·cases-cons, List·Memᴰ·append-cases}
+use Prim.Native.Nat.{ℕ, zero, suc, _+_, _-_, _*_, _≤_, _<_}
 use native.Mathlib.Omega.{arith}
-use lib.Dec.{eqb, ltb, leb}
-use borrow.Author.Tests.{eqb-true, eqb-false, not-true, leb-true, ltb-true, ltb-false}
-use Rattle.flash.specs.Lists.{range, all}
+use lib.Dec.{ltb}
+use borrow.Author.Tests.{ltb-true, ltb-false}
+use Rattle.flash.specs.Lists.{range}
 use Rattle.flash.specs.Tables.{Row}
-use Rattle.flash.specs.Geometry.{Sizes, inRange, isLetter, slot}
-use Rattle.flash.specs.Chip.{markAt, isFull, isUnfinished}
-use Rattle.flash.proofs.Bools.{bool-cases, both}
+use Rattle.flash.specs.Geometry.{Sizes}
+use Rattle.flash.specs.Chip.{isFull, isUnfinished}
+use Rattle.flash.proofs.Bools.{bool-cases, never-both, both}
+use Rattle.flash.proofs.Ranges.{all-in}
+use Rattle.flash.proofs.Blocks.{full-same, full-finished}
 use Rattle.flash.proofs.Sizes.{in-range}
 use Rattle.method.specs.Move.{letter}
 use Rattle.method.specs.Mend.{Reading, fullFrom, forwardTorn, backwardTorn, forwardFull, backwardFull, lines}
 use Rattle.method.specs.Claims.{LinesAgree}
-
-none-of-three : (a b c : Bool) → not (a || b || c) ≡ true → (a ≡ false) × (b ≡ false) × (c ≡ false)
-none-of-three true b c e = absurd (true≢false (sym e))
-none-of-three false true c e = absurd (true≢false (sym e))
-none-of-three false false true e = absurd (true≢false (sym e))
-none-of-three false false false e = (refl, refl, refl)
-
--- a test over a range holds at each of its numbers
-all-range : (test : ℕ → Bool) (start count : ℕ) → all test (range start count) ≡ true → (j : ℕ) → start ≤ j → j < start + count → test j ≡ true
-unfolding all range
-all-range test start zero e j a b = absurd (omega arith)
-all-range test start (suc count) e j a b =
-    let h = both (test start) (all test (range (suc start) count)) e in
-    ⊎-elim
-    (λ (q : ltb start j ≡ true). all-range test (suc start) count (h .1) j (ltb-true start j q) (omega arith))
-    (λ (q : ltb start j ≡ false). (let z : start ≡ j = omega (arith, ltb-false start j q) in subst (λ (y : ℕ). test y ≡ true) z (h .0)))
-    (bool-cases (ltb start j))
 
 -- what a map over a range has in it comes from a number of the range
 mem-range : {A : Type 0} (f : ℕ → A) (start count : ℕ) (y : A) → List·Memᴰ y (map f (range start count)) → (x : ℕ) × (start ≤ x) × (x < start + count) × (y ≡ f x)
@@ -50,28 +35,14 @@ module _ (Z : Sizes) (pages : 0 < Z .m) (marks : List ℕ) where
   abbrev full : (i b : ℕ) → Bool
   full i b = isFull m marks b (letter Z i)
 
-  full-first : (i b : ℕ) → full i b ≡ true → markAt marks (slot m b 0) ≡ letter Z i
-  unfolding isFull
-  full-first i b e =
-      eqb-true (markAt marks (slot m b 0)) (letter Z i) (all-range (λ page. eqb (markAt marks (slot m b page)) (letter Z i)) 0 m e 0 (omega arith) (omega arith))
-
   -- a block is not full of two letters
   one-letter : (i j b : ℕ) → full i b ≡ true → full j b ≡ true → letter Z i ≡ letter Z j
-  one-letter i j b e f = sym (full-first i b e) ∙ full-first j b f
+  one-letter i j b e f = full-same m marks b (letter Z i) (letter Z j) pages e f
 
   -- nor is it full and unfinished
   finished : (i b : ℕ) → full i b ≡ true → isUnfinished m marks b ≡ true → ⊥
-  unfolding letter isUnfinished
-  finished i b e u = not-both (letter Z i) (omega arith) e
-    where
-      none-full : (isFull m marks b 0 ≡ false) × (isFull m marks b 1 ≡ false) × (isFull m marks b 2 ≡ false)
-      none-full = none-of-three (isFull m marks b 0) (isFull m marks b 1) (isFull m marks b 2) u
-
-      not-both : (l : ℕ) → l < 3 → isFull m marks b l ≡ true → ⊥
-      not-both zero h f = true≢false (sym f ∙ none-full .0)
-      not-both (suc zero) h f = true≢false (sym f ∙ none-full .1)
-      not-both (suc (suc zero)) h f = true≢false (sym f ∙ none-full .2)
-      not-both (suc (suc (suc l))) h f = absurd (omega arith)
+  unfolding letter
+  finished i b e u = never-both u (full-finished m marks b (letter Z i) (omega arith) e)
 
   -- A block b is torn, or none is, between blocks full of s + 1 and blocks full of s + i.
   record Torn (i b : ℕ) : Type 0 where
@@ -160,7 +131,7 @@ module _ (Z : Sizes) (pages : 0 < Z .m) (marks : List ℕ) where
   -- blocks of a range are full of a letter
   full-range : (i start count : ℕ) → fullFrom Z marks i start count ≡ true → (j : ℕ) → start ≤ j → j < start + count → full i j ≡ true
   unfolding fullFrom
-  full-range i start count e = all-range (full i) start count e
+  full-range i start count e = all-in (full i) start count e
 
   torn-of : (i b : ℕ) → b < 0 + (n + 1) → (isUnfinished m marks b && fullFrom Z marks 1 0 b && fullFrom Z marks i (b + 1) (n - b)) ≡ true → Torn i b
   torn-of i b h e =

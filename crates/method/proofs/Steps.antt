@@ -1,19 +1,15 @@
 -- There are 2 × n × (m + 1) steps.
 use mathlib.Core.Path.{_≡_, refl, ap, ap₂, _∙_}
-use mathlib.Core.List.{List, [], _∷_, _++_, map}
+use mathlib.Core.List.{List, [], _∷_, _++_}
 use Prim.Native.Nat.{ℕ, zero, suc, _+_, _-_, _*_}
 use native.Mathlib.Nat.{suc-mul}
 use native.Mathlib.Omega.{arith}
 use lib.ListN.{length, length-append, length-map}
 use Rattle.flash.specs.Lists.{range, downFrom, concatMap}
 use Rattle.flash.specs.Geometry.{Sizes}
+use Rattle.flash.proofs.Ranges.{length-range}
 use Rattle.method.specs.Place.{Pass, forward, backward, write, erase, writes, forwardTurn, backwardTurn, operations, lastPlace}
 use Rattle.method.specs.Claims.{StepsCounted}
-
-length-range : (start count : ℕ) → length (range start count) ≡ count
-unfolding range
-length-range start zero = refl
-length-range start (suc count) = ap suc (length-range (suc start) count)
 
 length-downFrom : (n : ℕ) → length (downFrom n) ≡ n
 unfolding downFrom

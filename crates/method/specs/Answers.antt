@@ -14,7 +14,7 @@ use Rattle.split.specs.Split.{isSplit}
 use Rattle.method.specs.Move.{Move}
 use Rattle.method.specs.Place.{lastPlace, marksOf}
 use Rattle.method.specs.Read.{readSlots, readPage}
-use Rattle.method.specs.Step.{Running, steps, Tally, tally, operationsFrom}
+use Rattle.method.specs.Step.{steps, tally, operationsFrom}
 use Rattle.method.specs.Mend.{Reading, reading}
 
 -- "a lent part not of its exact length": "mend the store and the marks, run and read all five lent parts"

@@ -1,5 +1,5 @@
 -- The theorems of this crate, each a statement about the definitions; `claims` in src/lib.rt demands their proofs.
-use mathlib.Core.Bool.{Bool, true}
+use mathlib.Core.Bool.{true}
 use mathlib.Core.Path.{_≡_}
 use mathlib.Core.List.{List, List·Memᴰ}
 use Prim.Native.Nat.{ℕ}

@@ -9,7 +9,7 @@ use lib.Dec.{eqb}
 use lib.ListN.{length}
 use Rattle.flash.specs.Geometry.{Sizes, slot, slotCount, storeLength, marksLength}
 use Rattle.flash.specs.Chip.{Chip, erased, pageAt, markAt}
-use Rattle.method.specs.Place.{Pass, Operation, write, erase, done}
+use Rattle.method.specs.Place.{Operation, write, erase, done}
 
 -- a mark that a cut may leave
 unfoldable pub isTornMark : ℕ → Bool

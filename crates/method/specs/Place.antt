@@ -1,5 +1,5 @@
 -- Document 01, "Two passes": the steps, their order, and the marks at each place. They depend on the sizes and s alone.
-use mathlib.Core.Bool.{Bool, cond}
+use mathlib.Core.Bool.{cond}
 use mathlib.Core.List.{List, [], _∷_, _++_, map}
 use Prim.Native.Nat.{ℕ, _+_, _-_, _*_, _/_, _%_}
 use lib.Dec.{ltb}

@@ -1,7 +1,7 @@
 -- Document 01: the store at rest, and the store and marks that each place of a move from rest has.
 use mathlib.Core.Bool.{Bool, _&&_}
 use mathlib.Core.List.{List, [], _∷_, _++_}
-use Prim.Native.Nat.{ℕ, suc, _+_, _*_, _/_, _%_}
+use Prim.Native.Nat.{ℕ, _+_, _*_, _/_, _%_}
 use lib.ListN.{replicate}
 use Rattle.flash.specs.Lists.{range, all, concatMap, part}
 use Rattle.flash.specs.Geometry.{Sizes, slot, numberAt, originalCount, slotCount}

@@ -1,7 +1,6 @@
 -- Document 01, "Two passes": one step, and run as that step repeated.
-use mathlib.Core.Bool.{cond}
 use mathlib.Core.List.{List, [], _∷_}
-use Prim.Native.Nat.{ℕ, zero, suc, _+_, _-_, min}
+use Prim.Native.Nat.{ℕ, zero, suc}
 use lib.ListN.{take, drop}
 use Rattle.flash.specs.Lists.{concatMap}
 use Rattle.flash.specs.Geometry.{slot}

@@ -1,0 +1,91 @@
+-- Laws of marks: when a block is full of a letter, or unfinished.
+use mathlib.Core.Path.{_≡_, refl, sym, _∙_}
+use mathlib.Core.Logic.{_≢_, ⊎-elim}
+use mathlib.Core.Bool.{Bool, true, false, _||_, not, or-true}
+use mathlib.Core.List.{List}
+use Prim.Native.Nat.{ℕ, zero, suc, _+_, _*_, _≤_, _<_}
+use native.Mathlib.Omega.{arith}
+use lib.Dec.{eqb}
+use lib.ListN.{length, getD}
+use borrow.Author.Tests.{eqb-true, eq-eqb, ne-eqb, not-true}
+use Rattle.flash.specs.Lists.{range, all, any, first, part}
+use Rattle.flash.specs.Geometry.{slot}
+use Rattle.flash.specs.Chip.{erased, markAt, isFull, isUnfinished, letterOf, noLetter}
+use Rattle.flash.proofs.Bools.{never-both, or-false-left, or-false-right, fails, bool-eq}
+use Rattle.flash.proofs.Searches.{all-at, all-of, first-none}
+use Rattle.flash.proofs.Ranges.{all-in, all-is, all-not, none-is, first-is}
+use Rattle.flash.proofs.Parts.{length-part, part-at}
+
+module _ (m : ℕ) (marks : List ℕ) (block : ℕ) where
+  abbrev marked : ℕ → ℕ → Bool
+  marked letter page = eqb (markAt marks (slot m block page)) letter
+
+  -- full: each mark is the letter
+  pub full-at : (letter page : ℕ) → isFull m marks block letter ≡ true → page < m → markAt marks (slot m block page) ≡ letter
+  unfolding isFull
+  full-at letter page e h = eqb-true _ _ (all-in (marked letter) 0 m e page (omega arith) (omega arith))
+
+  pub full-of : (letter : ℕ) → ((page : ℕ) → page < m → markAt marks (slot m block page) ≡ letter) → isFull m marks block letter ≡ true
+  unfolding isFull
+  full-of letter f = all-is (marked letter) 0 m (λ page a b. eq-eqb _ _ (f page (omega arith)))
+
+  pub not-full : (letter page : ℕ) → page < m → markAt marks (slot m block page) ≢ letter → isFull m marks block letter ≡ false
+  unfolding isFull
+  not-full letter page h ne = all-not (marked letter) 0 m page (omega arith) (omega arith) (ne-eqb _ _ ne)
+
+  -- full of one letter, and of no other
+  pub full-other : (letter other : ℕ) → 0 < m → isFull m marks block letter ≡ true → letter ≢ other → isFull m marks block other ≡ false
+  full-other letter other h e ne = not-full other 0 h (λ q. ne (sym (full-at letter 0 e h) ∙ q))
+
+  pub full-same : (letter other : ℕ) → 0 < m → isFull m marks block letter ≡ true → isFull m marks block other ≡ true → letter ≡ other
+  full-same letter other h e f = sym (full-at letter 0 e h) ∙ full-at other 0 f h
+
+  -- a block that is full of a letter is finished
+  pub full-finished : (letter : ℕ) → letter < 3 → isFull m marks block letter ≡ true → isUnfinished m marks block ≡ false
+  unfolding isUnfinished
+  full-finished zero h e = rw e
+  full-finished (suc zero) h e = rw (e, or-true)
+  full-finished (suc (suc zero)) h e = rw (e, or-true)
+  full-finished (suc (suc (suc letter))) h e = absurd (omega arith)
+
+  pub unfinished-at : (letter : ℕ) → letter < 3 → isUnfinished m marks block ≡ true → isFull m marks block letter ≡ false
+  unfinished-at letter h u = fails (λ e. never-both u (full-finished letter h e))
+
+  pub unfinished-of : ((letter : ℕ) → letter < 3 → isFull m marks block letter ≡ false) → isUnfinished m marks block ≡ true
+  unfolding isUnfinished
+  unfinished-of f = rw (f 0 (omega arith), f 1 (omega arith), f 2 (omega arith))
+
+  -- the letter that fills a block
+  pub letter-is : (letter : ℕ) → 0 < m → letter < 3 → isFull m marks block letter ≡ true → letterOf m marks block ≡ letter
+  unfolding letterOf
+  letter-is letter h l e =
+      first-is (isFull m marks block) 0 3 noLetter letter
+      (record {
+        low = omega arith;
+        high = omega arith;
+        passes = e;
+        before = λ other a b. full-other letter other h e (omega arith);
+      })
+
+  pub letter-none : isUnfinished m marks block ≡ true → letterOf m marks block ≡ noLetter
+  unfolding letterOf
+  letter-none u =
+      first-none (isFull m marks block) (range 0 3) noLetter
+      (none-is (isFull m marks block) 0 3 (λ letter a b. unfinished-at letter (omega arith) u))
+
+  -- the test over the block's part of the marks
+  pub full-part : (letter : ℕ) → block * m + m ≤ length marks → isFull m marks block letter ≡ all (λ mark. eqb mark letter) (part m block marks)
+  unfolding markAt
+  full-part letter fits =
+      let size = length-part m block marks fits in
+      bool-eq (isFull m marks block letter) (all (λ mark. eqb mark letter) (part m block marks))
+      (λ e.
+      all-of (λ mark. eqb mark letter) (part m block marks) erased
+      (λ page h.
+      let l : page < m = omega arith in
+      eq-eqb _ _ (part-at m block marks page erased l ∙ full-at letter page e l)))
+      (λ e.
+      full-of letter
+      (λ page h.
+      sym (part-at m block marks page erased h)
+      ∙ eqb-true _ _ (all-at (λ mark. eqb mark letter) (part m block marks) page erased e (omega arith))))

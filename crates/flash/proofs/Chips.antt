@@ -1,0 +1,121 @@
+-- What an erase and a write do to the page and the mark of each slot.
+use mathlib.Core.Path.{_≡_, refl, sym, ap, ap₂, _∙_}
+use mathlib.Core.Logic.{_≢_}
+use mathlib.Core.Bool.{Bool, true, false, _&&_}
+use mathlib.Core.List.{List}
+use Prim.Native.Nat.{ℕ, _+_, _*_, _≤_, _<_}
+use native.Mathlib.Omega.{arith}
+use lib.Dec.{eqb}
+use lib.ListN.{length, getD, replicate, set, length-set, length-replicate, getD-replicate}
+use lib.Seq.{getD-set-same, getD-set-other, ext-getD}
+use borrow.Author.Tests.{eqb-true, eq-eqb}
+use Rattle.flash.specs.Lists.{all, part, setPart}
+use Rattle.flash.specs.Geometry.{slot}
+use Rattle.flash.specs.Chip.{Chip, Holds, erased, pageAt, markAt, isBlank, eraseBlock, writePage}
+use Rattle.flash.proofs.Bools.{and-left, and-right}
+use Rattle.flash.proofs.Searches.{all-at, all-of}
+use Rattle.flash.proofs.Parts.{part-fits, length-part, part-at, length-setPart, setPart-at, part-setPart, part-setPart-other, part-part, part-replicate}
+
+-- lent parts that hold a chip make that chip
+pub holds-chip : (chip : Chip) (store marks : List ℕ) → Holds chip store marks → _≡_ {A = Chip} (record { store = store; marks = marks }) chip
+holds-chip chip store marks H =
+    ap₂ {C = Chip} (λ (s t : List ℕ). record { store = s; marks = t }) (H .store-is) (H .marks-is)
+
+-- a page is a part of the store
+pub page-is : (P : ℕ) (chip : Chip) (t : ℕ) → pageAt P chip t ≡ part P t (chip .store)
+unfolding pageAt
+page-is P chip t = refl
+
+-- blank: the mark and each byte are 255
+pub blank-of : (P : ℕ) (chip : Chip) (t : ℕ) → markAt (chip .marks) t ≡ erased → pageAt P chip t ≡ replicate P erased → isBlank P chip t ≡ true
+unfolding isBlank
+blank-of P chip t mark page =
+    let test : ℕ → Bool = λ byte. eqb byte erased in
+    let bytes : all test (replicate P erased) ≡ true =
+    all-of test (replicate P erased) 0 (λ i h. eq-eqb _ _ (getD-replicate P i erased 0 (omega (arith, length-replicate P erased)))) in
+    rw (eq-eqb (markAt (chip .marks) t) erased mark, page) bytes
+
+pub blank-mark : (P : ℕ) (chip : Chip) (t : ℕ) → isBlank P chip t ≡ true → markAt (chip .marks) t ≡ erased
+unfolding isBlank
+blank-mark P chip t e = eqb-true (markAt (chip .marks) t) erased (and-left (eqb (markAt (chip .marks) t) erased) _ e)
+
+pub blank-page : (P : ℕ) (chip : Chip) (t : ℕ) → t * P + P ≤ length (chip .store) → isBlank P chip t ≡ true → pageAt P chip t ≡ replicate P erased
+unfolding isBlank pageAt
+blank-page P chip t fits e =
+    let test : ℕ → Bool = λ byte. eqb byte erased in
+    let page : List ℕ = part P t (chip .store) in
+    let size : length page ≡ P = length-part P t (chip .store) fits in
+    let bytes : all test page ≡ true = and-right (eqb (markAt (chip .marks) t) erased) (all test page) e in
+    ext-getD 0 page (replicate P erased) (size ∙ sym (length-replicate P erased))
+    (λ i h. eqb-true (getD page i 0) erased (all-at test page i 0 bytes h) ∙ sym (getD-replicate P i erased 0 (omega arith)))
+
+module _ (m P block : ℕ) (chip : Chip) (store-fits : block * (m * P) + m * P ≤ length (chip .store)) (marks-fit : block * m + m ≤ length (chip .marks)) where
+  pub erase-store-length : length (eraseBlock m P block chip .store) ≡ length (chip .store)
+  unfolding eraseBlock
+  erase-store-length = length-setPart (m * P) block (chip .store) (replicate (m * P) erased) store-fits (length-replicate (m * P) erased)
+
+  pub erase-marks-length : length (eraseBlock m P block chip .marks) ≡ length (chip .marks)
+  unfolding eraseBlock
+  erase-marks-length = length-setPart m block (chip .marks) (replicate m erased) marks-fit (length-replicate m erased)
+
+  module _ (page : ℕ) (inside : page < m) where
+    -- the pages of the block become blank
+    pub erase-page : pageAt P (eraseBlock m P block chip) (slot m block page) ≡ replicate P erased
+    unfolding pageAt eraseBlock
+    erase-page =
+        sym (part-part P m block page (eraseBlock m P block chip .store) inside)
+        ∙ ap (part P page) (part-setPart (m * P) block (chip .store) (replicate (m * P) erased) store-fits (length-replicate (m * P) erased))
+        ∙ part-replicate P page (m * P) erased (part-fits page m P inside)
+
+    pub erase-mark : markAt (eraseBlock m P block chip .marks) (slot m block page) ≡ erased
+    unfolding markAt eraseBlock
+    erase-mark =
+        setPart-at m block (chip .marks) (replicate m erased) marks-fit (length-replicate m erased) page erased inside
+        ∙ getD-replicate m page erased erased inside
+
+    pub erase-blank : isBlank P (eraseBlock m P block chip) (slot m block page) ≡ true
+    erase-blank = blank-of P (eraseBlock m P block chip) (slot m block page) erase-mark erase-page
+
+    -- and those of every other block stay
+    module _ (other : ℕ) (apart : other ≢ block) where
+      pub erase-page-other : pageAt P (eraseBlock m P block chip) (slot m other page) ≡ pageAt P chip (slot m other page)
+      unfolding pageAt eraseBlock
+      erase-page-other =
+          sym (part-part P m other page (eraseBlock m P block chip .store) inside)
+          ∙ ap (part P page) (part-setPart-other (m * P) block (chip .store) (replicate (m * P) erased) store-fits (length-replicate (m * P) erased) other apart)
+          ∙ part-part P m other page (chip .store) inside
+
+      pub erase-mark-other : markAt (eraseBlock m P block chip .marks) (slot m other page) ≡ markAt (chip .marks) (slot m other page)
+      unfolding markAt eraseBlock
+      erase-mark-other =
+          sym (part-at m other (eraseBlock m P block chip .marks) page erased inside)
+          ∙ ap (λ (p : List ℕ). getD p page erased) (part-setPart-other m block (chip .marks) (replicate m erased) marks-fit (length-replicate m erased) other apart)
+          ∙ part-at m other (chip .marks) page erased inside
+
+module _ (P t : ℕ) (page : List ℕ) (mark : ℕ) (chip : Chip) where
+  pub write-marks-length : length (writePage P t page mark chip .marks) ≡ length (chip .marks)
+  unfolding writePage
+  write-marks-length = length-set (chip .marks) t mark
+
+  -- the mark is there, and every other mark stays
+  pub write-mark : t < length (chip .marks) → markAt (writePage P t page mark chip .marks) t ≡ mark
+  unfolding markAt writePage
+  write-mark h = getD-set-same (chip .marks) t mark erased h
+
+  pub write-mark-other : (u : ℕ) → u ≢ t → markAt (writePage P t page mark chip .marks) u ≡ markAt (chip .marks) u
+  unfolding markAt writePage
+  write-mark-other u apart = getD-set-other (chip .marks) t u mark erased apart
+
+  module _ (fits : t * P + P ≤ length (chip .store)) (whole : length page ≡ P) where
+    pub write-store-length : length (writePage P t page mark chip .store) ≡ length (chip .store)
+    unfolding writePage
+    write-store-length = length-setPart P t (chip .store) page fits whole
+
+    -- the page is there, and every other page stays
+    pub write-page : pageAt P (writePage P t page mark chip) t ≡ page
+    unfolding pageAt writePage
+    write-page = part-setPart P t (chip .store) page fits whole
+
+    pub write-page-other : (u : ℕ) → u ≢ t → pageAt P (writePage P t page mark chip) u ≡ pageAt P chip u
+    unfolding pageAt writePage
+    write-page-other u apart = part-setPart-other P t (chip .store) page fits whole u apart

@@ -1,0 +1,193 @@
+-- Laws of `range`, and of tests, counts and searches over one.
+use mathlib.Core.Path.{_≡_, refl, sym, ap, _∙_}
+use mathlib.Core.Logic.{⊎-elim}
+use mathlib.Core.Bool.{Bool, true, false, cond, _&&_, _||_, and-true, or-false}
+use mathlib.Core.List.{List, [], _∷_, _++_}
+use Prim.Native.Nat.{ℕ, zero, suc, _+_, _-_, _≤_, _<_}
+use native.Mathlib.Nat.{not-suc-le-zero, le-of-suc-le-suc, add-zero}
+use native.Mathlib.Omega.{arith}
+use lib.Dec.{eqb}
+use lib.ListN.{length, getD}
+use borrow.Author.Tests.{eqb-true, eqb-false}
+use Rattle.flash.specs.Lists.{range, all, any, count, first}
+use Rattle.flash.proofs.Bools.{bool-cases, never-both, fails}
+use Rattle.flash.proofs.Searches.{all-append, any-append, count-append, first-append, all-at, all-of, none-at, none-of, count-none, none-counted, first-none}
+
+pub length-range : (start size : ℕ) → length (range start size) ≡ size
+unfolding range
+length-range start zero = refl
+length-range start (suc size) = ap suc (length-range (suc start) size)
+
+pub range-at : (start size i d : ℕ) → i < size → getD (range start size) i d ≡ start + i
+unfolding range
+range-at start zero i d h = absurd (not-suc-le-zero h)
+range-at start (suc size) zero d h = sym (add-zero start)
+range-at start (suc size) (suc i) d h = range-at (suc start) size i d (le-of-suc-le-suc h) ∙ omega arith
+
+pub range-append : (start a b : ℕ) → range start (a + b) ≡ range start a ++ range (start + a) b
+unfolding range
+range-append start zero b =
+    let e : 0 + b ≡ b = omega arith in
+    let f : start + 0 ≡ start = omega arith in
+    rw (e, f)
+range-append start (suc a) b =
+    let e : suc a + b ≡ suc (a + b) = omega arith in
+    let f : suc start + a ≡ start + suc a = omega arith in
+    rw (e, ← f) (ap (λ (t : List ℕ). start ∷ t) (range-append (suc start) a b))
+
+-- one turn of a loop
+pub range-more : (start size : ℕ) → range start (size + 1) ≡ range start size ++ ((start + size) ∷ [])
+unfolding range
+range-more start size = range-append start size 1
+
+module _ (test : ℕ → Bool) (start size : ℕ) where
+  pub all-more : all test (range start (size + 1)) ≡ (all test (range start size) && test (start + size))
+  unfolding all
+  all-more = rw (range-more start size, all-append test (range start size), and-true)
+
+  pub any-more : any test (range start (size + 1)) ≡ (any test (range start size) || test (start + size))
+  unfolding any
+  any-more = rw (range-more start size, any-append test (range start size), or-false)
+
+  pub count-more : count test (range start (size + 1)) ≡ count test (range start size) + cond (test (start + size)) 1 0
+  unfolding count
+  count-more = rw (range-more start size) (count-append test (range start size) ((start + size) ∷ []))
+
+  pub first-more : (otherwise : ℕ) → first test (range start (size + 1)) otherwise ≡ first test (range start size) (cond (test (start + size)) (start + size) otherwise)
+  unfolding first
+  first-more otherwise = rw (range-more start size) (first-append test (range start size) ((start + size) ∷ []) otherwise)
+
+  index : (j : ℕ) → start ≤ j → j < start + size → getD (range start size) (j - start) 0 ≡ j
+  index j a b = range-at start size (j - start) 0 (omega arith) ∙ omega arith
+
+  pub all-in : all test (range start size) ≡ true → (j : ℕ) → start ≤ j → j < start + size → test j ≡ true
+  all-in e j a b =
+      let l = length-range start size in
+      rw (index j a b) at (all-at test (range start size) (j - start) 0 e (omega arith))
+
+  pub all-is : ((j : ℕ) → start ≤ j → j < start + size → test j ≡ true) → all test (range start size) ≡ true
+  all-is f =
+      all-of test (range start size) 0 (λ i h.
+      let l : i < size = rw length-range at h in
+      rw (range-at start size i 0 l) (f (start + i) (omega arith) (omega arith)))
+
+  pub all-not : (j : ℕ) → start ≤ j → j < start + size → test j ≡ false → all test (range start size) ≡ false
+  all-not j a b e = fails (λ q. never-both (all-in q j a b) e)
+
+  pub none-in : any test (range start size) ≡ false → (j : ℕ) → start ≤ j → j < start + size → test j ≡ false
+  none-in e j a b =
+      let l = length-range start size in
+      rw (index j a b) at (none-at test (range start size) (j - start) 0 e (omega arith))
+
+  pub none-is : ((j : ℕ) → start ≤ j → j < start + size → test j ≡ false) → any test (range start size) ≡ false
+  none-is f =
+      none-of test (range start size) 0 (λ i h.
+      let l : i < size = rw length-range at h in
+      rw (range-at start size i 0 l) (f (start + i) (omega arith) (omega arith)))
+
+  pub any-is : (j : ℕ) → start ≤ j → j < start + size → test j ≡ true → any test (range start size) ≡ true
+  any-is j a b e =
+      ⊎-elim (λ q. q) (λ q. absurd (never-both e (none-in q j a b))) (bool-cases (any test (range start size)))
+
+-- the first number of the range that passes
+pub record First (test : ℕ → Bool) (start size r : ℕ) : Type 0 where
+  pub low : start ≤ r
+  pub high : r < start + size
+  pub passes : test r ≡ true
+  pub before : (j : ℕ) → start ≤ j → j < r → test j ≡ false
+
+-- where one passes, there is a first
+pub first-hit : (test : ℕ → Bool) (start size j otherwise : ℕ) → start ≤ j → j < start + size → test j ≡ true → First test start size (first test (range start size) otherwise)
+unfolding range first
+first-hit test start zero j otherwise a b e = absurd (omega arith)
+first-hit test start (suc size) j otherwise a b e =
+    ⊎-elim
+    (λ (q : test start ≡ true). rw q (record { low = omega arith; high = omega arith; passes = q; before = λ k c d. absurd (omega arith) }))
+    (λ (q : test start ≡ false).
+    let ne : start ≡ j → ⊥ = λ s. never-both e (rw (← s) q) in
+    let f = first-hit test (suc start) size j otherwise (omega arith) (omega arith) e in
+    rw q
+    (record {
+      low = omega arith;
+      high = omega arith;
+      passes = f .passes;
+      before = λ k c d.
+          ⊎-elim
+          (λ (s : eqb start k ≡ true). rw (← eqb-true start k s) q)
+          (λ (s : eqb start k ≡ false).
+          let ne : start ≡ k → ⊥ = eqb-false start k s in
+          f .before k (omega arith) d)
+          (bool-cases (eqb start k));
+    }))
+    (bool-cases (test start))
+
+-- there is but one first
+pub first-is : (test : ℕ → Bool) (start size otherwise r : ℕ) → First test start size r → first test (range start size) otherwise ≡ r
+first-is test start size otherwise r F =
+    let f = first-hit test start size r otherwise (F .low) (F .high) (F .passes) in
+    let r′ : ℕ = first test (range start size) otherwise in
+    let after : r′ < r → ⊥ = λ h. never-both (f .passes) (F .before r′ (f .low) h) in
+    let before : r < r′ → ⊥ = λ h. never-both (F .passes) (f .before r (F .low) h) in
+    omega arith
+
+-- one number of the range passes, and no other
+pub record Only (test : ℕ → Bool) (start size k : ℕ) : Type 0 where
+  pub low : start ≤ k
+  pub high : k < start + size
+  pub passes : test k ≡ true
+  pub others : (j : ℕ) → start ≤ j → j < start + size → test j ≡ true → j ≡ k
+
+-- the count is 1 where one passes and no other does
+pub count-one : (test : ℕ → Bool) (start size otherwise : ℕ) → count test (range start size) ≡ 1 → Only test start size (first test (range start size) otherwise)
+unfolding range count first
+count-one test start zero otherwise e = absurd (omega arith)
+count-one test start (suc size) otherwise e =
+    ⊎-elim
+    (λ (q : test start ≡ true).
+    let z : count test (range (suc start) size) ≡ 0 = omega (arith, rw q at e) in
+    let none = none-counted test (range (suc start) size) z in
+    rw q
+    (record {
+      low = omega arith;
+      high = omega arith;
+      passes = q;
+      others = λ j a b p.
+          let in-rest : start < j → ⊥ = λ h. never-both p (none-in test (suc start) size none j (omega arith) (omega arith)) in
+          omega arith;
+    }))
+    (λ (q : test start ≡ false).
+    let o = count-one test (suc start) size otherwise (rw q at e) in
+    rw q
+    (record {
+      low = omega arith;
+      high = omega arith;
+      passes = o .passes;
+      others = λ j a b p.
+          let ne : start ≡ j → ⊥ = λ s. never-both p (rw (← s) q) in
+          o .others j (omega arith) (omega arith) p;
+    }))
+    (bool-cases (test start))
+
+pub one-counted : (test : ℕ → Bool) (start size k : ℕ) → Only test start size k → count test (range start size) ≡ 1
+unfolding range count
+one-counted test start zero k O = absurd (omega arith)
+one-counted test start (suc size) k O =
+    ⊎-elim
+    (λ (q : test start ≡ true).
+    let at : start ≡ k = O .others start (omega arith) (omega arith) q in
+    let none =
+    none-is test (suc start) size (λ j a b. fails (λ p.
+    let s : j ≡ k = O .others j (omega arith) (omega arith) p in
+    omega arith)) in
+    rw q (ap suc (count-none test (range (suc start) size) none)))
+    (λ (q : test start ≡ false).
+    let ne : start ≡ k → ⊥ = λ s. never-both (O .passes) (rw (← s) q) in
+    rw q
+    (one-counted test (suc start) size k
+    (record {
+      low = omega arith;
+      high = omega arith;
+      passes = O .passes;
+      others = λ j a b p. O .others j (omega arith) (omega arith) p;
+    })))
+    (bool-cases (test start))

@@ -1,0 +1,107 @@
+-- Laws of `all`, `any`, `count` and `first` over any list.
+use mathlib.Core.Path.{_≡_, refl, sym, ap, _∙_}
+use mathlib.Core.Logic.{_⊎_, ⊎-elim}
+use mathlib.Core.Bool.{Bool, true, false, cond, _&&_, _||_, and-assoc, or-assoc}
+use mathlib.Core.List.{List, [], _∷_, _++_}
+use Prim.Native.Nat.{ℕ, zero, suc, _+_, _≤_, _<_}
+use native.Mathlib.Nat.{not-suc-le-zero, le-of-suc-le-suc}
+use native.Mathlib.Omega.{arith}
+use lib.ListN.{length, getD}
+use Rattle.flash.specs.Lists.{all, any, count, first}
+use Rattle.flash.proofs.Bools.{bool-cases, never-both, and-left, and-right, or-false-left, or-false-right, or-cases, fails}
+
+module _ {A : Type 0} (test : A → Bool) where
+  pub all-append : (xs ys : List A) → all test (xs ++ ys) ≡ (all test xs && all test ys)
+  unfolding all
+  all-append [] ys = refl
+  all-append (x ∷ xs) ys = ap (λ (t : Bool). test x && t) (all-append xs ys) ∙ sym (and-assoc (test x) (all test xs) (all test ys))
+
+  pub any-append : (xs ys : List A) → any test (xs ++ ys) ≡ (any test xs || any test ys)
+  unfolding any
+  any-append [] ys = refl
+  any-append (x ∷ xs) ys = ap (λ (t : Bool). test x || t) (any-append xs ys) ∙ sym (or-assoc (test x) (any test xs) (any test ys))
+
+  pub count-append : (xs ys : List A) → count test (xs ++ ys) ≡ count test xs + count test ys
+  unfolding count
+  count-append [] ys = omega arith
+  count-append (x ∷ xs) ys =
+      ⊎-elim
+      (λ (e : test x ≡ true). rw e (omega (arith, count-append xs ys)))
+      (λ (e : test x ≡ false). rw e (count-append xs ys))
+      (bool-cases (test x))
+
+  pub first-append : (xs ys : List A) (otherwise : A) → first test (xs ++ ys) otherwise ≡ first test xs (first test ys otherwise)
+  unfolding first
+  first-append [] ys otherwise = refl
+  first-append (x ∷ xs) ys otherwise = ap (λ (r : A). cond (test x) x r) (first-append xs ys otherwise)
+
+  -- all hold where each does
+  pub all-at : (xs : List A) (i : ℕ) (d : A) → all test xs ≡ true → i < length xs → test (getD xs i d) ≡ true
+  unfolding all
+  all-at [] i d e h = absurd (not-suc-le-zero h)
+  all-at (x ∷ xs) zero d e h = and-left (test x) (all test xs) e
+  all-at (x ∷ xs) (suc i) d e h = all-at xs i d (and-right (test x) (all test xs) e) (le-of-suc-le-suc h)
+
+  pub all-of : (xs : List A) (d : A) → ((i : ℕ) → i < length xs → test (getD xs i d) ≡ true) → all test xs ≡ true
+  unfolding all
+  all-of [] d f = refl
+  all-of (x ∷ xs) d f = rw (f 0 (omega arith)) (all-of xs d (λ i h. f (suc i) (omega arith)))
+
+  pub all-fails : (xs : List A) (i : ℕ) (d : A) → i < length xs → test (getD xs i d) ≡ false → all test xs ≡ false
+  all-fails xs i d h e = fails (λ a. never-both (all-at xs i d a h) e)
+
+  -- none holds where each fails
+  pub none-at : (xs : List A) (i : ℕ) (d : A) → any test xs ≡ false → i < length xs → test (getD xs i d) ≡ false
+  unfolding any
+  none-at [] i d e h = absurd (not-suc-le-zero h)
+  none-at (x ∷ xs) zero d e h = or-false-left (test x) (any test xs) e
+  none-at (x ∷ xs) (suc i) d e h = none-at xs i d (or-false-right (test x) (any test xs) e) (le-of-suc-le-suc h)
+
+  pub none-of : (xs : List A) (d : A) → ((i : ℕ) → i < length xs → test (getD xs i d) ≡ false) → any test xs ≡ false
+  unfolding any
+  none-of [] d f = refl
+  none-of (x ∷ xs) d f = rw (f 0 (omega arith)) (none-of xs d (λ i h. f (suc i) (omega arith)))
+
+  pub any-of : (xs : List A) (i : ℕ) (d : A) → i < length xs → test (getD xs i d) ≡ true → any test xs ≡ true
+  any-of xs i d h e = ⊎-elim (λ q. q) (λ q. absurd (never-both e (none-at xs i d q h))) (bool-cases (any test xs))
+
+  pub count-le : (xs : List A) → count test xs ≤ length xs
+  unfolding count
+  count-le [] = omega arith
+  count-le (x ∷ xs) =
+      ⊎-elim
+      (λ (e : test x ≡ true). rw e (omega (arith, count-le xs)))
+      (λ (e : test x ≡ false). rw e (omega (arith, count-le xs)))
+      (bool-cases (test x))
+
+  pub count-none : (xs : List A) → any test xs ≡ false → count test xs ≡ 0
+  unfolding any count
+  count-none [] e = refl
+  count-none (x ∷ xs) e =
+      rw (or-false-left (test x) (any test xs) e) (count-none xs (or-false-right (test x) (any test xs) e))
+
+  pub none-counted : (xs : List A) → count test xs ≡ 0 → any test xs ≡ false
+  unfolding any count
+  none-counted [] e = refl
+  none-counted (x ∷ xs) e =
+      ⊎-elim
+      (λ (q : test x ≡ true). absurd (omega (arith, rw q at e)))
+      (λ (q : test x ≡ false). rw q (none-counted xs (rw q at e)))
+      (bool-cases (test x))
+
+  -- where none passes, the first that does is `otherwise`
+  pub first-none : (xs : List A) (otherwise : A) → any test xs ≡ false → first test xs otherwise ≡ otherwise
+  unfolding any first
+  first-none [] otherwise e = refl
+  first-none (x ∷ xs) otherwise e =
+      rw (or-false-left (test x) (any test xs) e) (first-none xs otherwise (or-false-right (test x) (any test xs) e))
+
+  -- where some passes, so does the first
+  pub first-passes : (xs : List A) (otherwise : A) → any test xs ≡ true → test (first test xs otherwise) ≡ true
+  unfolding any first
+  first-passes [] otherwise e = absurd (never-both e refl)
+  first-passes (x ∷ xs) otherwise e =
+      ⊎-elim
+      (λ (q : test x ≡ true). rw q q)
+      (λ (q : test x ≡ false). rw q (first-passes xs otherwise (rw q at e)))
+      (bool-cases (test x))

@@ -1,0 +1,89 @@
+-- Laws of the page sum. `⊕` fills the shorter page up with zeros, so most of them ask nothing of lengths.
+use mathlib.Core.Path.{_≡_, refl, sym, ap, ap₂, _∙_}
+use mathlib.Core.List.{List, [], _∷_, _++_}
+use Prim.Native.Nat.{ℕ, zero, suc, _≤_, _<_, max}
+use native.Mathlib.Nat.{not-suc-le-zero, le-of-suc-le-suc}
+use native.Mathlib.Omega.{arith}
+use lib.ListN.{length, getD}
+use lib.Bits.{bitXor, xor-comm, xor-zero-r}
+use Rattle.flash.specs.PageSum.{_⊕_, sum}
+use Rattle.flash.proofs.Xor.{xor-assoc, xor-cancel}
+
+pub nil-⊕ : (a : List ℕ) → [] ⊕ a ≡ a
+unfolding _⊕_
+nil-⊕ a = refl
+
+pub ⊕-nil : (a : List ℕ) → a ⊕ [] ≡ a
+unfolding _⊕_
+⊕-nil [] = refl
+⊕-nil (x ∷ xs) = refl
+
+pub ⊕-comm : (a b : List ℕ) → a ⊕ b ≡ b ⊕ a
+unfolding _⊕_
+⊕-comm [] b = sym (⊕-nil b)
+⊕-comm (x ∷ xs) [] = refl
+⊕-comm (x ∷ xs) (y ∷ ys) = ap₂ (λ (h : ℕ) (t : List ℕ). h ∷ t) (xor-comm x y) (⊕-comm xs ys)
+
+pub ⊕-assoc : (a b c : List ℕ) → a ⊕ b ⊕ c ≡ a ⊕ (b ⊕ c)
+unfolding _⊕_
+⊕-assoc [] b c = refl
+⊕-assoc (x ∷ xs) [] c = refl
+⊕-assoc (x ∷ xs) (y ∷ ys) [] = refl
+⊕-assoc (x ∷ xs) (y ∷ ys) (z ∷ zs) = ap₂ (λ (h : ℕ) (t : List ℕ). h ∷ t) (xor-assoc x y z) (⊕-assoc xs ys zs)
+
+-- a page added twice cancels
+pub ⊕-cancel : (a b : List ℕ) → length b ≤ length a → a ⊕ b ⊕ b ≡ a
+unfolding _⊕_
+⊕-cancel [] [] h = refl
+⊕-cancel [] (y ∷ ys) h = absurd (not-suc-le-zero h)
+⊕-cancel (x ∷ xs) [] h = refl
+⊕-cancel (x ∷ xs) (y ∷ ys) h =
+    ap₂ (λ (h : ℕ) (t : List ℕ). h ∷ t) (xor-cancel x y) (⊕-cancel xs ys (le-of-suc-le-suc h))
+
+pub length-⊕ : (a b : List ℕ) → length (a ⊕ b) ≡ max (length a) (length b)
+unfolding _⊕_
+length-⊕ [] b = omega arith
+length-⊕ (x ∷ xs) [] = omega arith
+length-⊕ (x ∷ xs) (y ∷ ys) = omega (arith, length-⊕ xs ys)
+
+pub ⊕-at : (a b : List ℕ) (i : ℕ) → getD (a ⊕ b) i 0 ≡ bitXor (getD a i 0) (getD b i 0)
+unfolding _⊕_
+⊕-at [] b i = refl
+⊕-at (x ∷ xs) [] i = sym (xor-zero-r (getD (x ∷ xs) i 0))
+⊕-at (x ∷ xs) (y ∷ ys) zero = refl
+⊕-at (x ∷ xs) (y ∷ ys) (suc i) = ⊕-at xs ys i
+
+module _ (page : ℕ → List ℕ) where
+  pub sum-append : (xs ys : List ℕ) → sum page (xs ++ ys) ≡ sum page xs ⊕ sum page ys
+  unfolding sum
+  sum-append [] ys = sym (nil-⊕ (sum page ys))
+  sum-append (t ∷ ts) ys =
+      ap (λ (s : List ℕ). page t ⊕ s) (sum-append ts ys) ∙ sym (⊕-assoc (page t) (sum page ts) (sum page ys))
+
+  pub sum-one : (t : ℕ) → sum page (t ∷ []) ≡ page t
+  unfolding sum
+  sum-one t = ⊕-nil (page t)
+
+  -- pages added one after another from the left: one page more
+  pub sum-more : (ts : List ℕ) (t : ℕ) → sum page (ts ++ (t ∷ [])) ≡ sum page ts ⊕ page t
+  sum-more ts t = sum-append ts (t ∷ []) ∙ ap (λ (s : List ℕ). sum page ts ⊕ s) (sum-one t)
+
+  -- the same with the pages that are left
+  pub sum-next : (work : List ℕ) (t : ℕ) (ts : List ℕ) → work ⊕ sum page (t ∷ ts) ≡ work ⊕ page t ⊕ sum page ts
+  unfolding sum
+  sum-next work t ts = sym (⊕-assoc work (page t) (sum page ts))
+
+-- sums of the same pages are equal
+pub sum-same : (page other : ℕ → List ℕ) (ts : List ℕ) → ((i : ℕ) → i < length ts → page (getD ts i 0) ≡ other (getD ts i 0)) → sum page ts ≡ sum other ts
+unfolding sum
+sum-same page other [] f = refl
+sum-same page other (t ∷ ts) f = ap₂ (λ (p s : List ℕ). p ⊕ s) (f 0 (omega arith)) (sum-same page other ts (λ i h. f (suc i) (omega arith)))
+
+-- the length of a sum of pages of one size, of which there is at least one
+pub length-sum : (page : ℕ → List ℕ) (size : ℕ) (ts : List ℕ) → ((i : ℕ) → i < length ts → length (page (getD ts i 0)) ≡ size) → 0 < length ts → length (sum page ts) ≡ size
+unfolding sum
+length-sum page size [] f h = absurd (not-suc-le-zero h)
+length-sum page size (t ∷ []) f h = ap length (⊕-nil (page t)) ∙ f 0 (omega arith)
+length-sum page size (t ∷ u ∷ ts) f h =
+    length-⊕ (page t) (sum page (u ∷ ts))
+    ∙ omega (arith, f 0 (omega arith), length-sum page size (u ∷ ts) (λ i l. f (suc i) (omega arith)) (omega arith))
