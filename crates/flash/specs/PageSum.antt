@@ -4,7 +4,6 @@ use Prim.Native.Nat.{ℕ}
 use lib.Bits.{bitXor}
 
 infixl 40 _⊕_
-
 -- Of two pages of one length. A shorter list counts as filled up with zeros, so that the empty list is the sum of no pages.
 unfoldable pub _⊕_ : List ℕ → List ℕ → List ℕ
 _⊕_ [] ys = ys

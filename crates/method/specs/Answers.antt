@@ -128,7 +128,7 @@ pub record MendAnswer : Type 0 where
 
 unfoldable pub mended : Sizes → Chip → Reading → MendAnswer
 mended Z chip found = elim (found .toErase) [
-  none ↦ record { number = 0; place = found .place; erases = 0; chip = chip }
+  | none ↦ record { number = 0; place = found .place; erases = 0; chip = chip }
   | some b ↦ record { number = 0; place = found .place; erases = 1; chip = eraseBlock (Z .m) (Z .P) b chip }
 ]
 
@@ -148,5 +148,5 @@ unfoldable pub readAnswer : Move → Chip → (work : List ℕ) → (k : ℕ) �
 readAnswer M chip work k =
     let number = refusal (readRows M chip work k) in
     cond (eqb number 0)
-      (record { number = 0; count = length (readSlots M (chip .marks) k); work = readPage M chip k })
-      (record { number = number; count = 0; work = work })
+    (record { number = 0; count = length (readSlots M (chip .marks) k); work = readPage M chip k })
+    (record { number = number; count = 0; work = work })

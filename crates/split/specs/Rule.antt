@@ -62,8 +62,8 @@ module _ (m : ℕ) (list : List ℕ) where
         let b = lowestUnused destination (blockAt destination k) in
         -- "If a is unused at the destination block, k gets a. Otherwise .. Exchange a and b on the pages met; k gets a."
         cond (isUsed destination (blockAt destination k) a)
-          (exchange a b (pagesMet k destination (blockAt destination k) a b) ++ (a ∷ []))
-          (given ++ (a ∷ []))
+        (exchange a b (pagesMet k destination (blockAt destination k) a b) ++ (a ∷ []))
+        (given ++ (a ∷ []))
 
   -- the sets of the first `count` pages
   unfoldable pub setsGiven : (count : ℕ) → List ℕ

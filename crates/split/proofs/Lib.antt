@@ -1,0 +1,4 @@
+pub mod Lists
+pub mod Pigeon
+pub mod OneToOneLaws
+pub mod SplitLaws
