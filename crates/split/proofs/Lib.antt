@@ -2,3 +2,4 @@ pub mod Lists
 pub mod Pigeon
 pub mod OneToOneLaws
 pub mod SplitLaws
+pub mod Walk
