@@ -3,3 +3,4 @@ pub mod Pigeon
 pub mod OneToOneLaws
 pub mod SplitLaws
 pub mod Walk
+pub mod Exchange

@@ -114,7 +114,7 @@ module _ (m : ℕ) (list given : List ℕ) (C : Coloured m list given) (a b : �
   metAs-same destination source q = absurd (differ q)
   metAs-same destination destination q = refl
 
-  metAs-two : (set : ℕ) (e : End) → (set ≡ a) ⊎ (set ≡ b) → (set ≡ metAs e) ⊎ (set ≡ metAs (otherEnd e))
+  pub metAs-two : (set : ℕ) (e : End) → (set ≡ a) ⊎ (set ≡ b) → (set ≡ metAs e) ⊎ (set ≡ metAs (otherEnd e))
   unfolding metAs otherEnd
   metAs-two set source (inl q) = inr q
   metAs-two set source (inr q) = inl q
@@ -254,7 +254,7 @@ module _ (m : ℕ) (list given : List ℕ) (C : Coloured m list given) (a b : �
   path-inside bound (suc i) h = path-chain bound i h .1 .to .inside
 
   -- nothing leads to the first page
-  first-page : (bound : ℕ) (end : End) (x : ℕ) → x < length given → 0 < length (path bound) → Leads m list given C a b differ end x (getD (path bound) 0 0) → ⊥
+  pub first-page : (bound : ℕ) (end : End) (x : ℕ) → x < length given → 0 < length (path bound) → Leads m list given C a b differ end x (getD (path bound) 0 0) → ⊥
   unfolding metAs otherEnd
   first-page bound source x l h q = differ (sym (path-head bound h .in-set) ∙ q .to .in-set)
   first-page bound destination x l h q = unused x (record { inside = l; in-set = q .was; at-block = sym (q .to .at-block) ∙ path-head bound h .at-block })
@@ -296,12 +296,22 @@ module _ (m : ℕ) (list given : List ℕ) (C : Coloured m list given) (a b : �
       sym (walk-take m list given (length given) more destination block a b
       ∙ take-all (length given) (path (length given + more)) (path-short (length given + more)))
 
+  enough : path (suc (length given)) ≡ path (length given)
+  enough = ap path (sym (add-one (length given))) ∙ path-bound 1
+
+  not-stopped : length (path (suc (length given))) < suc (length given)
+  not-stopped = let s = path-short (suc (length given)) in omega arith
+
   pub path-closed : Closed m list given C a b differ (path (length given))
   unfolding metAs otherEnd
-  path-closed =
-      let e : length given + 1 ≡ suc (length given) = add-one (length given) in
-      subst (Closed m list given C a b differ) (ap path (sym e) ∙ path-bound 1)
-      (walk-closed m list given C a b differ (suc (length given)) destination block (let s = path-short (suc (length given)) in omega arith))
+  path-closed = subst (Closed m list given C a b differ) enough (walk-closed m list given C a b differ (suc (length given)) destination block not-stopped)
+
+  -- the walk starts with the page of set a
+  pub path-first : (z : ℕ) → PageAt m list given destination block a z → (0 < length (path (length given))) × (getD (path (length given)) 0 0 ≡ z)
+  unfolding metAs otherEnd
+  path-first z p =
+      subst (λ (xs : List ℕ). (0 < length xs) × (getD xs 0 0 ≡ z)) enough
+      (head-is m list given C a b differ (suc (length given)) destination block z not-stopped p)
 
   -- every other page has set a
   path-even : (bound i : ℕ) → 2 * i < length (path bound) → setOf given (getD (path bound) (2 * i) 0) ≡ a
