@@ -1,0 +1,6 @@
+pub mod Lists
+pub mod Pigeon
+pub mod OneToOneLaws
+pub mod SplitLaws
+pub mod Walk
+pub mod Exchange
