@@ -1,4 +1,5 @@
 pub mod Open
+pub mod Shape
 pub mod Cases
 pub mod MendLines
 pub mod Refusals
