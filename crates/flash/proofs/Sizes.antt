@@ -3,7 +3,7 @@ use mathlib.Core.Bool.{Bool, true, _&&_}
 use mathlib.Core.Path.{_≡_}
 use Prim.Native.Nat.{ℕ, _≤_, _<_}
 use lib.Dec.{leb, ltb}
-use borrow.Author.Tests.{leb-true, ltb-true}
+use borrow.Author.Tests.{leb-true, ltb-true, le-leb, lt-ltb}
 use Rattle.flash.specs.Geometry.{Sizes, isLetter, inRange}
 use Rattle.flash.proofs.Bools.{both}
 
@@ -34,3 +34,15 @@ in-range Z e =
       P-high = leb-true (Z .P) 4096 (p .1);
       s-high = ltb-true (Z .s) 3 (s .1);
     }
+
+pub range-in : (Z : Sizes) → InRange Z → inRange Z ≡ true
+unfolding inRange isLetter
+range-in Z r = rw (
+  le-leb 1 (Z .n) (r .n-low),
+  le-leb (Z .n) 64 (r .n-high),
+  le-leb 1 (Z .m) (r .m-low),
+  le-leb (Z .m) 64 (r .m-high),
+  le-leb 1 (Z .P) (r .P-low),
+  le-leb (Z .P) 4096 (r .P-high),
+  lt-ltb (Z .s) 3 (r .s-high),
+)

@@ -1,5 +1,6 @@
 pub mod Open
 pub mod Shape
+pub mod Accepting
 pub mod Cases
 pub mod MendLines
 pub mod Refusals
