@@ -9,3 +9,5 @@ pub mod Xor
 pub mod Sums
 pub mod Blocks
 pub mod Chips
+pub mod Loops
+pub mod Bounds
