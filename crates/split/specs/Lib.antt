@@ -2,3 +2,4 @@ pub mod OneToOne
 pub mod Split
 pub mod Rule
 pub mod Answer
+pub mod Claims
