@@ -6,3 +6,4 @@ pub mod Walk
 pub mod Exchange
 pub mod RuleLaws
 pub mod Claimed
+pub mod MaskLaws

@@ -3,3 +3,4 @@ pub mod Split
 pub mod Rule
 pub mod Answer
 pub mod Claims
+pub mod Mask

@@ -1,4 +1,6 @@
 // A list of destinations and its split into sets. The definitions are in specs/.
+pub mod mask;
+
 ghost use Rattle.split.specs.Claims.{SplitEnds, WalkEnds, WalkIsShort, FilledFits, RowsAscend};
 
 // The theorems about the definitions, as the contract of a function that does nothing: the check demands their proofs.
