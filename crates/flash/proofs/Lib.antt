@@ -1,6 +1,5 @@
 pub mod Bools
 pub mod Tables
-pub mod Sizes
 pub mod Searches
 pub mod Ranges
 pub mod Same

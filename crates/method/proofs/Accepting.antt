@@ -14,7 +14,7 @@ use Rattle.flash.specs.Geometry.{Sizes, inRange, slotCount, storeLength, marksL
 use Rattle.flash.specs.Chip.{Chip, erased, markAt, isBlank}
 use Rattle.flash.proofs.Bools.{bool-cases, or-false-left, or-false-right}
 use Rattle.flash.proofs.Tables.{refusal-zero, refusal-skip, refusal-nil}
-use Rattle.flash.proofs.Sizes.{in-range, range-in}
+use Rattle.flash.proofs.Bounds.{in-range, range-in}
 use Rattle.flash.proofs.Ranges.{none-in, none-is}
 use Rattle.flash.proofs.Same.{same-eq, eq-same}
 use Rattle.split.specs.OneToOne.{isOneToOne}
