@@ -1,5 +1,9 @@
 pub mod Open
 pub mod Shape
+pub mod Slots
+pub mod Orbit
+pub mod Cycles
+pub mod Tops
 pub mod Cases
 pub mod MendLines
 pub mod Refusals
