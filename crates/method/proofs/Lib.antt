@@ -2,6 +2,10 @@ pub mod Open
 pub mod Indexes
 pub mod Shape
 pub mod Accepting
+pub mod Slots
+pub mod Orbit
+pub mod Cycles
+pub mod Tops
 pub mod Cases
 pub mod MendLines
 pub mod Refusals
