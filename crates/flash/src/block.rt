@@ -31,9 +31,9 @@ pub fn is_full(marks: &[u8], m: usize, block: usize, letter: u8) -> bool
     requires { ⌜ block * m + m ≤ length (now marks) ⌝ }
     ensures { λ r. ⌜ r ≡ isFull m (now (marks .entry)) block letter ⌝ }
 {
-    let first = block * m;
-    let past = first + m;
-    is_filled(&marks[first..past], letter)
+    let start = block * m;
+    let end = start + m;
+    is_filled(&marks[start..end], letter)
 }
 
 // The letter that the block is full of, or NO_LETTER. No other letter than its first mark can fill it.

@@ -16,9 +16,9 @@ pub fn read_page(store: &[u8], p: usize, slot: usize, work: &mut [u8], add: bool
     requires { ⌜ length (now work) ≡ p ⌝ }
     ensures { λ _. ⌜ now (work .exit) ≡ putOrAdd add (now (work .entry)) (part p slot (now (store .entry))) ⌝ }
 {
-    let start = slot * p;
-    let end = start + p;
-    put_or_add(work, &store[start..end], add);
+    let from = slot * p;
+    let end = from + p;
+    put_or_add(work, &store[from..end], add);
 }
 
 // The work page goes into the slot, with its mark.
@@ -28,9 +28,9 @@ pub fn write_page(store: &mut [u8], marks: &mut [u8], p: usize, slot: usize, wor
     requires { ⌜ length (now work) ≡ p ⌝ }
     ensures { λ _. ⌜ Holds (writePage p slot (now (work .entry)) mark (record { store = now (store .entry); marks = now (marks .entry) })) (now (store .exit)) (now (marks .exit)) ⌝ }
 {
-    let start = slot * p;
-    let end = start + p;
-    put_or_add(&mut store[start..end], work, false);
+    let to = slot * p;
+    let end = to + p;
+    put_or_add(&mut store[to..end], work, false);
     marks[slot] = mark;
 }
 

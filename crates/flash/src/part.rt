@@ -17,15 +17,15 @@ pub fn fill(part: &mut [u8], value: u8)
     }
 }
 
-// Whether every byte of the part is `value`. Bits that differ are gathered and judged once, so that the loop has no branch
+// Whether each of the bytes is `value`. Bits that differ are gathered and judged once, so that the loop has no branch
 // and is compiled to vector instructions.
-pub fn is_filled(part: &[u8], value: u8) -> bool
-    ensures { λ r. ⌜ r ≡ all (λ byte. eqb byte value) (now (part .entry)) ⌝ }
+pub fn is_filled(bytes: &[u8], value: u8) -> bool
+    ensures { λ r. ⌜ r ≡ all (λ byte. eqb byte value) (now (bytes .entry)) ⌝ }
 {
     let mut different: u8 = 0;
     let mut i = 0;
-    while i < part.len() {
-        different = different | (part[i] ^ value);
+    while i < bytes.len() {
+        different = different | (bytes[i] ^ value);
         i += 1;
     }
     different == 0

@@ -1,4 +1,3 @@
-use borrow.Author.Needs.{needs}
 use mathlib.Core.Path.{_≡_, sym, _∙_}
 use mathlib.Core.Bool.{true, false}
 use Prim.Native.Nat.{_*_}
@@ -10,13 +9,13 @@ use Rattle.flash.proofs.block.block_letter.Statement.{statement}
 use Rattle.flash.proofs.block.block_letter.Tie as tie
 
 mul-letter : tie.Need-mul-letter
-mul-letter c = search needs
+mul-letter c = omega arith
 
 shared-slice-read-letter : tie.Need-shared-slice-read-letter
-shared-slice-read-letter c = search needs
+shared-slice-read-letter c = omega arith
 
 is-full-requires : tie.Need-is-full-requires
-is-full-requires c κs = search needs
+is-full-requires c κs = omega arith
 
 returns : tie.Need-returns
 returns c =

@@ -1,4 +1,3 @@
-use borrow.Author.Needs.{needs}
 use native.Mathlib.Omega.{arith}
 use Prim.Native.Nat.{_*_}
 use Rattle.flash.specs.Chip.{erased, eraseBlock}
@@ -7,49 +6,49 @@ use Rattle.flash.proofs.block.erase_block.Statement.{statement}
 use Rattle.flash.proofs.block.erase_block.Tie as tie
 
 mul-size : tie.Need-mul-size
-mul-size c = search needs
+mul-size c = omega arith
 
 mul-start : tie.Need-mul-start
-mul-start c = search needs
+mul-start c = omega arith
 
 add-end : tie.Need-add-end
-add-end c = search needs
+add-end c = omega arith
 
 sub-fill : tie.Need-sub-fill
-sub-fill c = search needs
+sub-fill c = omega arith
 
 part-fill-start : tie.Need-part-fill-start
-part-fill-start c = search needs
+part-fill-start c = omega arith
 
 part-fill-end : tie.Need-part-fill-end
-part-fill-end c = search needs
+part-fill-end c = omega arith
 
 fill-requires : tie.Need-fill-requires
-fill-requires c κs = search needs
+fill-requires c κs = omega arith
 
 mul-first : tie.Need-mul-first
-mul-first c = search needs
+mul-first c = omega arith
 
 add-past : tie.Need-add-past
-add-past c = search needs
+add-past c = omega arith
 
 sub-fill-2 : tie.Need-sub-fill-2
-sub-fill-2 c = search needs
+sub-fill-2 c = omega arith
 
 part-fill-start-2 : tie.Need-part-fill-start-2
-part-fill-start-2 c = search needs
+part-fill-start-2 c = omega arith
 
 part-fill-end-2 : tie.Need-part-fill-end-2
-part-fill-end-2 c = search needs
+part-fill-end-2 c = omega arith
 
 fill-requires-2 : tie.Need-fill-requires-2
-fill-requires-2 c κs = search needs
+fill-requires-2 c κs = omega arith
 
 same-length : tie.Need-same-length
-same-length c = search needs
+same-length c = omega arith
 
 same-length-2 : tie.Need-same-length-2
-same-length-2 c = search needs
+same-length-2 c = omega arith
 
 returns : tie.Need-returns
 unfolding eraseBlock

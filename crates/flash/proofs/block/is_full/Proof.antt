@@ -1,31 +1,31 @@
-use borrow.Author.Needs.{needs}
 use mathlib.Core.Path.{sym, ap, _∙_}
 use mathlib.Core.List.{List}
 use Prim.Native.Nat.{ℕ}
 use lib.Dec.{eqb}
+use native.Mathlib.Omega.{arith}
 use Rattle.flash.specs.Lists.{all}
 use Rattle.flash.proofs.Parts.{lent-part}
 use Rattle.flash.proofs.Blocks.{full-part}
 use Rattle.flash.proofs.block.is_full.Statement.{statement}
 use Rattle.flash.proofs.block.is_full.Tie as tie
 
-mul-first : tie.Need-mul-first
-mul-first c = search needs
+mul-start : tie.Need-mul-start
+mul-start c = omega arith
 
-add-past : tie.Need-add-past
-add-past c = search needs
+add-end : tie.Need-add-end
+add-end c = omega arith
 
 sub-is-filled : tie.Need-sub-is-filled
-sub-is-filled c = search needs
+sub-is-filled c = omega arith
 
 part-is-filled-start : tie.Need-part-is-filled-start
-part-is-filled-start c = search needs
+part-is-filled-start c = omega arith
 
 part-is-filled-end : tie.Need-part-is-filled-end
-part-is-filled-end c = search needs
+part-is-filled-end c = omega arith
 
 is-filled-requires : tie.Need-is-filled-requires
-is-filled-requires c κs = search needs
+is-filled-requires c κs = omega arith
 
 returns : tie.Need-returns
 returns c =
@@ -38,8 +38,8 @@ pub is-full-spec : {M : Type 1} → statement M
 is-full-spec =
     tie.close
     (tie.spec
-    mul-first
-    add-past
+    mul-start
+    add-end
     sub-is-filled
     part-is-filled-start
     part-is-filled-end

@@ -1,4 +1,3 @@
-use borrow.Author.Needs.{needs}
 use mathlib.Core.Path.{_≡_, sym, ap, _∙_}
 use mathlib.Core.Logic.{_≢_}
 use mathlib.Core.List.{List}
@@ -14,25 +13,25 @@ use Rattle.flash.proofs.page.is_blank.Statement.{statement}
 use Rattle.flash.proofs.page.is_blank.Tie as tie
 
 mul-start : tie.Need-mul-start
-mul-start c = search needs
+mul-start c = omega arith
 
 add-end : tie.Need-add-end
-add-end c = search needs
+add-end c = omega arith
 
 shared-slice-read-if1 : tie.Need-shared-slice-read-if1
-shared-slice-read-if1 c = search needs
+shared-slice-read-if1 c = omega arith
 
 sub-is-filled : tie.Need-sub-is-filled
-sub-is-filled c = search needs
+sub-is-filled c = omega arith
 
 part-is-filled-start : tie.Need-part-is-filled-start
-part-is-filled-start c = search needs
+part-is-filled-start c = omega arith
 
 part-is-filled-end : tie.Need-part-is-filled-end
-part-is-filled-end c = search needs
+part-is-filled-end c = omega arith
 
 is-filled-requires : tie.Need-is-filled-requires
-is-filled-requires c κs = search needs
+is-filled-requires c κs = omega arith
 
 returns : tie.Need-returns
 returns c =

@@ -1,5 +1,6 @@
-use borrow.Author.Needs.{needs}
 use mathlib.Core.Path.{refl, ap, _∙_}
+use native.Mathlib.Omega.{arith}
+use lib.ListN.{length-set}
 use Rattle.flash.specs.Lists.{setPart}
 use Rattle.flash.specs.PageSum.{putOrAdd}
 use Rattle.flash.specs.Chip.{writePage}
@@ -7,32 +8,32 @@ use Rattle.flash.proofs.Parts.{lent-back}
 use Rattle.flash.proofs.page.write_page.Statement.{statement}
 use Rattle.flash.proofs.page.write_page.Tie as tie
 
-mul-start : tie.Need-mul-start
-mul-start c = search needs
+mul-to : tie.Need-mul-to
+mul-to c = omega arith
 
 add-end : tie.Need-add-end
-add-end c = search needs
+add-end c = omega arith
 
 sub-put-or-add : tie.Need-sub-put-or-add
-sub-put-or-add c = search needs
+sub-put-or-add c = omega arith
 
 part-put-or-add-start : tie.Need-part-put-or-add-start
-part-put-or-add-start c = search needs
+part-put-or-add-start c = omega arith
 
 part-put-or-add-end : tie.Need-part-put-or-add-end
-part-put-or-add-end c = search needs
+part-put-or-add-end c = omega arith
 
 put-or-add-requires : tie.Need-put-or-add-requires
-put-or-add-requires c κs = search needs
+put-or-add-requires c κs = omega arith
 
 slice-write-marks : tie.Need-slice-write-marks
-slice-write-marks c = search needs
+slice-write-marks c = omega arith
 
 same-length : tie.Need-same-length
-same-length c = search needs
+same-length c = omega arith
 
 same-length-2 : tie.Need-same-length-2
-same-length-2 c = search needs
+same-length-2 c = simp length-set
 
 returns : tie.Need-returns
 unfolding writePage putOrAdd
@@ -48,7 +49,7 @@ pub write-page-spec : {M : Type 1} → statement M
 write-page-spec =
     tie.close
     (tie.spec
-    mul-start
+    mul-to
     add-end
     sub-put-or-add
     part-put-or-add-start

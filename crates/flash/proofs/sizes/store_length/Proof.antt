@@ -1,4 +1,3 @@
-use borrow.Author.Needs.{needs}
 use mathlib.Core.Path.{ap}
 use Prim.Native.Nat.{ℕ, _+_, _*_, _≤_}
 use native.Mathlib.Omega.{arith}
@@ -7,7 +6,7 @@ use Rattle.flash.proofs.sizes.store_length.Statement.{statement}
 use Rattle.flash.proofs.sizes.store_length.Tie as tie
 
 slot-count-requires : tie.Need-slot-count-requires
-slot-count-requires c κs = search needs
+slot-count-requires c κs = omega arith
 
 mul-result : tie.Need-mul-result
 mul-result c =
