@@ -11,3 +11,4 @@ pub mod MendLines
 pub mod Refusals
 pub mod Steps
 pub mod Places
+pub mod Runs
