@@ -6,3 +6,4 @@ pub mod MendLines
 pub mod Refusals
 pub mod Steps
 pub mod Places
+pub mod Held
