@@ -20,6 +20,19 @@ use Rattle.method.specs.Place.{Pass, forward, backward, write, erase, ma
 use Rattle.method.proofs.Indexes.{Order, less, same, more, order, slot-div, slot-mod, slot-lt, map-range-at}
 use Rattle.method.proofs.Places.{nextBlock, Stands, Turned, page-cases, filling-in, after-write, after-erase, operation-writes, operation-erases}
 
+-- How many blocks are full of code when block b has been filled. The block erased next lies at the edge.
+abbrev pub edge : Pass → (b : ℕ) → ℕ
+edge forward b = suc b
+edge backward b = b
+
+next-below : (pass : Pass) (b c : ℕ) → c < nextBlock pass b → c < edge pass b
+next-below forward b c h = h
+next-below backward b c h = omega arith
+
+next-above : (pass : Pass) (b c : ℕ) → nextBlock pass b < c → edge pass b ≤ c
+next-above forward b c h = omega arith
+next-above backward b c h = omega arith
+
 module _ (Z : Sizes) where
   open Sizes Z using (n, m)
 
@@ -68,31 +81,33 @@ module _ (Z : Sizes) where
       stays c p apart (same e) (same f) = absurd (apart e f)
       stays c p apart (same e) (more l) = held-blank (suc place) c p (omega (arith, S .block-is)) (omega (arith, S .pages-is)) ∙ sym (held-blank place c p e (omega arith))
 
-  -- before an erase: coded below the block to be erased, and what the pass leaves above it
+  -- Before an erase every block is full: of code below an edge, and from there on of what lies above in this pass.
   module _ (place : ℕ) (k : filled Z place ≡ m) (c p : ℕ) (inside : p < m) where
-    full-low : (pass : Pass) → passAt Z place ≡ pass → c < nextBlock pass (filling Z place) → heldAt Z place c p ≡ code
+    full-below : (pass : Pass) → passAt Z place ≡ pass → c < edge pass (filling Z place) → heldAt Z place c p ≡ code
     unfolding written
-    full-low forward e l = ⊎-elim
+    full-below forward e l =
+        ⊎-elim
         (λ (f : ltb c (filling Z place) ≡ true). held-below place c p (ltb-true c (filling Z place) f))
         (λ (f : ltb c (filling Z place) ≡ false).
         held-written place c p (omega (arith, ltb-false c (filling Z place) f)) (omega arith) ∙ ap written e)
         (bool-cases (ltb c (filling Z place)))
-    full-low backward e l = held-below place c p (omega arith)
+    full-below backward e l = held-below place c p l
 
-    full-high : (pass : Pass) → passAt Z place ≡ pass → nextBlock pass (filling Z place) < c → heldAt Z place c p ≡ above pass
+    full-above : (pass : Pass) → passAt Z place ≡ pass → edge pass (filling Z place) ≤ c → heldAt Z place c p ≡ above pass
     unfolding written above
-    full-high forward e l = held-above place c p (omega arith) ∙ ap above e
-    full-high backward e l = ⊎-elim
+    full-above forward e l = held-above place c p l ∙ ap above e
+    full-above backward e l =
+        ⊎-elim
         (λ (f : ltb (filling Z place) c ≡ true). held-above place c p (ltb-true (filling Z place) c f) ∙ ap above e)
         (λ (f : ltb (filling Z place) c ≡ false).
         held-written place c p (omega (arith, ltb-false (filling Z place) c f)) (omega arith) ∙ ap written e)
         (bool-cases (ltb (filling Z place) c))
 
-    pub held-full-low : c < nextBlock (passAt Z place) (filling Z place) → heldAt Z place c p ≡ code
-    held-full-low = full-low (passAt Z place) refl
+    pub held-full-below : c < edge (passAt Z place) (filling Z place) → heldAt Z place c p ≡ code
+    held-full-below = full-below (passAt Z place) refl
 
-    pub held-full-high : nextBlock (passAt Z place) (filling Z place) < c → heldAt Z place c p ≡ above (passAt Z place)
-    held-full-high = full-high (passAt Z place) refl
+    pub held-full-above : edge (passAt Z place) (filling Z place) ≤ c → heldAt Z place c p ≡ above (passAt Z place)
+    held-full-above = full-above (passAt Z place) refl
 
   -- an erase makes one block blank
   pub record Erases (place b : ℕ) : Type 0 where
@@ -114,12 +129,12 @@ module _ (Z : Sizes) where
       T = after-erase Z place h k
 
       stays : (c p : ℕ) → c ≢ next → c ≤ n → p < m → Order c next → heldAt Z (suc place) c p ≡ heldAt Z place c p
-      stays c p apart l r (less x) = held-below (suc place) c p (omega (arith, T .block-is)) ∙ sym (held-full-low place k c p r x)
+      stays c p apart l r (less x) = held-below (suc place) c p (omega (arith, T .block-is)) ∙ sym (held-full-below place k c p r (next-below (passAt Z place) (filling Z place) c x))
       stays c p apart l r (same x) = absurd (apart x)
       stays c p apart l r (more x) =
           held-above (suc place) c p (omega (arith, T .block-is))
           ∙ ap above (T .pass-is (omega (arith, T .block-is)))
-          ∙ sym (held-full-high place k c p r x)
+          ∙ sym (held-full-above place k c p r (next-above (passAt Z place) (filling Z place) c x))
 
   -- The step at a place with what it changes: all that a caller has to tell apart.
   pub data Change (place : ℕ) : Type 0 where

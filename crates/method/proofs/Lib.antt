@@ -7,3 +7,4 @@ pub mod Refusals
 pub mod Steps
 pub mod Places
 pub mod Held
+pub mod PlaceShape
