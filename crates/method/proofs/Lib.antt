@@ -12,3 +12,5 @@ pub mod Refusals
 pub mod Steps
 pub mod Places
 pub mod Runs
+pub mod Held
+pub mod PlaceShape
