@@ -14,3 +14,4 @@ pub mod Places
 pub mod Runs
 pub mod Held
 pub mod PlaceShape
+pub mod Advance
