@@ -1,5 +1,5 @@
 -- A step leads from what a place has to what the next place has, whatever bytes are stored.
-use mathlib.Core.Path.{_≡_, refl, sym, ap, ap₂, _∙_, subst}
+use mathlib.Core.Path.{_≡_, sym, ap, ap₂, _∙_, subst}
 use mathlib.Core.Logic.{_≢_}
 use mathlib.Core.Bool.{true}
 use mathlib.Core.List.{List}
@@ -7,12 +7,12 @@ use Prim.Native.Nat.{ℕ, suc, _+_, _*_, _/_, _%_, _≤_, _<_}
 use native.Mathlib.Nat.{div-lt-iff-lt-mul, mod-lt, div-add-mod'}
 use native.Mathlib.Omega.{arith}
 use lib.ListN.{length, replicate}
-use Rattle.flash.specs.Geometry.{Sizes, slot, slotCount, storeLength}
+use Rattle.flash.specs.Geometry.{Sizes, slot, slotCount}
 use Rattle.flash.specs.Chip.{Chip, erased, pageAt, markAt, isBlank, eraseBlock, writePage}
 use Rattle.flash.proofs.Bounds.{Bounds, block-in-marks, block-in-store, slot-in-marks, slot-in-store}
 use Rattle.flash.proofs.Chips.{blank-of, blank-page, erase-store-length, erase-marks-length, erase-mark, erase-blank, erase-mark-other, erase-page-other, write-marks-length, write-mark, write-mark-other, write-store-length, write-page-other}
 use Rattle.method.specs.Move.{Move, letter}
-use Rattle.method.specs.Place.{Pass, forward, backward, markOf, blank, lastPlace, heldAt, heldMark, marksOf}
+use Rattle.method.specs.Place.{Pass, forward, backward, markOf, blank, lastPlace, heldAt, heldMark}
 use Rattle.method.proofs.Accepting.{Lent, StandsAt}
 use Rattle.method.proofs.Indexes.{Order, less, same, more, order, slot-div, slot-mod}
 use Rattle.method.proofs.Held.{Writes, Erases, MarksAt, marksOf-at, marks-eq, mark-written}
