@@ -8,3 +8,4 @@ pub mod Steps
 pub mod Places
 pub mod Held
 pub mod PlaceShape
+pub mod PlacesDiffer

@@ -2,13 +2,13 @@
 use mathlib.Core.Bool.{true}
 use mathlib.Core.Path.{_≡_}
 use mathlib.Core.List.{List, List·Memᴰ}
-use Prim.Native.Nat.{ℕ}
+use Prim.Native.Nat.{ℕ, _≤_}
 use lib.ListN.{length}
 use Rattle.flash.specs.Tables.{Row, Lowest, refusal}
 use Rattle.flash.specs.Geometry.{Sizes, inRange}
 use Rattle.flash.specs.Chip.{Chip}
 use Rattle.method.specs.Move.{Move}
-use Rattle.method.specs.Place.{operations, lastPlace}
+use Rattle.method.specs.Place.{operations, lastPlace, marksOf}
 use Rattle.method.specs.Mend.{Reading, lines}
 use Rattle.method.specs.Answers.{runRows, mendRows, readRows}
 use Rattle.method.specs.Cases.{CasesHold}
@@ -16,6 +16,11 @@ use Rattle.method.specs.Cases.{CasesHold}
 -- "There are 2 × n × (m + 1) steps"
 unfoldable pub StepsCounted : Type 0
 StepsCounted = (Z : Sizes) → length (operations Z) ≡ lastPlace Z
+
+-- "A place in the move is its step number": the marks tell it, since no two places have the same.
+unfoldable pub PlacesDiffer : Type 0
+PlacesDiffer =
+    (Z : Sizes) → inRange Z ≡ true → (p q : ℕ) → p ≤ lastPlace Z → q ≤ lastPlace Z → marksOf Z p ≡ marksOf Z q → p ≡ q
 
 -- Two of mend's lines that fit the same marks give the same answer: it does not matter which is tried first.
 unfoldable pub LinesAgree : Type 0
@@ -33,5 +38,6 @@ pub record LowestReturned : Type 0 where
 pub record Claims : Type 0 where
   pub cases : CasesHold
   pub steps : StepsCounted
+  pub places : PlacesDiffer
   pub lines : LinesAgree
   pub lowest : LowestReturned
