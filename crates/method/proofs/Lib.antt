@@ -9,3 +9,5 @@ pub mod Places
 pub mod Held
 pub mod PlaceShape
 pub mod PlacesDiffer
+pub mod Tallies
+pub mod ErasesCounted
