@@ -11,3 +11,4 @@ pub mod PlaceShape
 pub mod PlacesDiffer
 pub mod Tallies
 pub mod ErasesCounted
+pub mod PagesRise

@@ -9,13 +9,9 @@ use Rattle.flash.specs.Chip.{markAt}
 use Rattle.flash.proofs.Sizes.{in-range}
 use Rattle.method.specs.Place.{Pass, forward, backward, lastPlace, passAt, filling, filled, blank, plain, code, written, above, heldAt}
 use Rattle.method.specs.Claims.{PlacesDiffer}
-use Rattle.method.proofs.Indexes.{Order, less, same, more, order}
+use Rattle.method.proofs.Indexes.{clash, Order, less, same, more, order}
 use Rattle.method.proofs.Places.{turnOf, located, page-cases, filling-in, forward-high}
 use Rattle.method.proofs.Held.{edge, edge-in, marksOf-at, held-below, held-above, held-written, held-blank, held-full-below, held-full-above, held-told}
-
--- what two different values would prove if they were equal
-clash : _≡_ {A = ℕ} 0 1 → ⊥
-clash e = omega arith
 
 above-blank : (pass : Pass) → above pass ≢ blank
 unfolding above

@@ -1,6 +1,7 @@
 -- The theorems of this crate, each a statement about the definitions; `claims` in src/lib.rt demands their proofs.
 use mathlib.Core.Bool.{Bool, true, false}
 use mathlib.Core.Path.{_≡_}
+use mathlib.Core.Logic.{_≢_}
 use mathlib.Core.List.{List, List·Memᴰ}
 use Prim.Native.Nat.{ℕ, _+_, _*_, _≤_, _<_}
 use lib.Dec.{eqb}
@@ -10,7 +11,7 @@ use Rattle.flash.specs.Tables.{Row, Lowest, refusal}
 use Rattle.flash.specs.Geometry.{Sizes, inRange}
 use Rattle.flash.specs.Chip.{Chip}
 use Rattle.method.specs.Move.{Move}
-use Rattle.method.specs.Place.{Operation, write, erase, done, operations, lastPlace, marksOf}
+use Rattle.method.specs.Place.{Pass, Operation, write, erase, done, operations, lastPlace, operationAt, blank, heldAt, marksOf}
 use Rattle.method.specs.Step.{tally, operationsFrom}
 use Rattle.method.specs.Mend.{Reading, lines}
 use Rattle.method.specs.Answers.{runRows, mendRows, readRows}
@@ -43,6 +44,14 @@ pub record ErasesCounted : Type 0 where
   pub run-total : (M : Move) (place taken : ℕ)
       → tally (operationsFrom M place taken) .steps ≡ tally (operationsFrom M place taken) .writes + tally (operationsFrom M place taken) .erases
 
+-- "Pages are written in ascending order and only when blank": of two writes to a block with no erase of it between them, the
+-- later is to the higher page.
+pub record PagesRise : Type 0 where
+  pub ascending : (Z : Sizes) (p q : ℕ) (one other : Pass) (b i j : ℕ)
+      → operationAt Z p ≡ write one b i → operationAt Z q ≡ write other b j → p < q
+      → ((r : ℕ) → p < r → r < q → operationAt Z r ≢ erase b) → i < j
+  pub only-blank : (Z : Sizes) (place : ℕ) (pass : Pass) (b q : ℕ) → operationAt Z place ≡ write pass b q → heldAt Z place b q ≡ blank
+
 -- Two of mend's lines that fit the same marks give the same answer: it does not matter which is tried first.
 unfoldable pub LinesAgree : Type 0
 LinesAgree =
@@ -61,5 +70,6 @@ pub record Claims : Type 0 where
   pub steps : StepsCounted
   pub places : PlacesDiffer
   pub erases : ErasesCounted
+  pub pages : PagesRise
   pub lines : LinesAgree
   pub lowest : LowestReturned
