@@ -15,3 +15,7 @@ pub mod Runs
 pub mod Held
 pub mod PlaceShape
 pub mod Advance
+pub mod PlacesDiffer
+pub mod Tallies
+pub mod ErasesCounted
+pub mod PagesRise
