@@ -1,20 +1,37 @@
 -- Laws of marks: when a block is full of a letter, or unfinished.
 use mathlib.Core.Path.{_≡_, refl, sym, _∙_}
-use mathlib.Core.Logic.{_≢_, ⊎-elim}
-use mathlib.Core.Bool.{Bool, true, false, _||_, not, or-true}
-use mathlib.Core.List.{List}
+use mathlib.Core.Logic.{_≢_}
+use mathlib.Core.Bool.{Bool, true, false, or-true}
+use mathlib.Core.List.{List, [], _∷_}
 use Prim.Native.Nat.{ℕ, zero, suc, _+_, _*_, _≤_, _<_}
+use native.Mathlib.Nat.{not-suc-le-zero, le-of-suc-le-suc}
 use native.Mathlib.Omega.{arith}
 use lib.Dec.{eqb}
 use lib.ListN.{length, getD}
-use borrow.Author.Tests.{eqb-true, eq-eqb, ne-eqb, not-true}
-use Rattle.flash.specs.Lists.{range, all, any, first, part}
+use borrow.Author.Tests.{eqb-true, eq-eqb, ne-eqb}
+use Rattle.flash.specs.Lists.{range, all, part}
 use Rattle.flash.specs.Geometry.{slot}
 use Rattle.flash.specs.Chip.{erased, markAt, isFull, isUnfinished, letterOf, noLetter}
-use Rattle.flash.proofs.Bools.{never-both, or-false-left, or-false-right, fails, bool-eq}
+use Rattle.flash.proofs.Bools.{never-both, fails, bool-eq}
 use Rattle.flash.proofs.Searches.{all-at, all-of, first-none}
 use Rattle.flash.proofs.Ranges.{all-in, all-is, all-not, none-is, first-is}
 use Rattle.flash.proofs.Parts.{length-part, part-at}
+
+-- what a list has at an index within it does not depend on the default
+getD-any : (xs : List ℕ) (i d e : ℕ) → i < length xs → getD xs i d ≡ getD xs i e
+getD-any [] i d e h = absurd (not-suc-le-zero h)
+getD-any (x ∷ xs) zero d e h = refl
+getD-any (x ∷ xs) (suc i) d e h = getD-any xs i d e (le-of-suc-le-suc h)
+
+-- the mark of a slot that there is
+pub mark-is : (marks : List ℕ) (t : ℕ) → t < length marks → markAt marks t ≡ getD marks t 0
+unfolding markAt
+mark-is marks t h = getD-any marks t erased 0 h
+
+pub first-mark : (m : ℕ) (marks : List ℕ) (block : ℕ) → 0 < m → block * m + m ≤ length marks → markAt marks (slot m block 0) ≡ getD marks (block * m) 0
+first-mark m marks block h fits =
+    let start : block * m + 0 ≡ block * m = omega arith in
+    rw start (mark-is marks (block * m) (omega arith))
 
 module _ (m : ℕ) (marks : List ℕ) (block : ℕ) where
   abbrev marked : ℕ → ℕ → Bool
@@ -72,6 +89,16 @@ module _ (m : ℕ) (marks : List ℕ) (block : ℕ) where
   letter-none u =
       first-none (isFull m marks block) (range 0 3) noLetter
       (none-is (isFull m marks block) 0 3 (λ letter a b. unfinished-at letter (omega arith) u))
+
+  -- no other letter can fill a block than its first mark
+  pub unfinished-first : (mark : ℕ) → 0 < m → markAt marks (slot m block 0) ≡ mark → (mark < 3 → isFull m marks block mark ≡ false) → isUnfinished m marks block ≡ true
+  unfinished-first mark h at f =
+      unfinished-of
+      (λ letter l.
+      fails
+      (λ e.
+      let same : mark ≡ letter = sym at ∙ full-at letter 0 e h in
+      never-both e (rw same at (f (rw same l)))))
 
   -- the test over the block's part of the marks
   pub full-part : (letter : ℕ) → block * m + m ≤ length marks → isFull m marks block letter ≡ all (λ mark. eqb mark letter) (part m block marks)

@@ -1,15 +1,15 @@
 -- What an erase and a write do to the page and the mark of each slot.
 use mathlib.Core.Path.{_≡_, refl, sym, ap, ap₂, _∙_}
 use mathlib.Core.Logic.{_≢_}
-use mathlib.Core.Bool.{Bool, true, false, _&&_}
+use mathlib.Core.Bool.{Bool, true, false}
 use mathlib.Core.List.{List}
 use Prim.Native.Nat.{ℕ, _+_, _*_, _≤_, _<_}
 use native.Mathlib.Omega.{arith}
 use lib.Dec.{eqb}
-use lib.ListN.{length, getD, replicate, set, length-set, length-replicate, getD-replicate}
+use lib.ListN.{length, getD, replicate, length-set, length-replicate, getD-replicate}
 use lib.Seq.{getD-set-same, getD-set-other, ext-getD}
-use borrow.Author.Tests.{eqb-true, eq-eqb}
-use Rattle.flash.specs.Lists.{all, part, setPart}
+use borrow.Author.Tests.{eqb-true, eq-eqb, ne-eqb}
+use Rattle.flash.specs.Lists.{all, part}
 use Rattle.flash.specs.Geometry.{slot}
 use Rattle.flash.specs.Chip.{Chip, Holds, erased, pageAt, markAt, isBlank, eraseBlock, writePage}
 use Rattle.flash.proofs.Bools.{and-left, and-right}
@@ -34,6 +34,14 @@ blank-of P chip t mark page =
     let bytes : all test (replicate P erased) ≡ true =
     all-of test (replicate P erased) 0 (λ i h. eq-eqb _ _ (getD-replicate P i erased 0 (omega (arith, length-replicate P erased)))) in
     rw (eq-eqb (markAt (chip .marks) t) erased mark, page) bytes
+
+pub blank-is : (P : ℕ) (chip : Chip) (t : ℕ) → markAt (chip .marks) t ≡ erased → isBlank P chip t ≡ all (λ byte. eqb byte erased) (part P t (chip .store))
+unfolding isBlank pageAt
+blank-is P chip t mark = rw (eq-eqb (markAt (chip .marks) t) erased mark)
+
+pub not-blank : (P : ℕ) (chip : Chip) (t : ℕ) → markAt (chip .marks) t ≢ erased → isBlank P chip t ≡ false
+unfolding isBlank
+not-blank P chip t mark = rw (ne-eqb (markAt (chip .marks) t) erased mark)
 
 pub blank-mark : (P : ℕ) (chip : Chip) (t : ℕ) → isBlank P chip t ≡ true → markAt (chip .marks) t ≡ erased
 unfolding isBlank

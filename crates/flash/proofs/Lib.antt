@@ -1,6 +1,5 @@
 pub mod Bools
 pub mod Tables
-pub mod Sizes
 pub mod Searches
 pub mod Ranges
 pub mod Same
@@ -9,3 +8,5 @@ pub mod Xor
 pub mod Sums
 pub mod Blocks
 pub mod Chips
+pub mod Loops
+pub mod Bounds

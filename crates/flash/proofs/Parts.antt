@@ -1,14 +1,14 @@
 -- Laws of a list cut into parts of one size: of pages of the store, blocks of the store and blocks of the marks alike.
-use mathlib.Core.Path.{_≡_, refl, sym, ap, _∙_}
+use mathlib.Core.Path.{_≡_, sym, ap, _∙_}
 use mathlib.Core.Logic.{⊎-elim}
 use mathlib.Core.Bool.{true, false}
 use mathlib.Core.List.{List, _++_}
 use Prim.Native.Nat.{ℕ, zero, suc, _+_, _-_, _*_, _/_, _%_, _≤_, _<_, min}
 use native.Mathlib.Nat.{suc-mul, add-mul, mul-assoc, mul-zero, mul-le-mul-right, mod-lt, div-add-mod', div-lt-iff-lt-mul}
 use native.Mathlib.Omega.{arith}
-use lib.Dec.{eqb, ltb}
-use lib.ListN.{length, getD, take, drop, replicate, length-append, length-take, length-drop, length-replicate, getD-replicate, List·getD-append, List·getD-eq-default}
-use lib.Seq.{getD-take, getD-drop, getD-append-add, ext-getD}
+use lib.Dec.{ltb}
+use lib.ListN.{length, getD, take, drop, replicate, length-append, length-take, length-drop, length-replicate, getD-replicate, List·getD-append}
+use lib.Seq.{getD-take, getD-drop, getD-append-add, drop-drop, ext-getD}
 use borrow.Author.Tests.{ltb-true, ltb-false}
 use Rattle.flash.specs.Lists.{part, setPart}
 use Rattle.flash.proofs.Bools.{bool-cases}
@@ -141,3 +141,23 @@ parts-ext (suc s) count xs ys a b f =
     let i-in : i < count = div-lt-iff-lt-mul (omega arith) .1 (omega arith) in
     let j-in : j < size = mod-lt k (omega arith) in
     rw (← k-is) (sym (part-at size i xs j 0 j-in) ∙ ap (λ (p : List ℕ). getD p j 0) (f i i-in) ∙ part-at size i ys j 0 j-in))
+
+-- A part of a list as code lends it, from its start to its end: what is lent, and what the list is once it comes back.
+module _ (size i : ℕ) (xs : List ℕ) where
+  pub lent-part : take (i * size + size - i * size) (drop (i * size) xs) ≡ part size i xs
+  unfolding part
+  lent-part =
+      let k : i * size + size - i * size ≡ size = omega arith in
+      rw k
+
+  pub lent-back : (new : List ℕ) → take (i * size) xs ++ (new ++ drop (i * size + size - i * size) (drop (i * size) xs)) ≡ setPart size i xs new
+  unfolding setPart
+  lent-back new =
+      let k : i * size + size - i * size ≡ size = omega arith in
+      rw (k, drop-drop)
+
+-- a lent part that came back filled
+pub filled-back : (size i value : ℕ) (xs back : List ℕ) → i * size + size ≤ length xs → back ≡ replicate (length (take (i * size + size - i * size) (drop (i * size) xs))) value → take (i * size) xs ++ (back ++ drop (i * size + size - i * size) (drop (i * size) xs)) ≡ setPart size i xs (replicate size value)
+filled-back size i value xs back fits e =
+    let back-is : back ≡ replicate size value = e ∙ rw (lent-part size i xs, length-part size i xs fits) in
+    rw back-is (lent-back size i xs (replicate size value))

@@ -11,7 +11,7 @@ use lib.ListN.{length, getD}
 use borrow.Author.Tests.{eqb-true, eqb-false}
 use Rattle.flash.specs.Lists.{range, all, any, count, first}
 use Rattle.flash.proofs.Bools.{bool-cases, never-both, fails}
-use Rattle.flash.proofs.Searches.{all-append, any-append, count-append, first-append, all-at, all-of, none-at, none-of, count-none, none-counted, first-none}
+use Rattle.flash.proofs.Searches.{all-append, any-append, count-append, first-append, all-at, all-of, none-at, none-of, count-none, none-counted}
 
 pub length-range : (start size : ℕ) → length (range start size) ≡ size
 unfolding range

@@ -8,7 +8,7 @@ use native.Mathlib.Nat.{not-suc-le-zero, le-of-suc-le-suc}
 use native.Mathlib.Omega.{arith}
 use lib.ListN.{length, getD}
 use Rattle.flash.specs.Lists.{all, any, count, first}
-use Rattle.flash.proofs.Bools.{bool-cases, never-both, and-left, and-right, or-false-left, or-false-right, or-cases, fails}
+use Rattle.flash.proofs.Bools.{bool-cases, never-both, and-left, and-right, or-false-left, or-false-right, fails}
 
 module _ {A : Type 0} (test : A → Bool) where
   pub all-append : (xs ys : List A) → all test (xs ++ ys) ≡ (all test xs && all test ys)

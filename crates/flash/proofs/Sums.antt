@@ -1,12 +1,15 @@
 -- Laws of the page sum. `⊕` fills the shorter page up with zeros, so most of them ask nothing of lengths.
 use mathlib.Core.Path.{_≡_, refl, sym, ap, ap₂, _∙_}
+use mathlib.Core.Logic.{⊎-elim}
+use mathlib.Core.Bool.{Bool, true, false}
 use mathlib.Core.List.{List, [], _∷_, _++_}
 use Prim.Native.Nat.{ℕ, zero, suc, _≤_, _<_, max}
 use native.Mathlib.Nat.{not-suc-le-zero, le-of-suc-le-suc}
 use native.Mathlib.Omega.{arith}
 use lib.ListN.{length, getD}
 use lib.Bits.{bitXor, xor-comm, xor-zero-r}
-use Rattle.flash.specs.PageSum.{_⊕_, sum}
+use Rattle.flash.specs.PageSum.{_⊕_, sum, putOrAdd}
+use Rattle.flash.proofs.Bools.{bool-cases}
 use Rattle.flash.proofs.Xor.{xor-assoc, xor-cancel}
 
 pub nil-⊕ : (a : List ℕ) → [] ⊕ a ≡ a
@@ -87,3 +90,20 @@ length-sum page size (t ∷ []) f h = ap length (⊕-nil (page t)) ∙ f 0 (omeg
 length-sum page size (t ∷ u ∷ ts) f h =
     length-⊕ (page t) (sum page (u ∷ ts))
     ∙ omega (arith, f 0 (omega arith), length-sum page size (u ∷ ts) (λ i l. f (suc i) (omega arith)) (omega arith))
+
+module _ (add : Bool) (work page : List ℕ) where
+  pub length-putOrAdd : length page ≡ length work → length (putOrAdd add work page) ≡ length work
+  unfolding putOrAdd
+  length-putOrAdd e =
+      ⊎-elim
+      (λ (a : add ≡ true). rw a (omega (arith, length-⊕ work page)))
+      (λ (a : add ≡ false). rw a e)
+      (bool-cases add)
+
+  pub added-at : (i : ℕ) → add ≡ true → getD (putOrAdd add work page) i 0 ≡ bitXor (getD work i 0) (getD page i 0)
+  unfolding putOrAdd
+  added-at i a = rw a (⊕-at work page i)
+
+  pub put-at : (i : ℕ) → add ≡ false → getD (putOrAdd add work page) i 0 ≡ getD page i 0
+  unfolding putOrAdd
+  put-at i a = rw a

@@ -8,7 +8,7 @@ use Prim.Native.Nat.{ℕ, zero, suc, _≤_, _<_}
 use native.Mathlib.Omega.{arith}
 use lib.Dec.{ltb}
 use borrow.Author.Tests.{ltb-true}
-use Rattle.flash.proofs.Bools.{bool-cases, both}
+use Rattle.flash.proofs.Bools.{bool-cases, both, fails}
 use Rattle.flash.specs.Tables.{Row, firstFit, numberOr0, refusal, Lowest}
 
 -- the numbers rise, and are above `from`
@@ -63,3 +63,17 @@ lowest-first (top ∷ rows) from r = ⊎-elim hit (miss (lowest-first rows (top 
           (λ (t : List·Memᴰ row rows). L .lowest row t f)
           (List·Memᴰ·cases-cons m);
     })
+
+-- ---- a table of which no row fits
+-- the first row does not fit, and the rest gives 0
+pub refusal-zero : (top : Row ℕ) (rows : List (Row ℕ)) → 1 ≤ top .gives → refusal (top ∷ rows) ≡ 0 → (top .fits ≡ false) × (refusal rows ≡ 0)
+refusal-zero top rows low e =
+    let miss : top .fits ≡ false = fails (λ f. let g = refusal-hit top rows f in omega arith) in
+    (miss, sym (refusal-miss top rows miss) ∙ e)
+
+pub refusal-nil : refusal [] ≡ 0
+unfolding refusal firstFit numberOr0
+refusal-nil = refl
+
+pub refusal-skip : (top : Row ℕ) (rows : List (Row ℕ)) → top .fits ≡ false → refusal rows ≡ 0 → refusal (top ∷ rows) ≡ 0
+refusal-skip top rows miss e = refusal-miss top rows miss ∙ e

@@ -1,1 +1,10 @@
-// The chip as the mover sees it: sizes, slots, marks, pages. The definitions are in specs/.
+// The chip as the mover sees it: sizes, pages, blocks. The definitions are in specs/.
+// A function here may have a `requires`: only the crates above call it, and their proofs show it.
+
+pub mod block;
+pub mod page;
+pub mod part;
+pub mod sizes;
+
+// A byte or a mark that is not written.
+pub const ERASED: u8 = 255;

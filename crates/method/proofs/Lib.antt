@@ -1,5 +1,7 @@
 pub mod Open
+pub mod Indexes
 pub mod Shape
+pub mod Accepting
 pub mod Slots
 pub mod Orbit
 pub mod Cycles
@@ -14,3 +16,8 @@ pub mod Cases
 pub mod MendLines
 pub mod Refusals
 pub mod Steps
+pub mod Places
+pub mod Runs
+pub mod Held
+pub mod PlaceShape
+pub mod Advance

@@ -15,7 +15,7 @@ use Rattle.flash.specs.Chip.{isFull, isUnfinished}
 use Rattle.flash.proofs.Bools.{bool-cases, never-both, both}
 use Rattle.flash.proofs.Ranges.{all-in}
 use Rattle.flash.proofs.Blocks.{full-same, full-finished}
-use Rattle.flash.proofs.Sizes.{in-range}
+use Rattle.flash.proofs.Bounds.{in-range}
 use Rattle.method.specs.Move.{letter}
 use Rattle.method.specs.Mend.{Reading, fullFrom, forwardTorn, backwardTorn, forwardFull, backwardFull, lines}
 use Rattle.method.specs.Claims.{LinesAgree}

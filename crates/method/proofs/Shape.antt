@@ -8,7 +8,7 @@ use Rattle.flash.specs.Lists.{part}
 use Rattle.flash.specs.Geometry.{Sizes, slot, slotOf, originalCount, listLength, setsLength}
 use Rattle.flash.specs.PageSum.{sum}
 use Rattle.flash.specs.Chip.{Chip, pageAt, markAt, isFull}
-use Rattle.flash.proofs.Sizes.{InRange}
+use Rattle.flash.proofs.Bounds.{Bounds}
 use Rattle.split.specs.OneToOne.{isOneToOne}
 use Rattle.split.specs.Split.{isSplit}
 use Rattle.method.specs.Move.{Move, letter}
@@ -16,7 +16,7 @@ use Rattle.method.specs.Cycle.{coded}
 
 -- what is known of a move that rows 1 to 4 of the table do not refuse
 pub record Accepted (M : Move) : Type 0 where
-  pub ranges : InRange (M .sizes)
+  pub ranges : Bounds (M .sizes)
   pub list-length : length (M .list) ≡ listLength (M .sizes)
   pub sets-length : length (M .sets) ≡ setsLength (M .sizes)
   pub one-to-one : isOneToOne (originalCount (M .sizes)) (M .list) ≡ true

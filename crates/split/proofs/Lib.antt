@@ -4,3 +4,6 @@ pub mod OneToOneLaws
 pub mod SplitLaws
 pub mod Walk
 pub mod Exchange
+pub mod RuleLaws
+pub mod Claimed
+pub mod MaskLaws

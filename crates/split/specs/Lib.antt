@@ -2,3 +2,5 @@ pub mod OneToOne
 pub mod Split
 pub mod Rule
 pub mod Answer
+pub mod Claims
+pub mod Mask

@@ -1,1 +1,13 @@
 // A list of destinations and its split into sets. The definitions are in specs/.
+pub mod mask;
+
+ghost use Rattle.split.specs.Claims.{SplitEnds, WalkEnds, WalkIsShort, FilledFits, RowsAscend};
+
+// The theorems about the definitions, as the contract of a function that does nothing: the check demands their proofs.
+pub fn claims()
+    ensures split_ends { λ _. ⌜ SplitEnds ⌝ }
+    ensures walk_ends { λ _. ⌜ WalkEnds ⌝ }
+    ensures walk_is_short { λ _. ⌜ WalkIsShort ⌝ }
+    ensures filled_fits { λ _. ⌜ FilledFits ⌝ }
+    ensures rows_ascend { λ _. ⌜ RowsAscend ⌝ }
+{}

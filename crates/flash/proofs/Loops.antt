@@ -1,0 +1,60 @@
+-- What one turn of a loop over bytes does.
+use mathlib.Core.Path.{_≡_, refl, ap, _∙_}
+use mathlib.Core.Bool.{_&&_, and-true}
+use mathlib.Core.List.{List, [], _∷_, _++_}
+use Prim.Native.Nat.{ℕ, zero, suc, _+_, _<_}
+use native.Mathlib.Nat.{not-suc-le-zero, le-of-suc-le-suc}
+use native.Mathlib.Numerals.{add-one}
+use native.Mathlib.Omega.{arith}
+use lib.Bits.{bitOr, bitXor, or-add-and, and-le-l, and-le-r, xor-self}
+use lib.Dec.{eqb}
+use lib.ListN.{length, getD, set, take, drop}
+use lib.Seq.{take-suc}
+use borrow.Author.Tests.{eqb-true, eq-eqb}
+use Rattle.flash.specs.Lists.{all}
+use Rattle.flash.proofs.Bools.{and-left, and-right, bool-eq}
+use Rattle.flash.proofs.Searches.{all-append}
+use Rattle.flash.proofs.Xor.{xor-zero-eq}
+
+-- A loop that makes a list `old` into a list `new` of its length, one element a turn: after i turns it is `take i new ++ drop i old`.
+pub front-at : (new old : List ℕ) (i : ℕ) → length new ≡ length old → i < length old → getD (take i new ++ drop i old) i 0 ≡ getD old i 0
+front-at new [] i e l = absurd (not-suc-le-zero l)
+front-at [] (y ∷ old) i e l = absurd (omega arith)
+front-at (x ∷ new) (y ∷ old) zero e l = refl
+front-at (x ∷ new) (y ∷ old) (suc i) e l = front-at new old i (omega arith) (le-of-suc-le-suc l)
+
+front-suc : (new old : List ℕ) (i : ℕ) → length new ≡ length old → i < length old → set (take i new ++ drop i old) i (getD new i 0) ≡ take (suc i) new ++ drop (suc i) old
+front-suc new [] i e l = absurd (not-suc-le-zero l)
+front-suc [] (y ∷ old) i e l = absurd (omega arith)
+front-suc (x ∷ new) (y ∷ old) zero e l = refl
+front-suc (x ∷ new) (y ∷ old) (suc i) e l = ap (λ (t : List ℕ). x ∷ t) (front-suc new old i (omega arith) (le-of-suc-le-suc l))
+
+pub front-more : (new old : List ℕ) (i : ℕ) → length new ≡ length old → i < length old → set (take i new ++ drop i old) i (getD new i 0) ≡ take (i + 1) new ++ drop (i + 1) old
+front-more new old i e l = rw add-one (front-suc new old i e l)
+
+-- A loop that gathers the bits in which bytes differ from a value: they are none while each byte is that value.
+or-none : (a b : ℕ) → eqb (bitOr a b) 0 ≡ (eqb a 0 && eqb b 0)
+or-none a b =
+    bool-eq (eqb (bitOr a b) 0) (eqb a 0 && eqb b 0)
+    (λ e.
+    let z = eqb-true (bitOr a b) 0 e in
+    let s = or-add-and a b in
+    let l = and-le-l a b in
+    let r = and-le-r a b in
+    rw (eq-eqb a 0 (omega arith), eq-eqb b 0 (omega arith)))
+    (λ e.
+    let a-is = eqb-true a 0 (and-left (eqb a 0) (eqb b 0) e) in
+    let b-is = eqb-true b 0 (and-right (eqb a 0) (eqb b 0) e) in
+    rw (a-is, b-is))
+
+xor-none : (a b : ℕ) → eqb (bitXor a b) 0 ≡ eqb a b
+xor-none a b =
+    bool-eq (eqb (bitXor a b) 0) (eqb a b)
+    (λ e. eq-eqb a b (xor-zero-eq a b (eqb-true (bitXor a b) 0 e)))
+    (λ e. eq-eqb (bitXor a b) 0 (rw (eqb-true a b e) (xor-self b)))
+
+pub filled-more : (part : List ℕ) (value different i : ℕ) → i < length part → eqb different 0 ≡ all (λ byte. eqb byte value) (take i part) → eqb (bitOr different (bitXor (getD part i 0) value)) 0 ≡ all (λ byte. eqb byte value) (take (i + 1) part)
+unfolding all
+filled-more part value different i h e =
+    or-none different (bitXor (getD part i 0) value)
+    ∙ rw (e, xor-none (getD part i 0) value, add-one i, take-suc part i 0, all-append (λ byte. eqb byte value) (take i part), and-true)

@@ -1,0 +1,61 @@
+use mathlib.Core.Path.{refl, ap, _∙_}
+use native.Mathlib.Omega.{arith}
+use lib.ListN.{length-set}
+use Rattle.flash.specs.Lists.{setPart}
+use Rattle.flash.specs.PageSum.{putOrAdd}
+use Rattle.flash.specs.Chip.{writePage}
+use Rattle.flash.proofs.Parts.{lent-back}
+use Rattle.flash.proofs.page.write_page.Statement.{statement}
+use Rattle.flash.proofs.page.write_page.Tie as tie
+
+mul-to : tie.Need-mul-to
+mul-to c = omega arith
+
+add-end : tie.Need-add-end
+add-end c = omega arith
+
+sub-put-or-add : tie.Need-sub-put-or-add
+sub-put-or-add c = omega arith
+
+part-put-or-add-start : tie.Need-part-put-or-add-start
+part-put-or-add-start c = omega arith
+
+part-put-or-add-end : tie.Need-part-put-or-add-end
+part-put-or-add-end c = omega arith
+
+put-or-add-requires : tie.Need-put-or-add-requires
+put-or-add-requires c κs = omega arith
+
+slice-write-marks : tie.Need-slice-write-marks
+slice-write-marks c = omega arith
+
+same-length : tie.Need-same-length
+same-length c = omega arith
+
+same-length-2 : tie.Need-same-length-2
+same-length-2 c = simp length-set
+
+returns : tie.Need-returns
+unfolding writePage putOrAdd
+returns c =
+    let a = c .before .before .before .before .before .before .before .args in
+    let put = c .before .before .put-or-add in
+    record {
+      store-is = lent-back (a .p) (a .slot) (a .store .now) (put .last .0) ∙ ap (setPart (a .p) (a .slot) (a .store .now)) (put .ensures);
+      marks-is = refl;
+    }
+
+pub write-page-spec : {M : Type 1} → statement M
+write-page-spec =
+    tie.close
+    (tie.spec
+    mul-to
+    add-end
+    sub-put-or-add
+    part-put-or-add-start
+    part-put-or-add-end
+    put-or-add-requires
+    slice-write-marks
+    same-length
+    same-length-2
+    returns)

@@ -1,0 +1,17 @@
+use native.Mathlib.Omega.{arith}
+use Rattle.flash.proofs.Bounds.{product-le}
+use Prim.Native.Nat.{_+_}
+use Rattle.flash.proofs.sizes.slot_count.Statement.{statement}
+use Rattle.flash.proofs.sizes.slot_count.Tie as tie
+
+add-result : tie.Need-add-result
+add-result c = omega arith
+
+mul-result : tie.Need-mul-result
+mul-result c = omega (arith, product-le (c .args .n + 1) (c .args .m) {c = 65} {d = 64} (omega arith) (omega arith))
+
+returns : tie.Need-returns
+returns c = omega arith
+
+pub slot-count-spec : {M : Type 1} → statement M
+slot-count-spec = tie.close (tie.spec add-result mul-result returns)

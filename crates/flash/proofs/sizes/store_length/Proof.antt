@@ -1,0 +1,21 @@
+use mathlib.Core.Path.{ap}
+use Prim.Native.Nat.{ℕ, _+_, _*_, _≤_}
+use native.Mathlib.Omega.{arith}
+use Rattle.flash.proofs.Bounds.{product-le}
+use Rattle.flash.proofs.sizes.store_length.Statement.{statement}
+use Rattle.flash.proofs.sizes.store_length.Tie as tie
+
+slot-count-requires : tie.Need-slot-count-requires
+slot-count-requires c κs = omega arith
+
+mul-result : tie.Need-mul-result
+mul-result c =
+    let a = c .before .args in
+    let slots : c .slot-count .result ≤ 65 * 64 = omega (arith, product-le (a .n + 1) (a .m) {c = 65} {d = 64} (omega arith) (omega arith)) in
+    omega (arith, product-le (c .slot-count .result) (a .p) {c = 65 * 64} {d = 4096} slots (omega arith))
+
+returns : tie.Need-returns
+returns c = ap (λ (slots : ℕ). slots * c .before .args .p) (c .slot-count .ensures)
+
+pub store-length-spec : {M : Type 1} → statement M
+store-length-spec = tie.close (tie.spec slot-count-requires mul-result returns)

@@ -1,0 +1,52 @@
+// A block: its pages in the store and its marks.
+
+ghost use mathlib.Core.Path.{_≡_};
+ghost use Prim.Native.Nat.{_+_, _*_, _≤_, _<_};
+ghost use lib.ListN.{length};
+ghost use Rattle.flash.specs.Chip.{Holds, isFull, letterOf, eraseBlock};
+use crate::ERASED;
+use crate::part::fill;
+use crate::part::is_filled;
+
+// What `block_letter` answers of an unfinished block.
+pub const NO_LETTER: u8 = 3;
+
+// All pages of the block become blank. Its parts of the store and of the marks are lent on, so nothing beside it can change.
+pub fn erase_block(store: &mut [u8], marks: &mut [u8], m: usize, p: usize, block: usize)
+    requires { ⌜ block * (m * p) + m * p ≤ length (now store) ⌝ }
+    requires { ⌜ block * m + m ≤ length (now marks) ⌝ }
+    ensures { λ _. ⌜ Holds (eraseBlock m p block (record { store = now (store .entry); marks = now (marks .entry) })) (now (store .exit)) (now (marks .exit)) ⌝ }
+{
+    let size = m * p;
+    let start = block * size;
+    let end = start + size;
+    fill(&mut store[start..end], ERASED);
+    let first = block * m;
+    let past = first + m;
+    fill(&mut marks[first..past], ERASED);
+}
+
+// Whether all marks of the block are this letter.
+pub fn is_full(marks: &[u8], m: usize, block: usize, letter: u8) -> bool
+    requires { ⌜ block * m + m ≤ length (now marks) ⌝ }
+    ensures { λ r. ⌜ r ≡ isFull m (now (marks .entry)) block letter ⌝ }
+{
+    let start = block * m;
+    let end = start + m;
+    is_filled(&marks[start..end], letter)
+}
+
+// The letter that the block is full of, or NO_LETTER. No other letter than its first mark can fill it.
+pub fn block_letter(marks: &[u8], m: usize, block: usize) -> u8
+    requires { ⌜ 0 < m ⌝ }
+    requires { ⌜ block * m + m ≤ length (now marks) ⌝ }
+    ensures { λ r. ⌜ r ≡ letterOf m (now (marks .entry)) block ⌝ }
+{
+    let letter = marks[block * m];
+    if letter < NO_LETTER {
+        if is_full(marks, m, block, letter) {
+            return letter;
+        }
+    }
+    NO_LETTER
+}

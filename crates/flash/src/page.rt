@@ -1,0 +1,50 @@
+// A page of the store and its mark, by slot.
+
+ghost use mathlib.Core.Path.{_≡_};
+ghost use Prim.Native.Nat.{_+_, _*_, _≤_, _<_};
+ghost use lib.ListN.{length};
+ghost use Rattle.flash.specs.Lists.{part};
+ghost use Rattle.flash.specs.PageSum.{putOrAdd};
+ghost use Rattle.flash.specs.Chip.{Holds, isBlank, writePage};
+use crate::ERASED;
+use crate::part::is_filled;
+use crate::part::put_or_add;
+
+// The slot's page is put into the work page, or added to it.
+pub fn read_page(store: &[u8], p: usize, slot: usize, work: &mut [u8], add: bool)
+    requires { ⌜ slot * p + p ≤ length (now store) ⌝ }
+    requires { ⌜ length (now work) ≡ p ⌝ }
+    ensures { λ _. ⌜ now (work .exit) ≡ putOrAdd add (now (work .entry)) (part p slot (now (store .entry))) ⌝ }
+{
+    let from = slot * p;
+    let end = from + p;
+    put_or_add(work, &store[from..end], add);
+}
+
+// The work page goes into the slot, with its mark.
+pub fn write_page(store: &mut [u8], marks: &mut [u8], p: usize, slot: usize, work: &[u8], mark: u8)
+    requires { ⌜ slot * p + p ≤ length (now store) ⌝ }
+    requires { ⌜ slot < length (now marks) ⌝ }
+    requires { ⌜ length (now work) ≡ p ⌝ }
+    ensures { λ _. ⌜ Holds (writePage p slot (now (work .entry)) mark (record { store = now (store .entry); marks = now (marks .entry) })) (now (store .exit)) (now (marks .exit)) ⌝ }
+{
+    let to = slot * p;
+    let end = to + p;
+    put_or_add(&mut store[to..end], work, false);
+    marks[slot] = mark;
+}
+
+// Whether the slot's mark and all its bytes are 255.
+pub fn is_blank(store: &[u8], marks: &[u8], p: usize, slot: usize) -> bool
+    requires { ⌜ slot * p + p ≤ length (now store) ⌝ }
+    requires { ⌜ slot < length (now marks) ⌝ }
+    ensures { λ r. ⌜ r ≡ isBlank p (record { store = now (store .entry); marks = now (marks .entry) }) slot ⌝ }
+{
+    let start = slot * p;
+    let end = start + p;
+    if marks[slot] == ERASED {
+        is_filled(&store[start..end], ERASED)
+    } else {
+        false
+    }
+}

@@ -1,0 +1,45 @@
+// Bytes of one part of the store or the marks. All loops over bytes are here.
+
+ghost use mathlib.Core.Path.{_≡_};
+ghost use lib.Dec.{eqb};
+ghost use lib.ListN.{length, replicate};
+ghost use Rattle.flash.specs.Lists.{all};
+ghost use Rattle.flash.specs.PageSum.{putOrAdd};
+
+// Every byte of the part becomes `value`.
+pub fn fill(part: &mut [u8], value: u8)
+    ensures { λ _. ⌜ now (part .exit) ≡ replicate (length (now (part .entry))) value ⌝ }
+{
+    let mut i = 0;
+    while i < part.len() {
+        part[i] = value;
+        i += 1;
+    }
+}
+
+// Whether each of the bytes is `value`. Bits that differ are gathered and judged once, so that the loop has no branch
+// and is compiled to vector instructions.
+pub fn is_filled(bytes: &[u8], value: u8) -> bool
+    ensures { λ r. ⌜ r ≡ all (λ byte. eqb byte value) (now (bytes .entry)) ⌝ }
+{
+    let mut different: u8 = 0;
+    let mut i = 0;
+    while i < bytes.len() {
+        different = different | (bytes[i] ^ value);
+        i += 1;
+    }
+    different == 0
+}
+
+// The page sum: a page is put into `target`, or added to it by exclusive-or.
+pub fn put_or_add(target: &mut [u8], page: &[u8], add: bool)
+    requires { ⌜ length (now page) ≡ length (now target) ⌝ }
+    ensures { λ _. ⌜ now (target .exit) ≡ putOrAdd add (now (target .entry)) (now (page .entry)) ⌝ }
+{
+    let mut i = 0;
+    while i < target.len() {
+        let byte = if add { target[i] ^ page[i] } else { page[i] };
+        target[i] = byte;
+        i += 1;
+    }
+}

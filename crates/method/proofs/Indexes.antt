@@ -1,0 +1,62 @@
+-- Numbers as indexes: two in order, one taken apart into block and page or into turn and step, and elements of lists by index.
+use mathlib.Core.Path.{_≡_, ap, _∙_}
+use mathlib.Core.Logic.{⊎-elim}
+use mathlib.Core.Bool.{true, false}
+use mathlib.Core.List.{List, [], _∷_, map}
+use Prim.Native.Nat.{ℕ, zero, suc, _+_, _-_, _*_, _/_, _%_, _<_}
+use native.Mathlib.Nat.{not-suc-le-zero, le-of-suc-le-suc, mul-add-div-right, div-eq-of-lt, mul-add-mod-self-right, mod-eq-of-lt, add-zero, mul-le-mul-right, suc-mul}
+use native.Mathlib.Omega.{arith}
+use lib.Dec.{ltb}
+use lib.ListN.{length, getD, List·getD-append}
+use lib.Seq.{getD-append-add}
+use borrow.Author.Tests.{ltb-true, ltb-false}
+use Rattle.flash.specs.Lists.{range, downFrom, concatMap}
+use Rattle.flash.proofs.Bools.{bool-cases}
+
+-- two numbers in order
+pub data Order (a b : ℕ) : Type 0 where
+  less : a < b → Order a b
+  same : a ≡ b → Order a b
+  more : b < a → Order a b
+
+pub order : (a b : ℕ) → Order a b
+order a b = ⊎-elim
+    (λ (e : ltb a b ≡ true). less (ltb-true a b e))
+    (λ (e : ltb a b ≡ false). ⊎-elim
+    (λ (f : ltb b a ≡ true). more (ltb-true b a f))
+    (λ (f : ltb b a ≡ false). same (omega (arith, ltb-false a b e, ltb-false b a f)))
+    (bool-cases (ltb b a)))
+    (bool-cases (ltb a b))
+
+pub slot-div : (size b j : ℕ) → j < size → (b * size + j) / size ≡ b
+slot-div size b j h = mul-add-div-right (omega arith) b j ∙ ap (λ (x : ℕ). b + x) (div-eq-of-lt h) ∙ add-zero b
+
+pub slot-mod : (size b j : ℕ) → j < size → (b * size + j) % size ≡ j
+slot-mod size b j h = mul-add-mod-self-right b size j ∙ mod-eq-of-lt h
+
+pub slot-lt : (size b j count : ℕ) → b < count → j < size → b * size + j < count * size
+slot-lt size b j count h l = omega (arith, mul-le-mul-right size h, suc-mul b size)
+
+pub map-range-at : {A : Type 0} (f : ℕ → A) (start count i : ℕ) (d : A) → i < count → getD (map f (range start count)) i d ≡ f (start + i)
+unfolding range
+map-range-at f start zero i d h = absurd (not-suc-le-zero h)
+map-range-at f start (suc count) zero d h = ap f (omega arith)
+map-range-at f start (suc count) (suc i) d h = map-range-at f (suc start) count i d (le-of-suc-le-suc h) ∙ ap f (omega arith)
+
+pub downFrom-at : (n i d : ℕ) → i < n → getD (downFrom n) i d ≡ n - i
+unfolding downFrom
+downFrom-at zero i d h = absurd (not-suc-le-zero h)
+downFrom-at (suc n) zero d h = omega arith
+downFrom-at (suc n) (suc i) d h = downFrom-at n i d (le-of-suc-le-suc h) ∙ omega arith
+
+-- lists of one size, one after the other: element j of list i
+pub concatMap-at : {A B : Type 0} (f : A → List B) (size : ℕ) → ((x : A) → length (f x) ≡ size)
+    → (xs : List A) (i j : ℕ) (d : B) (e : A) → i < length xs → j < size → getD (concatMap f xs) (i * size + j) d ≡ getD (f (getD xs i e)) j d
+unfolding concatMap
+concatMap-at f size each [] i j d e h k = absurd (not-suc-le-zero h)
+concatMap-at f size each (x ∷ xs) zero j d e h k =
+    let at : 0 * size + j ≡ j = omega arith in
+    rw at (List·getD-append (f x) (concatMap f xs) d j (omega (arith, each x)))
+concatMap-at f size each (x ∷ xs) (suc i) j d e h k =
+    let at : suc i * size + j ≡ length (f x) + (i * size + j) = omega (arith, each x, suc-mul i size) in
+    rw at (getD-append-add (f x) (concatMap f xs) (i * size + j) d ∙ concatMap-at f size each xs i j d e (le-of-suc-le-suc h) k)

@@ -1,0 +1,1 @@
+// The mover: the calls of document 01 as code, each proved equal to its definition in crate `method`.

@@ -1,0 +1,116 @@
+-- Laws of the bits of a mask.
+use mathlib.Core.Path.{_≡_, refl, ap, sym, _∙_}
+use mathlib.Core.Logic.{_≢_, ⊎-elim}
+use mathlib.Core.Bool.{Bool, true, false, cond}
+use mathlib.Core.List.{List}
+use Prim.Native.Nat.{ℕ, zero, suc, _+_, _*_, _-_, _/_, _%_, _^_, _≤_, _<_}
+use native.Mathlib.Nat.{pow-suc, div-eq-of-lt, div-self, div-one, mod-lt, div-zero, zero-div, zero-mod}
+use native.Mathlib.Numerals.{one-add}
+use native.Mathlib.Omega.{arith}
+use lib.Dec.{eqb}
+use lib.ListN.{length, getD, set}
+use lib.Seq.{getD-set-same, getD-set-other}
+use lib.Count.{trailingZeros, under}
+use lib.Pow.{pow-pos, pow-lt, pow-add, shr-shr, shl-shr}
+use lib.Bits.{bitXor, xor-step, xor-shr, differ}
+use borrow.Author.Tests.{eq-eqb, ne-eqb}
+use Rattle.flash.specs.Lists.{range, first}
+use Rattle.split.specs.Mask.{bitAt, lowestZero, Flipped, FlippedAt}
+use Rattle.split.proofs.Lists.{bool-cases, lt-cases, eq-cases}
+
+pub bit-lt : (mask bit : ℕ) → bitAt mask bit < 2
+bit-lt mask bit = mod-lt (mask / 2 ^ bit) {m = 2} (omega arith)
+
+pub no-bits : (bit : ℕ) → bitAt 0 bit ≡ 0
+no-bits bit = rw zero-div
+
+-- bit k + 1 of a mask is bit k of its half
+bit-suc : (mask bit : ℕ) → bitAt mask (suc bit) ≡ bitAt (mask / 2) bit
+bit-suc mask bit = rw (← one-add bit, ← shr-shr)
+
+-- one digit of the complement
+comp-half : (k mask : ℕ) → mask < 2 ^ suc k → ((2 ^ suc k - 1) - mask) / 2 ≡ (2 ^ k - 1) - mask / 2
+comp-half k mask h = let e = pow-suc 2 k in omega arith
+
+comp-odd : (k mask : ℕ) → mask < 2 ^ suc k → ((2 ^ suc k - 1) - mask) % 2 ≡ 1 - mask % 2
+comp-odd k mask h = let e = pow-suc 2 k in omega arith
+
+first-suc : (test : ℕ → Bool) (start n otherwise : ℕ)
+    → first test (range (suc start) n) (suc otherwise) ≡ suc (first (λ x. test (suc x)) (range start n) otherwise)
+unfolding first range
+first-suc test start zero otherwise = refl
+first-suc test start (suc n) otherwise = ⊎-elim
+    (λ (q : test (suc start) ≡ true). rw q)
+    (λ (q : test (suc start) ≡ false). rw q (first-suc test (suc start) n otherwise))
+    (bool-cases (test (suc start)))
+
+first-ext : (f g : ℕ → Bool) → ((x : ℕ) → f x ≡ g x) → (start n otherwise : ℕ) → first f (range start n) otherwise ≡ first g (range start n) otherwise
+unfolding first range
+first-ext f g e start zero otherwise = refl
+first-ext f g e start (suc n) otherwise = rw (e start, first-ext f g e (suc start) n otherwise)
+
+-- the trailing zeros of the complement are the ones below the lowest zero
+pub lowest-zero : (k mask : ℕ) → mask < 2 ^ k → trailingZeros k ((2 ^ k - 1) - mask) ≡ first (λ bit. eqb (bitAt mask bit) 0) (range 0 k) k
+unfolding trailingZeros first range
+lowest-zero zero mask h = refl
+lowest-zero (suc k) mask h =
+    let e = pow-suc 2 k in
+    let m = lowest-zero k (mask / 2) (omega arith) in
+    let rest : first (λ bit. eqb (bitAt mask bit) 0) (range 1 k) (suc k) ≡ suc (trailingZeros k ((2 ^ k - 1) - mask / 2)) =
+    first-suc (λ bit. eqb (bitAt mask bit) 0) 0 k k
+    ∙ ap suc (first-ext _ _ (λ bit. ap (λ (x : ℕ). eqb x 0) (bit-suc mask bit)) 0 k k ∙ sym m) in
+    rw (comp-odd k mask h, comp-half k mask h, rest, div-one mask) (low (mask % 2) (mod-lt mask (omega arith)) (trailingZeros k ((2 ^ k - 1) - mask / 2)))
+  where
+    low : (digit : ℕ) → digit < 2 → (zeros : ℕ) → under (1 - digit) zeros ≡ cond (eqb digit 0) 0 (suc zeros)
+    low zero h zeros = refl
+    low (suc zero) h zeros = refl
+    low (suc (suc digit)) h zeros = absurd (omega arith)
+
+-- ---- flipping a bit
+xor-bit : (a b bit : ℕ) → bitAt (bitXor a b) bit ≡ differ (bitAt a bit) (bitAt b bit)
+xor-bit a b bit =
+    let s = xor-step (a / 2 ^ bit) (b / 2 ^ bit) in
+    let l = differ-lt (bitAt a bit) (bitAt b bit) (bit-lt a bit) (bit-lt b bit) in
+    rw xor-shr (omega arith)
+  where
+    differ-lt : (x y : ℕ) → x < 2 → y < 2 → differ x y < 2
+    differ-lt zero y h l = l
+    differ-lt (suc zero) zero h l = h
+    differ-lt (suc zero) (suc zero) h l = omega arith
+    differ-lt (suc zero) (suc (suc y)) h l = absurd (omega arith)
+    differ-lt (suc (suc x)) y h l = absurd (omega arith)
+
+power-self : (k : ℕ) → bitAt (2 ^ k) k ≡ 1
+power-self k = ap (λ (x : ℕ). x % 2) (div-self (pow-pos k))
+
+power-other : (k bit : ℕ) → bit ≢ k → bitAt (2 ^ k) bit ≡ 0
+power-other k bit ne = ⊎-elim
+    (λ (l : bit < k).
+    let e : k ≡ suc (k - suc bit) + bit = omega arith in
+    rw (e, pow-add, shl-shr, pow-suc) (omega arith))
+    (λ (l : k ≤ bit). rw (div-eq-of-lt (pow-lt {i = k} {j = bit} (omega arith))))
+    (lt-cases bit k)
+
+pub flipped-power : (mask bit : ℕ) → Flipped mask bit (bitXor mask (2 ^ bit))
+flipped-power mask bit = record {
+  changed = xor-bit mask (2 ^ bit) bit ∙ ap (differ (bitAt mask bit)) (power-self bit) ∙ differ-one (bitAt mask bit) (bit-lt mask bit);
+  same = λ other ne. xor-bit mask (2 ^ bit) other ∙ ap (differ (bitAt mask other)) (power-other bit other ne) ∙ differ-zero (bitAt mask other);
+}
+  where
+    differ-one : (x : ℕ) → x < 2 → differ x 1 ≡ 1 - x
+    differ-one zero h = refl
+    differ-one (suc zero) h = refl
+    differ-one (suc (suc x)) h = absurd (omega arith)
+
+    differ-zero : (x : ℕ) → differ x 0 ≡ x
+    differ-zero zero = refl
+    differ-zero (suc x) = refl
+
+pub flipped-at : (masks : List ℕ) (at bit r : ℕ) → at < length masks → Flipped (getD masks at 0) bit r → FlippedAt masks at bit (set masks at r)
+flipped-at masks at bit r h f = record {
+  changed = rw (getD-set-same masks at r 0 h) (f .changed);
+  same = λ block other ne. ⊎-elim
+      (λ (q : block ≡ at). rw (q, getD-set-same masks at r 0 h) (f .same other (⊎-elim (λ (p : block ≢ at). absurd (p q)) (λ (p : other ≢ bit). p) ne)))
+      (λ (q : block ≢ at). rw (getD-set-other masks at block r 0 q))
+      (eq-cases block at);
+}

@@ -1,0 +1,18 @@
+use borrow.Author.Needs.{needs}
+use mathlib.Core.Path.{ap}
+use Prim.Native.Nat.{ℕ, _/_, _^_}
+use lib.Bits.{and-mask}
+use lib.Dec.{eqb}
+use Rattle.split.proofs.mask.has.Statement.{statement}
+use Rattle.split.proofs.mask.has.Tie as tie
+use Rattle.split.proofs.mask.has.Reads as reads
+use Rattle.split.proofs.mask.has.Lts as lts
+
+shr-result : tie.Need-shr-result
+shr-result c = search needs
+
+returns : tie.Need-returns
+returns c = ap (λ (x : ℕ). eqb x 1) (and-mask (c .args .mask / 2 ^ c .args .bit) 1)
+
+pub has-spec : {M : Type 1} → statement M
+has-spec = tie.close (tie.spec shr-result returns)

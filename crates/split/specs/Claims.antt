@@ -1,0 +1,47 @@
+-- What is claimed of the split, as types. The proofs are in proofs/, and `claims` of src/ asks for them.
+use mathlib.Core.Path.{_≡_}
+use mathlib.Core.Bool.{Bool, true, false}
+use mathlib.Core.List.{List, [], _∷_, map}
+use Prim.Native.Nat.{ℕ, _+_, _-_, _*_, _≤_, _<_}
+use lib.ListN.{length}
+use Rattle.flash.specs.Geometry.{Sizes, originalCount, setsLength}
+use Rattle.split.specs.OneToOne.{badList, isOneToOne}
+use Rattle.split.specs.Split.{isSplit}
+use Rattle.split.specs.Rule.{source, destination, blockAt, lowestUnused, pagesMet, setsGiven, splitByRule}
+use Rattle.split.specs.Answer.{splitRows, splitAnswer}
+
+-- "Every one-to-one list ends in a split."
+abbrev pub SplitEnds : Type 0
+SplitEnds =
+    (n m : ℕ) (list : List ℕ) → length list ≡ n * m → isOneToOne (n * m) list ≡ true → isSplit n m list (splitByRule n m list) ≡ true
+
+-- the pages that the walk for page k meets, within a bound
+unfoldable pub walkOf : (m : ℕ) → List ℕ → (k bound : ℕ) → List ℕ
+walkOf m list k bound =
+    let given = setsGiven m list k in
+    let a = lowestUnused m list given source (blockAt m list source k) in
+    let b = lowestUnused m list given destination (blockAt m list destination k) in
+    pagesMet m list given bound destination (blockAt m list destination k) a b
+
+-- The rule's walk is bounded by k, and a larger bound gives the same pages: the bound is never what stops it.
+abbrev pub WalkEnds : Type 0
+WalkEnds =
+    (n m : ℕ) (list : List ℕ) → length list ≡ n * m → isOneToOne (n * m) list ≡ true
+    → (k more : ℕ) → k < n * m → walkOf m list k (k + more) ≡ walkOf m list k k
+
+abbrev pub WalkIsShort : Type 0
+WalkIsShort =
+    (n m : ℕ) (list : List ℕ) → length list ≡ n * m → isOneToOne (n * m) list ≡ true
+    → (k : ℕ) → k < n * m → length (walkOf m list k k) ≤ 2 * n - 2
+
+-- What a split call filled passes the tests of run and read: their numbers 2, 3 and 4 are not given for it.
+abbrev pub FilledFits : Type 0
+FilledFits =
+    (Z : Sizes) (list sets : List ℕ) → splitAnswer Z list sets .number ≡ 0
+    → (length (splitAnswer Z list sets .sets) ≡ setsLength Z)
+    × (badList (originalCount Z) list ≡ false)
+    × (isSplit (Z .n) (Z .m) list (splitAnswer Z list sets .sets) ≡ true)
+
+-- "The lowest number that applies is returned": the numbers of the rows ascend, so the first row that fits has it.
+abbrev pub RowsAscend : Type 0
+RowsAscend = (Z : Sizes) (list sets : List ℕ) → map (λ row. row .gives) (splitRows Z list sets) ≡ 1 ∷ 2 ∷ 3 ∷ []

@@ -1,0 +1,25 @@
+-- Sets kept as masks: bit `set` of a 64-bit number tells of the set.
+use mathlib.Core.Path.{_≡_}
+use mathlib.Core.Logic.{_≢_, _⊎_}
+use mathlib.Core.List.{List}
+use Prim.Native.Nat.{ℕ, _-_, _/_, _%_, _^_}
+use lib.Dec.{eqb}
+use lib.ListN.{length, getD}
+use Rattle.flash.specs.Lists.{range, first}
+
+abbrev pub bitAt : (mask bit : ℕ) → ℕ
+bitAt mask bit = mask / 2 ^ bit % 2
+
+-- the lowest bit that is 0, or 64
+unfoldable pub lowestZero : (mask : ℕ) → ℕ
+lowestZero mask = first (λ bit. eqb (bitAt mask bit) 0) (range 0 64) 64
+
+-- r is the mask with one bit changed
+pub record Flipped (mask bit r : ℕ) : Type 0 where
+  pub changed : bitAt r bit ≡ 1 - bitAt mask bit
+  pub same : (other : ℕ) → other ≢ bit → bitAt r other ≡ bitAt mask other
+
+-- `after` is a table of masks, one a block, with one bit of one mask changed
+pub record FlippedAt (masks : List ℕ) (block bit : ℕ) (after : List ℕ) : Type 0 where
+  pub changed : bitAt (getD after block 0) bit ≡ 1 - bitAt (getD masks block 0) bit
+  pub same : (at other : ℕ) → (at ≢ block) ⊎ (other ≢ bit) → bitAt (getD after at 0) other ≡ bitAt (getD masks at 0) other

@@ -1,0 +1,37 @@
+// 64-bit masks: bit k tells of set k, or of entry k of a list.
+ghost use mathlib.Core.Path.{_≡_};
+ghost use Prim.Native.Nat.{_<_};
+ghost use lib.Dec.{eqb};
+ghost use lib.ListN.{length, getD};
+ghost use Rattle.split.specs.Mask.{bitAt, lowestZero, Flipped, FlippedAt};
+
+// The lowest set that is not in the mask; 64 if all are.
+pub fn lowest_free(mask: u64) -> usize
+    ensures { λ r. ⌜ r ≡ lowestZero mask ⌝ }
+{
+    u64::trailing_zeros(!mask) as usize
+}
+
+pub fn has(mask: u64, bit: usize) -> bool
+    requires { ⌜ bit < 64 ⌝ }
+    ensures { λ r. ⌜ r ≡ eqb (bitAt mask bit) 1 ⌝ }
+{
+    (mask >> bit) & 1 == 1
+}
+
+pub fn flipped(mask: u64, bit: usize) -> u64
+    requires { ⌜ bit < 64 ⌝ }
+    ensures { λ r. ⌜ Flipped mask bit r ⌝ }
+{
+    mask ^ (1u64 << bit)
+}
+
+// Flips a bit of one mask of a table; whether it was set.
+pub fn flip(masks: &mut [u64], at: usize, bit: usize) -> bool
+    requires { ⌜ (at < length (now masks)) × (bit < 64) ⌝ }
+    ensures { λ r. ⌜ (r ≡ eqb (bitAt (getD (now (masks .entry)) at 0) bit) 1) × FlippedAt (now (masks .entry)) at bit (now (masks .exit)) ⌝ }
+{
+    let mask = masks[at];
+    masks[at] = flipped(mask, bit);
+    has(mask, bit)
+}
