@@ -6,6 +6,12 @@ pub mod Slots
 pub mod Orbit
 pub mod Cycles
 pub mod Tops
+pub mod Each
+pub mod Walks
+pub mod Bounds
+pub mod Stored
+pub mod CodedWalks
+pub mod Reading
 pub mod Cases
 pub mod MendLines
 pub mod Refusals
