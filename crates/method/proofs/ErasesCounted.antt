@@ -14,7 +14,7 @@ use Rattle.flash.specs.Geometry.{Sizes}
 use Rattle.flash.proofs.Bools.{bool-cases}
 use Rattle.flash.proofs.Searches.{count-append, count-none}
 use Rattle.flash.proofs.Ranges.{none-is, one-counted}
-use Rattle.flash.proofs.Sizes.{in-range}
+use Rattle.flash.proofs.Bounds.{in-range}
 use Rattle.method.specs.Move.{Move}
 use Rattle.method.specs.Place.{Pass, forward, backward, write, erase, writes, forwardTurn, backwardTurn, operations, lastPlace}
 use Rattle.method.specs.Step.{tally, operationsFrom}

@@ -6,7 +6,7 @@ use Prim.Native.Nat.{ℕ, _+_, _*_, _≤_, _<_}
 use native.Mathlib.Omega.{arith}
 use Rattle.flash.specs.Geometry.{Sizes, slot}
 use Rattle.flash.specs.Chip.{markAt}
-use Rattle.flash.proofs.Sizes.{in-range}
+use Rattle.flash.proofs.Bounds.{in-range}
 use Rattle.method.specs.Place.{Pass, forward, backward, lastPlace, passAt, filling, filled, blank, plain, code, written, above, heldAt}
 use Rattle.method.specs.Claims.{PlacesDiffer}
 use Rattle.method.proofs.Indexes.{clash, Order, less, same, more, order}
