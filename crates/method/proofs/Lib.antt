@@ -21,6 +21,7 @@ pub mod Runs
 pub mod Held
 pub mod PlaceShape
 pub mod Advance
+pub mod Writing
 pub mod PlacesDiffer
 pub mod Tallies
 pub mod ErasesCounted
