@@ -1,12 +1,32 @@
--- Elements of lists by their index, and an index taken apart into block and page, or into turn and step.
+-- Numbers as indexes: two in order, one taken apart into block and page or into turn and step, and elements of lists by index.
 use mathlib.Core.Path.{_≡_, ap, _∙_}
+use mathlib.Core.Logic.{⊎-elim}
+use mathlib.Core.Bool.{true, false}
 use mathlib.Core.List.{List, [], _∷_, map}
 use Prim.Native.Nat.{ℕ, zero, suc, _+_, _-_, _*_, _/_, _%_, _<_}
 use native.Mathlib.Nat.{not-suc-le-zero, le-of-suc-le-suc, mul-add-div-right, div-eq-of-lt, mul-add-mod-self-right, mod-eq-of-lt, add-zero, mul-le-mul-right, suc-mul}
 use native.Mathlib.Omega.{arith}
+use lib.Dec.{ltb}
 use lib.ListN.{length, getD, List·getD-append}
 use lib.Seq.{getD-append-add}
+use borrow.Author.Tests.{ltb-true, ltb-false}
 use Rattle.flash.specs.Lists.{range, downFrom, concatMap}
+use Rattle.flash.proofs.Bools.{bool-cases}
+
+-- two numbers in order
+pub data Order (a b : ℕ) : Type 0 where
+  less : a < b → Order a b
+  same : a ≡ b → Order a b
+  more : b < a → Order a b
+
+pub order : (a b : ℕ) → Order a b
+order a b = ⊎-elim
+    (λ (e : ltb a b ≡ true). less (ltb-true a b e))
+    (λ (e : ltb a b ≡ false). ⊎-elim
+    (λ (f : ltb b a ≡ true). more (ltb-true b a f))
+    (λ (f : ltb b a ≡ false). same (omega (arith, ltb-false a b e, ltb-false b a f)))
+    (bool-cases (ltb b a)))
+    (bool-cases (ltb a b))
 
 pub slot-div : (size b j : ℕ) → j < size → (b * size + j) / size ≡ b
 slot-div size b j h = mul-add-div-right (omega arith) b j ∙ ap (λ (x : ℕ). b + x) (div-eq-of-lt h) ∙ add-zero b

@@ -11,3 +11,5 @@ pub mod MendLines
 pub mod Refusals
 pub mod Steps
 pub mod Places
+pub mod Held
+pub mod PlaceShape
