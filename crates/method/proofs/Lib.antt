@@ -13,3 +13,5 @@ pub mod Steps
 pub mod Places
 pub mod Held
 pub mod PlaceShape
+pub mod Turns
+pub mod Moments

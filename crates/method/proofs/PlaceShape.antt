@@ -24,7 +24,7 @@ module _ (Z : Sizes) where
   edge-in forward b h = h
   edge-in backward b h = h
 
-  mark-above : (pass : Pass) → heldMark Z (above pass) ≡ letter Z (letterAbove pass)
+  pub mark-above : (pass : Pass) → heldMark Z (above pass) ≡ letter Z (letterAbove pass)
   unfolding heldMark above
   mark-above forward = refl
   mark-above backward = refl
