@@ -15,3 +15,6 @@ pub mod Held
 pub mod PlaceShape
 pub mod Turns
 pub mod Moments
+pub mod Fades
+pub mod Readings
+pub mod Recovery
