@@ -26,3 +26,9 @@ pub mod PlacesDiffer
 pub mod Tallies
 pub mod ErasesCounted
 pub mod PagesRise
+pub mod Turns
+pub mod Moments
+pub mod Fades
+pub mod Readings
+pub mod Recovery
+pub mod Standing
