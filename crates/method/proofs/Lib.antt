@@ -32,3 +32,4 @@ pub mod Fades
 pub mod Readings
 pub mod Recovery
 pub mod Standing
+pub mod Keeping
