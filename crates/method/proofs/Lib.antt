@@ -34,3 +34,4 @@ pub mod Recovery
 pub mod Standing
 pub mod Keeping
 pub mod States
+pub mod Rest
