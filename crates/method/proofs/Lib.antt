@@ -35,3 +35,4 @@ pub mod Standing
 pub mod Keeping
 pub mod States
 pub mod Rest
+pub mod RunClaims

@@ -15,6 +15,7 @@ use Rattle.method.specs.Place.{Pass, Operation, write, erase, done, oper
 use Rattle.method.specs.Step.{tally, operationsFrom}
 use Rattle.method.specs.Mend.{Reading, lines}
 use Rattle.method.specs.Answers.{runRows, mendRows, readRows}
+use Rattle.method.specs.Runs.{RunsAddUp, StatesReached}
 use Rattle.method.specs.Cases.{CasesHold}
 
 -- "There are 2 × n × (m + 1) steps"
@@ -67,6 +68,8 @@ pub record LowestReturned : Type 0 where
 
 pub record Claims : Type 0 where
   pub cases : CasesHold
+  pub runs : RunsAddUp
+  pub states : StatesReached
   pub steps : StepsCounted
   pub places : PlacesDiffer
   pub erases : ErasesCounted

@@ -7,5 +7,6 @@ pub mod Step
 pub mod Cut
 pub mod Mend
 pub mod Answers
+pub mod Runs
 pub mod Cases
 pub mod Claims
