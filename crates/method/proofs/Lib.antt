@@ -18,3 +18,4 @@ pub mod Moments
 pub mod Fades
 pub mod Readings
 pub mod Recovery
+pub mod Cuts

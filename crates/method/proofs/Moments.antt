@@ -12,15 +12,16 @@ use lib.ListN.{length}
 use borrow.Author.Tests.{eqb-true, eqb-false, lt-ltb}
 use Rattle.flash.specs.Lists.{all}
 use Rattle.flash.specs.Geometry.{Sizes, isLetter, slot, marksLength}
-use Rattle.flash.specs.Chip.{erased, isMark, markAt}
+use Rattle.flash.specs.Chip.{Chip, erased, isMark, markAt}
 use Rattle.flash.proofs.Bools.{bool-cases}
 use Rattle.flash.proofs.Searches.{all-of}
-use Rattle.method.specs.Move.{letter}
+use Rattle.method.specs.Move.{Move, letter}
 use Rattle.method.specs.Place.{Pass, forward, backward, lastPlace, passAt, filling, filled, Held, blank, plain, code, final, above, heldAt, heldMark}
 use Rattle.method.proofs.Indexes.{Order, less, same, more, order, each-slot}
 use Rattle.method.proofs.Shape.{Shape}
-use Rattle.method.proofs.Places.{Stands, page-cases, filling-in}
-use Rattle.method.proofs.Held.{edge, MarksAt, held-below, held-above, held-blank}
+use Rattle.method.proofs.Accepting.{StandsAt}
+use Rattle.method.proofs.Places.{Stands, page-cases, filling-in, last-stands}
+use Rattle.method.proofs.Held.{edge, MarksAt, marksOf-at, held-below, held-above, held-blank}
 use Rattle.method.proofs.PlaceShape.{letterAbove, mark-above, shape-of, shape-full}
 use Rattle.method.proofs.Turns.{turn, resumesAt, resumes-start, resumes-there, start-stands}
 
@@ -65,15 +66,15 @@ module _ (Z : Sizes) where
       go (more l) = held-above Z place b q l ∙ ap above e ∙ sym (held-above Z other b q (omega arith))
 
   module _ (place : ℕ) (in-move : place ≤ lastPlace Z) (marks : List ℕ) (A : MarksAt Z place marks) where
-    legal : all isMark marks ≡ true
-    legal = all-legal marks (A .length-is) (λ b q h k. rw (A .mark-is b q h k) (mark-legal (heldAt Z place b q)))
+    pub marks-legal : all isMark marks ≡ true
+    marks-legal = all-legal marks (A .length-is) (λ b q h k. rw (A .mark-is b q h k) (mark-legal (heldAt Z place b q)))
 
     filling-moment : filled Z place < m → (start : ℕ) → start ≤ lastPlace Z → Stands Z start (passAt Z place) (filling Z place) 0 → Moment marks start
     unfolding heldMark
     filling-moment k start h S = record {
       in-move = h;
       marks-length = A .length-is;
-      legal = legal;
+      legal = marks-legal;
       others = λ b q apart l r.
           A .mark-is b q l r
           ∙ ap (heldMark Z) (held-around place start (sym (S .pass-is)) (sym (S .block-is)) b q (λ e. apart (e ∙ sym (S .block-is))));
@@ -88,7 +89,7 @@ module _ (Z : Sizes) where
     full-moment k = record {
       in-move = in-move;
       marks-length = A .length-is;
-      legal = legal;
+      legal = marks-legal;
       others = λ b q apart. A .mark-is b q;
       own = whole k (λ q. A .mark-is (filling Z place) q (filling-in Z place in-move));
     }
@@ -101,6 +102,15 @@ module _ (Z : Sizes) where
         subst (Moment marks) (sym (resumes-start Z place k)) (filling-moment k (turn Z place * (m + 1)) start-in (start-stands Z place in-move)))
         (λ k. subst (Moment marks) (sym (resumes-there Z place k)) (full-moment k))
         (page-cases Z place)
+
+  -- ---- the end of the move
+  -- all data blocks are full of s + 2
+  pub finished-marks : (marks : List ℕ) → Moment marks (lastPlace Z) → (b q : ℕ) → 1 ≤ b → b ≤ n → q < m → markAt marks (slot m b q) ≡ letter Z 2
+  unfolding heldMark above
+  finished-marks marks M b q low h k =
+      let E = last-stands Z in
+      let at-end = E .block-is in
+      M .others b q (omega arith) h k ∙ ap (heldMark Z) (held-above Z (lastPlace Z) b q (omega arith) ∙ ap above (E .pass-is))
 
   -- ---- shapes
   module _ (marks : List ℕ) (place : ℕ) (M : Moment marks place) where
@@ -161,3 +171,8 @@ module _ (Z : Sizes) where
         shape = shape-full Z place (M .in-move) marks (moment-marks marks place M f) k;
         pass = letter-cases (passAt Z place);
       }
+
+-- a chip that stands at a place
+pub stands-moment : (M : Move) (chip : Chip) (place : ℕ) → StandsAt M chip place → Moment (M .sizes) (chip .marks) (resumesAt (M .sizes) place)
+stands-moment M chip place S =
+    place-moment (M .sizes) place (S .inside) (chip .marks) (subst (MarksAt (M .sizes) place) (sym (S .marks)) (marksOf-at (M .sizes) place))

@@ -26,7 +26,8 @@ use Rattle.method.proofs.Shape.{Shape}
 use Rattle.method.proofs.Accepting.{StandsAt}
 use Rattle.method.proofs.Held.{MarksAt, held-blank, marks-eq}
 use Rattle.method.proofs.PlaceShape.{letterAbove, shape-full}
-use Rattle.method.proofs.Moments.{Moment}
+use Rattle.method.proofs.Turns.{resumes-begun}
+use Rattle.method.proofs.Moments.{Moment, place-moment}
 use Rattle.method.proofs.Readings.{Finds, torn, full, finds}
 use Rattle.method.proofs.Fades.{Fades, fades-refl, erase-fades}
 
@@ -50,6 +51,7 @@ pub record Recovered (M : Move) (chip : Chip) (place : ℕ) (answer : MendAnswer
   pub number-is : answer .number ≡ 0
   pub place-is : answer .place ≡ place
   pub stands : StandsAt M (answer .chip) place
+  pub moment : Moment (M .sizes) (answer .chip .marks) place
   pub store-length : length (answer .chip .store) ≡ storeLength (M .sizes)
   pub marks-length : length (answer .chip .marks) ≡ marksLength (M .sizes)
   pub fades : Fades (M .sizes) chip (answer .chip)
@@ -143,6 +145,7 @@ module _ (M : Move) (B : Bounds (M .sizes)) (chip : Chip) (store-length : length
       number-is = refl;
       place-is = refl;
       stands = stands-torn;
+      moment = subst (Moment Z (left .marks)) (resumes-begun Z place z) (place-moment Z place (C .in-move) (left .marks) left-marks);
       store-length = erase-store-length m P b chip store-fits marks-fit ∙ store-length;
       marks-length = left-marks .length-is;
       fades = erase-fades Z b chip (S .inside) store-length (C .marks-length);
@@ -153,6 +156,7 @@ module _ (M : Move) (B : Bounds (M .sizes)) (chip : Chip) (store-length : length
     number-is = refl;
     place-is = refl;
     stands = stands-full k A;
+    moment = C;
     store-length = store-length;
     marks-length = C .marks-length;
     fades = fades-refl Z chip;
