@@ -17,7 +17,7 @@ use Rattle.flash.proofs.Bounds.{slot-in-marks}
 use Rattle.split.proofs.Pigeon.{seek}
 use Rattle.method.specs.Place.{Pass, write, erase, lastPlace, operationAt, passAt, filling, filled, heldAt, heldMark, marksOf}
 use Rattle.method.specs.Cut.{touches, Kept, Torn, CutInside}
-use Rattle.method.proofs.Indexes.{slot-div}
+use Rattle.method.proofs.Indexes.{this-or-other, slot-div}
 use Rattle.method.proofs.Places.{nextBlock, filling-in, Turned, after-erase}
 use Rattle.method.proofs.Held.{MarksAt, marksOf-at, Writes, Erases, Change, by-write, by-erase, change}
 use Rattle.method.proofs.Turns.{resumesAt}
@@ -115,15 +115,12 @@ module _ (Z : Sizes) where
       unharmed f = record {
         length-is = C .marks-length;
         mark-is = λ b q h l.
-            ⊎-elim
-            (λ (e : eqb b next ≡ true).
-            subst (λ (x : ℕ). markAt (left .marks) (slot m x q) ≡ heldMark Z (heldAt Z place x q)) (sym (eqb-true b next e))
+            this-or-other (λ x. markAt (left .marks) (slot m x q) ≡ heldMark Z (heldAt Z place x q)) next b
             (⊎-elim
             (λ x. x ∙ A .mark-is next q (E .block-in) l)
             (λ x. absurd (eqb-false _ _ (f q l) x))
-            (cut-own next before left C q (E .block-in) l)))
-            (λ (e : eqb b next ≡ false). cut-other next before left C b q (eqb-false b next e) h l ∙ A .mark-is b q h l)
-            (bool-cases (eqb b next));
+            (cut-own next before left C q (E .block-in) l))
+            (λ apart. cut-other next before left C b q apart h l ∙ A .mark-is b q h l);
       }
 
       -- some was: the block is torn, and filled next

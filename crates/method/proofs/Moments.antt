@@ -2,22 +2,20 @@
 -- a mend, which the marks tell (Recovery).
 use mathlib.Core.Path.{_≡_, refl, sym, ap, _∙_, subst}
 use mathlib.Core.Logic.{_⊎_, inl, inr, _≢_, ⊎-elim}
-use mathlib.Core.Bool.{true, false}
+use mathlib.Core.Bool.{true}
 use mathlib.Core.List.{List}
 use Prim.Native.Nat.{ℕ, suc, _+_, _*_, _≤_, _<_}
 use native.Mathlib.Nat.{div-add-mod'}
 use native.Mathlib.Omega.{arith}
-use lib.Dec.{eqb}
 use lib.ListN.{length}
-use borrow.Author.Tests.{eqb-true, eqb-false, lt-ltb}
+use borrow.Author.Tests.{lt-ltb}
 use Rattle.flash.specs.Lists.{all}
 use Rattle.flash.specs.Geometry.{Sizes, isLetter, slot, marksLength}
 use Rattle.flash.specs.Chip.{Chip, erased, isMark, markAt}
-use Rattle.flash.proofs.Bools.{bool-cases}
 use Rattle.flash.proofs.Searches.{all-of}
 use Rattle.method.specs.Move.{Move, letter}
 use Rattle.method.specs.Place.{Pass, forward, backward, lastPlace, passAt, filling, filled, Held, blank, plain, code, final, above, heldAt, heldMark}
-use Rattle.method.proofs.Indexes.{Order, less, same, more, order, each-slot}
+use Rattle.method.proofs.Indexes.{Order, less, same, more, order, this-or-other, each-slot}
 use Rattle.method.proofs.Shape.{Shape}
 use Rattle.method.proofs.Accepting.{StandsAt}
 use Rattle.method.proofs.Places.{Stands, page-cases, filling-in, last-stands}
@@ -119,11 +117,7 @@ module _ (Z : Sizes) where
     moment-marks f = record {
       length-is = M .marks-length;
       mark-is = λ b q h k.
-          ⊎-elim
-          (λ (e : eqb b (filling Z place) ≡ true).
-          subst (λ (c : ℕ). markAt marks (slot m c q) ≡ heldMark Z (heldAt Z place c q)) (sym (eqb-true b (filling Z place) e)) (f q k))
-          (λ (e : eqb b (filling Z place) ≡ false). M .others b q (eqb-false b (filling Z place) e) h k)
-          (bool-cases (eqb b (filling Z place)));
+          this-or-other (λ c. markAt marks (slot m c q) ≡ heldMark Z (heldAt Z place c q)) (filling Z place) b (f q k) (λ apart. M .others b q apart h k);
     }
 
     pub shape-unfinished : (q : ℕ) → q < m → markAt marks (slot m (filling Z place) q) ≡ erased → Shape Z marks (filling Z place) (suc (filling Z place)) (letterAbove (passAt Z place))
