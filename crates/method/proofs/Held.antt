@@ -18,7 +18,7 @@ use Rattle.flash.proofs.Ranges.{length-range}
 use Rattle.method.specs.Move.{letter}
 use Rattle.method.specs.Place.{Pass, forward, backward, write, erase, markOf, lastPlace, operationAt, passAt, filling, filled, Held, blank, plain, code, final, written, above, heldAt, heldMark, marksOf}
 use Rattle.method.proofs.Indexes.{Order, less, same, more, order, slot-div, slot-mod, slot-lt, map-range-at}
-use Rattle.method.proofs.Places.{nextBlock, Stands, Turned, page-cases, filling-in, after-write, after-erase, operation-writes, operation-erases}
+use Rattle.method.proofs.Places.{nextBlock, Fills, Stands, Turned, located, page-cases, filling-in, after-write, after-erase, operation-writes, operation-erases}
 
 -- How many blocks are full of code when block b has been filled. The block erased next lies at the edge.
 abbrev pub edge : Pass → (b : ℕ) → ℕ
@@ -80,6 +80,13 @@ module _ (Z : Sizes) where
       stays c p apart (same e) (less l) = held-written (suc place) c p (omega (arith, S .block-is)) (omega (arith, S .pages-is)) ∙ ap written (S .pass-is) ∙ sym (held-written place c p e l)
       stays c p apart (same e) (same f) = absurd (apart e f)
       stays c p apart (same e) (more l) = held-blank (suc place) c p (omega (arith, S .block-is)) (omega (arith, S .pages-is)) ∙ sym (held-blank place c p e (omega arith))
+
+  pub edge-in : (place : ℕ) → place ≤ lastPlace Z → edge (passAt Z place) (filling Z place) ≤ n
+  edge-in place h = within (passAt Z place) (filling Z place) (located Z place h .fills)
+    where
+      within : (pass : Pass) (b : ℕ) → Fills Z pass b → edge pass b ≤ n
+      within forward b f = f
+      within backward b f = f
 
   -- Before an erase every block is full: of code below an edge, and from there on of what lies above in this pass.
   module _ (place : ℕ) (k : filled Z place ≡ m) (c p : ℕ) (inside : p < m) where

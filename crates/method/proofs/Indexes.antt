@@ -13,6 +13,10 @@ use borrow.Author.Tests.{eqb-true, eqb-false, ltb-true, ltb-false}
 use Rattle.flash.specs.Lists.{range, downFrom, concatMap}
 use Rattle.flash.proofs.Bools.{bool-cases}
 
+-- what two different values would prove if they were equal
+pub clash : _≡_ {A = ℕ} 0 1 → ⊥
+clash e = omega arith
+
 -- two numbers in order
 pub data Order (a b : ℕ) : Type 0 where
   less : a < b → Order a b

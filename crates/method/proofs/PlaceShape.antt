@@ -9,8 +9,8 @@ use Rattle.flash.proofs.Blocks.{full-of, not-full}
 use Rattle.method.specs.Move.{letter}
 use Rattle.method.specs.Place.{Pass, forward, backward, lastPlace, passAt, filling, filled, above, heldMark}
 use Rattle.method.proofs.Shape.{Shape}
-use Rattle.method.proofs.Places.{Fills, located, filling-in}
-use Rattle.method.proofs.Held.{edge, MarksAt, held-below, held-above, held-blank, held-full-below, held-full-above}
+use Rattle.method.proofs.Places.{filling-in}
+use Rattle.method.proofs.Held.{edge, edge-in, MarksAt, held-below, held-above, held-blank, held-full-below, held-full-above}
 
 -- what marks the blocks above the one that a pass fills: s + 0, s + 2
 abbrev pub letterAbove : Pass → ℕ
@@ -19,10 +19,6 @@ letterAbove backward = 2
 
 module _ (Z : Sizes) where
   open Sizes Z using (n, m)
-
-  edge-in : (pass : Pass) (b : ℕ) → Fills Z pass b → edge pass b ≤ n
-  edge-in forward b h = h
-  edge-in backward b h = h
 
   pub mark-above : (pass : Pass) → heldMark Z (above pass) ≡ letter Z (letterAbove pass)
   unfolding heldMark above
@@ -71,7 +67,7 @@ module _ (Z : Sizes) where
     unfolding heldMark
     shape-full k =
         let at : ℕ = edge (passAt Z place) (filling Z place) in
-        let inside : at ≤ n = edge-in (passAt Z place) (filling Z place) (located Z place in-move .fills) in
+        let inside : at ≤ n = edge-in Z place in-move in
         shape-of marks at at (letterAbove (passAt Z place))
         (record {
           below = λ b q h l. A .mark-is b q (omega arith) l ∙ ap (heldMark Z) (held-full-below Z place k b q l h);

@@ -1,0 +1,16 @@
+-- The operation at a place, as the code answers it.
+use mathlib.Core.Bool.{Bool, true, false}
+use Rattle.flash.specs.Geometry.{Sizes}
+use Rattle.method.specs.Place.{Pass, forward, backward, Operation, write, erase, done, markOf}
+use Rattle.mover.specs.declared.place.Op.{Op}
+use Rattle.mover.specs.declared.place.Op.the-variants.{Write, Erase, Done}
+
+abbrev pub isBackward : Pass → Bool
+isBackward forward = false
+isBackward backward = true
+
+-- the document's step, with the mark that a write has
+abbrev pub opOf : Sizes → Operation → Op
+opOf Z (write pass block page) = Write (isBackward pass) block page (markOf Z pass)
+opOf Z (erase block) = Erase block
+opOf Z done = Done
