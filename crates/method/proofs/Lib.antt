@@ -29,7 +29,7 @@ pub mod PagesRise
 pub mod Turns
 pub mod Moments
 pub mod Fades
-pub mod Readings
+pub mod MendFinds
 pub mod Recovery
 pub mod Cuts
 pub mod Standing

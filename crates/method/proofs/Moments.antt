@@ -1,7 +1,7 @@
 -- Moments of a move: the marks that places have, and those that cuts leave. A moment goes by the place where the move goes on after
 -- a mend, which the marks tell (Recovery).
 use mathlib.Core.Path.{_≡_, refl, sym, ap, _∙_, subst}
-use mathlib.Core.Logic.{_⊎_, inl, inr, _≢_, ⊎-elim}
+use mathlib.Core.Logic.{_⊎_, _≢_, ⊎-elim}
 use mathlib.Core.Bool.{true}
 use mathlib.Core.List.{List}
 use Prim.Native.Nat.{ℕ, suc, _+_, _*_, _≤_, _<_}
@@ -14,13 +14,13 @@ use Rattle.flash.specs.Geometry.{Sizes, isLetter, slot, marksLength}
 use Rattle.flash.specs.Chip.{Chip, erased, isMark, markAt}
 use Rattle.flash.proofs.Searches.{all-of}
 use Rattle.method.specs.Move.{Move, letter}
-use Rattle.method.specs.Place.{Pass, forward, backward, lastPlace, passAt, filling, filled, Held, blank, plain, code, final, above, heldAt, heldMark}
+use Rattle.method.specs.Place.{lastPlace, passAt, filling, filled, Held, blank, plain, code, final, above, heldAt, heldMark}
 use Rattle.method.proofs.Indexes.{Order, less, same, more, order, this-or-other, each-slot}
 use Rattle.method.proofs.Shape.{Shape}
 use Rattle.method.proofs.Accepting.{StandsAt}
 use Rattle.method.proofs.Places.{Stands, page-cases, filling-in, last-stands}
 use Rattle.method.proofs.Held.{edge, MarksAt, marksOf-at, held-below, held-above, held-blank}
-use Rattle.method.proofs.PlaceShape.{letterAbove, mark-above, shape-of, shape-full}
+use Rattle.method.proofs.PlaceShape.{letterAbove, which-pass, mark-above, shape-of, shape-full}
 use Rattle.method.proofs.Turns.{turn, resumesAt, resumes-start, resumes-there, start-stands}
 
 module _ (Z : Sizes) where
@@ -143,10 +143,6 @@ module _ (Z : Sizes) where
     pub shape : Shape Z marks low high i
     pub pass : (i ≡ 0) ⊎ (i ≡ 2)
 
-  letter-cases : (pass : Pass) → (letterAbove pass ≡ 0) ⊎ (letterAbove pass ≡ 2)
-  letter-cases forward = inl refl
-  letter-cases backward = inr refl
-
   pub moment-shape : (marks : List ℕ) (place : ℕ) → Moment marks place → Shaped marks
   moment-shape marks place M = go (M .own)
     where
@@ -156,14 +152,14 @@ module _ (Z : Sizes) where
         high = suc (filling Z place);
         i = letterAbove (passAt Z place);
         shape = shape-unfinished marks place M q k hole;
-        pass = letter-cases (passAt Z place);
+        pass = which-pass (passAt Z place);
       }
       go (whole k f) = record {
         low = edge (passAt Z place) (filling Z place);
         high = edge (passAt Z place) (filling Z place);
         i = letterAbove (passAt Z place);
         shape = shape-full Z place (M .in-move) marks (moment-marks marks place M f) k;
-        pass = letter-cases (passAt Z place);
+        pass = which-pass (passAt Z place);
       }
 
 -- a chip that stands at a place

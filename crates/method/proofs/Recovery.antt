@@ -25,7 +25,7 @@ use Rattle.method.proofs.Held.{MarksAt, held-blank, marks-eq}
 use Rattle.method.proofs.PlaceShape.{letterAbove, shape-full}
 use Rattle.method.proofs.Turns.{resumes-begun}
 use Rattle.method.proofs.Moments.{Moment, place-moment}
-use Rattle.method.proofs.Readings.{Finds, torn, full, finds}
+use Rattle.method.proofs.MendFinds.{Finds, torn, full, finds}
 use Rattle.method.proofs.Fades.{Fades, fades-refl, erase-fades}
 
 -- only the block between has pages that are not written
