@@ -5,9 +5,9 @@ use mathlib.Core.Bool.{true, false}
 use mathlib.Core.List.{List}
 use Prim.Native.Nat.{ℕ, _+_, _*_, _≤_, _<_}
 use native.Mathlib.Omega.{arith}
-use lib.Dec.{eqb, ltb}
+use lib.Dec.{ltb}
 use lib.ListN.{length, List·getD-eq-default}
-use borrow.Author.Tests.{eqb-true, eqb-false, eq-eqb, ltb-true, ltb-false}
+use borrow.Author.Tests.{eqb-true, eq-eqb, ltb-true, ltb-false}
 use Rattle.flash.specs.Geometry.{Sizes, slotCount, storeLength, marksLength}
 use Rattle.flash.specs.Chip.{Chip, erased, pageAt, markAt, eraseBlock}
 use Rattle.flash.proofs.Bools.{bool-cases}
@@ -16,7 +16,7 @@ use Rattle.flash.proofs.Chips.{erase-marks-length, erase-mark, erase-page-other
 use Rattle.method.specs.Move.{Move, letter}
 use Rattle.method.specs.Place.{Operation, write, erase, done}
 use Rattle.method.specs.Cut.{isTornMark, touches, Kept, Torn, Touched, CutInside}
-use Rattle.method.proofs.Indexes.{each-slot}
+use Rattle.method.proofs.Indexes.{this-or-other, each-slot}
 use Rattle.method.proofs.Shape.{Holding}
 
 module _ (Z : Sizes) where
@@ -79,16 +79,14 @@ module _ (Z : Sizes) where
       fades-of chip (eraseBlock m P block chip) (erase-marks-length m P block chip store-fits marks-fit ∙ marks-length)
       (each-slot m (n + 1) (λ t. Kept Z chip (eraseBlock m P block chip) t ⊎ Torn Z (eraseBlock m P block chip) t)
       (λ b q l k.
-      ⊎-elim
-      (λ (e : eqb b block ≡ true).
-      rw (eqb-true b block e) (inr (torn-of (eraseBlock m P block chip) (block * m + q) (erase-mark m P block chip store-fits marks-fit q k))))
-      (λ (e : eqb b block ≡ false).
+      this-or-other (λ x. Kept Z chip (eraseBlock m P block chip) (x * m + q) ⊎ Torn Z (eraseBlock m P block chip) (x * m + q)) block b
+      (inr (torn-of (eraseBlock m P block chip) (block * m + q) (erase-mark m P block chip store-fits marks-fit q k)))
+      (λ apart.
       inl
       (record {
-        mark = erase-mark-other m P block chip store-fits marks-fit q k b (eqb-false b block e);
-        page = erase-page-other m P block chip store-fits marks-fit q k b (eqb-false b block e);
-      }))
-      (bool-cases (eqb b block))))
+        mark = erase-mark-other m P block chip store-fits marks-fit q k b apart;
+        page = erase-page-other m P block chip store-fits marks-fit q k b apart;
+      }))))
 
   -- a page that has a letter still is as it was
   pub letter-kept : (before after : Chip) → Fades before after → (i t : ℕ) → markAt (after .marks) t ≡ letter Z i → Kept Z before after t

@@ -1,15 +1,15 @@
 -- Numbers as indexes: two in order, one taken apart into block and page or into turn and step, and elements of lists by index.
-use mathlib.Core.Path.{_≡_, ap, _∙_, subst}
-use mathlib.Core.Logic.{⊎-elim}
+use mathlib.Core.Path.{_≡_, sym, ap, _∙_, subst}
+use mathlib.Core.Logic.{_≢_, ⊎-elim}
 use mathlib.Core.Bool.{true, false}
 use mathlib.Core.List.{List, [], _∷_, map}
 use Prim.Native.Nat.{ℕ, zero, suc, _+_, _-_, _*_, _/_, _%_, _<_}
 use native.Mathlib.Nat.{not-suc-le-zero, le-of-suc-le-suc, mul-add-div-right, div-eq-of-lt, mul-add-mod-self-right, mod-eq-of-lt, add-zero, mul-le-mul-right, suc-mul, div-add-mod', mod-lt, div-lt-iff-lt-mul}
 use native.Mathlib.Omega.{arith}
-use lib.Dec.{ltb}
+use lib.Dec.{eqb, ltb}
 use lib.ListN.{length, getD, List·getD-append}
 use lib.Seq.{getD-append-add}
-use borrow.Author.Tests.{ltb-true, ltb-false}
+use borrow.Author.Tests.{eqb-true, eqb-false, ltb-true, ltb-false}
 use Rattle.flash.specs.Lists.{range, downFrom, concatMap}
 use Rattle.flash.proofs.Bools.{bool-cases}
 
@@ -40,6 +40,13 @@ slot-mod size b j h = mul-add-mod-self-right b size j ∙ mod-eq-of-lt h
 
 pub slot-lt : (size b j count : ℕ) → b < count → j < size → b * size + j < count * size
 slot-lt size b j count h l = omega (arith, mul-le-mul-right size h, suc-mul b size)
+
+-- what holds of one number, and of each other, holds of all
+pub this-or-other : (P : ℕ → Type 0) (a b : ℕ) → P a → (b ≢ a → P b) → P b
+this-or-other P a b here there = ⊎-elim
+    (λ (e : eqb b a ≡ true). subst P (sym (eqb-true b a e)) here)
+    (λ (e : eqb b a ≡ false). there (eqb-false b a e))
+    (bool-cases (eqb b a))
 
 -- what holds of page j of block b, for each of them, holds of each slot
 pub each-slot : (size count : ℕ) (P : ℕ → Type 0) → ((b j : ℕ) → b < count → j < size → P (b * size + j)) → (t : ℕ) → t < count * size → P t

@@ -29,8 +29,9 @@ pub mod PagesRise
 pub mod Turns
 pub mod Moments
 pub mod Fades
-pub mod Readings
+pub mod MendFinds
 pub mod Recovery
+pub mod Cuts
 pub mod Standing
 pub mod Keeping
 pub mod States

@@ -1,27 +1,26 @@
 -- Moments of a move: the marks that places have, and those that cuts leave. A moment goes by the place where the move goes on after
 -- a mend, which the marks tell (Recovery).
 use mathlib.Core.Path.{_≡_, refl, sym, ap, _∙_, subst}
-use mathlib.Core.Logic.{_⊎_, inl, inr, _≢_, ⊎-elim}
-use mathlib.Core.Bool.{true, false}
+use mathlib.Core.Logic.{_⊎_, _≢_, ⊎-elim}
+use mathlib.Core.Bool.{true}
 use mathlib.Core.List.{List}
 use Prim.Native.Nat.{ℕ, suc, _+_, _*_, _≤_, _<_}
 use native.Mathlib.Nat.{div-add-mod'}
 use native.Mathlib.Omega.{arith}
-use lib.Dec.{eqb}
 use lib.ListN.{length}
-use borrow.Author.Tests.{eqb-true, eqb-false, lt-ltb}
+use borrow.Author.Tests.{lt-ltb}
 use Rattle.flash.specs.Lists.{all}
 use Rattle.flash.specs.Geometry.{Sizes, isLetter, slot, marksLength}
-use Rattle.flash.specs.Chip.{erased, isMark, markAt}
-use Rattle.flash.proofs.Bools.{bool-cases}
+use Rattle.flash.specs.Chip.{Chip, erased, isMark, markAt}
 use Rattle.flash.proofs.Searches.{all-of}
-use Rattle.method.specs.Move.{letter}
-use Rattle.method.specs.Place.{Pass, forward, backward, lastPlace, passAt, filling, filled, Held, blank, plain, code, final, above, heldAt, heldMark}
-use Rattle.method.proofs.Indexes.{Order, less, same, more, order, each-slot}
+use Rattle.method.specs.Move.{Move, letter}
+use Rattle.method.specs.Place.{lastPlace, passAt, filling, filled, Held, blank, plain, code, final, above, heldAt, heldMark}
+use Rattle.method.proofs.Indexes.{Order, less, same, more, order, this-or-other, each-slot}
 use Rattle.method.proofs.Shape.{Shape}
-use Rattle.method.proofs.Places.{Stands, page-cases, filling-in}
-use Rattle.method.proofs.Held.{edge, MarksAt, held-below, held-above, held-blank}
-use Rattle.method.proofs.PlaceShape.{letterAbove, mark-above, shape-of, shape-full}
+use Rattle.method.proofs.Accepting.{StandsAt}
+use Rattle.method.proofs.Places.{Stands, page-cases, filling-in, last-stands}
+use Rattle.method.proofs.Held.{edge, MarksAt, marksOf-at, held-below, held-above, held-blank}
+use Rattle.method.proofs.PlaceShape.{letterAbove, which-pass, mark-above, shape-of, shape-full}
 use Rattle.method.proofs.Turns.{turn, resumesAt, resumes-start, resumes-there, start-stands}
 
 module _ (Z : Sizes) where
@@ -65,15 +64,15 @@ module _ (Z : Sizes) where
       go (more l) = held-above Z place b q l ∙ ap above e ∙ sym (held-above Z other b q (omega arith))
 
   module _ (place : ℕ) (in-move : place ≤ lastPlace Z) (marks : List ℕ) (A : MarksAt Z place marks) where
-    legal : all isMark marks ≡ true
-    legal = all-legal marks (A .length-is) (λ b q h k. rw (A .mark-is b q h k) (mark-legal (heldAt Z place b q)))
+    pub marks-legal : all isMark marks ≡ true
+    marks-legal = all-legal marks (A .length-is) (λ b q h k. rw (A .mark-is b q h k) (mark-legal (heldAt Z place b q)))
 
     filling-moment : filled Z place < m → (start : ℕ) → start ≤ lastPlace Z → Stands Z start (passAt Z place) (filling Z place) 0 → Moment marks start
     unfolding heldMark
     filling-moment k start h S = record {
       in-move = h;
       marks-length = A .length-is;
-      legal = legal;
+      legal = marks-legal;
       others = λ b q apart l r.
           A .mark-is b q l r
           ∙ ap (heldMark Z) (held-around place start (sym (S .pass-is)) (sym (S .block-is)) b q (λ e. apart (e ∙ sym (S .block-is))));
@@ -88,7 +87,7 @@ module _ (Z : Sizes) where
     full-moment k = record {
       in-move = in-move;
       marks-length = A .length-is;
-      legal = legal;
+      legal = marks-legal;
       others = λ b q apart. A .mark-is b q;
       own = whole k (λ q. A .mark-is (filling Z place) q (filling-in Z place in-move));
     }
@@ -102,6 +101,15 @@ module _ (Z : Sizes) where
         (λ k. subst (Moment marks) (sym (resumes-there Z place k)) (full-moment k))
         (page-cases Z place)
 
+  -- ---- the end of the move
+  -- all data blocks are full of s + 2
+  pub finished-marks : (marks : List ℕ) → Moment marks (lastPlace Z) → (b q : ℕ) → 1 ≤ b → b ≤ n → q < m → markAt marks (slot m b q) ≡ letter Z 2
+  unfolding heldMark above
+  finished-marks marks M b q low h k =
+      let E = last-stands Z in
+      let at-end = E .block-is in
+      M .others b q (omega arith) h k ∙ ap (heldMark Z) (held-above Z (lastPlace Z) b q (omega arith) ∙ ap above (E .pass-is))
+
   -- ---- shapes
   module _ (marks : List ℕ) (place : ℕ) (M : Moment marks place) where
     -- with no block unfinished, the marks are those of the place
@@ -109,11 +117,7 @@ module _ (Z : Sizes) where
     moment-marks f = record {
       length-is = M .marks-length;
       mark-is = λ b q h k.
-          ⊎-elim
-          (λ (e : eqb b (filling Z place) ≡ true).
-          subst (λ (c : ℕ). markAt marks (slot m c q) ≡ heldMark Z (heldAt Z place c q)) (sym (eqb-true b (filling Z place) e)) (f q k))
-          (λ (e : eqb b (filling Z place) ≡ false). M .others b q (eqb-false b (filling Z place) e) h k)
-          (bool-cases (eqb b (filling Z place)));
+          this-or-other (λ c. markAt marks (slot m c q) ≡ heldMark Z (heldAt Z place c q)) (filling Z place) b (f q k) (λ apart. M .others b q apart h k);
     }
 
     pub shape-unfinished : (q : ℕ) → q < m → markAt marks (slot m (filling Z place) q) ≡ erased → Shape Z marks (filling Z place) (suc (filling Z place)) (letterAbove (passAt Z place))
@@ -139,10 +143,6 @@ module _ (Z : Sizes) where
     pub shape : Shape Z marks low high i
     pub pass : (i ≡ 0) ⊎ (i ≡ 2)
 
-  letter-cases : (pass : Pass) → (letterAbove pass ≡ 0) ⊎ (letterAbove pass ≡ 2)
-  letter-cases forward = inl refl
-  letter-cases backward = inr refl
-
   pub moment-shape : (marks : List ℕ) (place : ℕ) → Moment marks place → Shaped marks
   moment-shape marks place M = go (M .own)
     where
@@ -152,12 +152,17 @@ module _ (Z : Sizes) where
         high = suc (filling Z place);
         i = letterAbove (passAt Z place);
         shape = shape-unfinished marks place M q k hole;
-        pass = letter-cases (passAt Z place);
+        pass = which-pass (passAt Z place);
       }
       go (whole k f) = record {
         low = edge (passAt Z place) (filling Z place);
         high = edge (passAt Z place) (filling Z place);
         i = letterAbove (passAt Z place);
         shape = shape-full Z place (M .in-move) marks (moment-marks marks place M f) k;
-        pass = letter-cases (passAt Z place);
+        pass = which-pass (passAt Z place);
       }
+
+-- a chip that stands at a place
+pub stands-moment : (M : Move) (chip : Chip) (place : ℕ) → StandsAt M chip place → Moment (M .sizes) (chip .marks) (resumesAt (M .sizes) place)
+stands-moment M chip place S =
+    place-moment (M .sizes) place (S .inside) (chip .marks) (subst (MarksAt (M .sizes) place) (sym (S .marks)) (marksOf-at (M .sizes) place))

@@ -1,5 +1,6 @@
 -- The shape of the marks that a place has.
 use mathlib.Core.Path.{_≡_, refl, ap, _∙_}
+use mathlib.Core.Logic.{_⊎_, inl, inr}
 use mathlib.Core.List.{List}
 use Prim.Native.Nat.{ℕ, suc, _≤_, _<_}
 use native.Mathlib.Omega.{arith}
@@ -16,6 +17,10 @@ use Rattle.method.proofs.Held.{edge, edge-in, MarksAt, held-below, held
 abbrev pub letterAbove : Pass → ℕ
 letterAbove forward = 0
 letterAbove backward = 2
+
+pub which-pass : (pass : Pass) → (letterAbove pass ≡ 0) ⊎ (letterAbove pass ≡ 2)
+which-pass forward = inl refl
+which-pass backward = inr refl
 
 module _ (Z : Sizes) where
   open Sizes Z using (n, m)

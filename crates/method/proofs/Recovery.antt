@@ -1,18 +1,15 @@
 -- Recovery: what mend answers at a moment. It leaves store and marks as a place has them, so a run from there is not refused.
 use mathlib.Core.Path.{_≡_, refl, sym, ap, _∙_, subst}
-use mathlib.Core.Logic.{⊎-elim}
 use mathlib.Core.Bool.{true, false, not}
 use mathlib.Core.Option.{some, none}
 use mathlib.Core.List.{List, []}
 use Prim.Native.Nat.{ℕ, suc, _+_, _*_, _≤_, _<_}
 use native.Mathlib.Omega.{arith}
-use lib.Dec.{eqb}
 use lib.ListN.{length}
-use borrow.Author.Tests.{eqb-true, eqb-false, eq-eqb}
+use borrow.Author.Tests.{eq-eqb}
 use Rattle.flash.specs.Tables.{refusal}
 use Rattle.flash.specs.Geometry.{Sizes, slot, storeLength, marksLength}
 use Rattle.flash.specs.Chip.{Chip, erased, markAt, isBlank, eraseBlock}
-use Rattle.flash.proofs.Bools.{bool-cases}
 use Rattle.flash.proofs.Blocks.{full-at}
 use Rattle.flash.proofs.Bounds.{Bounds, range-in, block-in-marks, block-in-store}
 use Rattle.flash.proofs.Chips.{erase-store-length, erase-marks-length, erase-mark, erase-mark-other, erase-blank}
@@ -21,13 +18,14 @@ use Rattle.method.specs.Move.{Move, letter}
 use Rattle.method.specs.Place.{passAt, filling, filled, heldAt, heldMark}
 use Rattle.method.specs.Mend.{Reading, reading}
 use Rattle.method.specs.Answers.{badChip, fitsNone, mendRows, MendAnswer, mended, mendAnswer}
-use Rattle.method.proofs.Indexes.{each-slot}
+use Rattle.method.proofs.Indexes.{this-or-other, each-slot}
 use Rattle.method.proofs.Shape.{Shape}
 use Rattle.method.proofs.Accepting.{StandsAt}
 use Rattle.method.proofs.Held.{MarksAt, held-blank, marks-eq}
 use Rattle.method.proofs.PlaceShape.{letterAbove, shape-full}
-use Rattle.method.proofs.Moments.{Moment}
-use Rattle.method.proofs.Readings.{Finds, torn, full, finds}
+use Rattle.method.proofs.Turns.{resumes-begun}
+use Rattle.method.proofs.Moments.{Moment, place-moment}
+use Rattle.method.proofs.MendFinds.{Finds, torn, full, finds}
 use Rattle.method.proofs.Fades.{Fades, fades-refl, erase-fades}
 
 -- only the block between has pages that are not written
@@ -50,6 +48,7 @@ pub record Recovered (M : Move) (chip : Chip) (place : ℕ) (answer : MendAnswer
   pub number-is : answer .number ≡ 0
   pub place-is : answer .place ≡ place
   pub stands : StandsAt M (answer .chip) place
+  pub moment : Moment (M .sizes) (answer .chip .marks) place
   pub store-length : length (answer .chip .store) ≡ storeLength (M .sizes)
   pub marks-length : length (answer .chip .marks) ≡ marksLength (M .sizes)
   pub fades : Fades (M .sizes) chip (answer .chip)
@@ -111,25 +110,18 @@ module _ (M : Move) (B : Bounds (M .sizes)) (chip : Chip) (store-length : length
     left-marks = record {
       length-is = erase-marks-length m P b chip store-fits marks-fit ∙ C .marks-length;
       mark-is = λ c q h k.
-          ⊎-elim
-          (λ (e : eqb c b ≡ true).
-          subst (λ (x : ℕ). markAt (left .marks) (slot m x q) ≡ heldMark Z (heldAt Z place x q)) (sym (eqb-true c b e))
-          (erase-mark m P b chip store-fits marks-fit q k ∙ sym (ap (heldMark Z) (held-blank Z place b q refl (omega arith)))))
-          (λ (e : eqb c b ≡ false).
-          erase-mark-other m P b chip store-fits marks-fit q k c (eqb-false c b e) ∙ C .others c q (eqb-false c b e) h k)
-          (bool-cases (eqb c b));
+          this-or-other (λ x. markAt (left .marks) (slot m x q) ≡ heldMark Z (heldAt Z place x q)) b c
+          (erase-mark m P b chip store-fits marks-fit q k ∙ sym (ap (heldMark Z) (held-blank Z place b q refl (omega arith))))
+          (λ apart. erase-mark-other m P b chip store-fits marks-fit q k c apart ∙ C .others c q apart h k);
     }
 
     left-blank : (c q : ℕ) → c < n + 1 → q < m → markAt (left .marks) (slot m c q) ≡ erased → isBlank P left (slot m c q) ≡ true
     left-blank c q h k e =
-        ⊎-elim
-        (λ (f : eqb c b ≡ true). rw (eqb-true c b f) (erase-blank m P b chip store-fits marks-fit q k))
-        (λ (f : eqb c b ≡ false).
-        let apart = eqb-false c b f in
+        this-or-other (λ x. isBlank P left (slot m x q) ≡ true) b c (erase-blank m P b chip store-fits marks-fit q k)
+        (λ apart.
         let before = sym (erase-mark-other m P b chip store-fits marks-fit q k c apart) ∙ e in
         let r = erased-between Z (chip .marks) b (suc b) _ c q S (omega arith) k before in
         absurd (apart (omega arith)))
-        (bool-cases (eqb c b))
 
     stands-torn : StandsAt M left place
     stands-torn = record {
@@ -143,6 +135,7 @@ module _ (M : Move) (B : Bounds (M .sizes)) (chip : Chip) (store-length : length
       number-is = refl;
       place-is = refl;
       stands = stands-torn;
+      moment = subst (Moment Z (left .marks)) (resumes-begun Z place z) (place-moment Z place (C .in-move) (left .marks) left-marks);
       store-length = erase-store-length m P b chip store-fits marks-fit ∙ store-length;
       marks-length = left-marks .length-is;
       fades = erase-fades Z b chip (S .inside) store-length (C .marks-length);
@@ -153,6 +146,7 @@ module _ (M : Move) (B : Bounds (M .sizes)) (chip : Chip) (store-length : length
     number-is = refl;
     place-is = refl;
     stands = stands-full k A;
+    moment = C;
     store-length = store-length;
     marks-length = C .marks-length;
     fades = fades-refl Z chip;

@@ -1,6 +1,5 @@
 -- Each step of an accepted move leads from one place to the next, and keeps what whole pages hold.
 use mathlib.Core.Path.{_≡_, refl, sym, subst}
-use mathlib.Core.Logic.{_⊎_, inl, inr}
 use mathlib.Core.List.{List}
 use Prim.Native.Nat.{ℕ, zero, suc, _+_, _*_, _≤_, _<_}
 use native.Mathlib.Nat.{add-zero}
@@ -20,13 +19,9 @@ use Rattle.method.proofs.Accepting.{Lent, StandsAt}
 use Rattle.method.proofs.Cycles.{sent-in}
 use Rattle.method.proofs.Places.{nextBlock, forward-high, filling-in, backward-low}
 use Rattle.method.proofs.Held.{Writes, Erases, Change, by-write, by-erase, change, MarksAt, marksOf-at}
-use Rattle.method.proofs.PlaceShape.{letterAbove, shape-filling}
+use Rattle.method.proofs.PlaceShape.{letterAbove, which-pass, shape-filling}
 use Rattle.method.proofs.Advance.{write-lent, write-stands, erase-lent, erase-stands}
 use Rattle.method.proofs.Writing.{Originals, originals-one, number-in, coded-in, coded-some, length-written, written-sum}
-
-pub which-pass : (pass : Pass) → (letterAbove pass ≡ 0) ⊎ (letterAbove pass ≡ 2)
-which-pass forward = inl refl
-which-pass backward = inr refl
 
 module _ (M : Move) (A : Accepted M) where
   open Sizes (M .sizes) using (n, m, P)

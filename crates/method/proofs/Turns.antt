@@ -54,6 +54,14 @@ module _ (Z : Sizes) where
   unfolding resumesAt
   resumes-there place k = rw (le-ltb (filled Z place) m (omega arith))
 
+  pub resumes-begun : (place : ℕ) → filled Z place ≡ 0 → resumesAt place ≡ place
+  unfolding filled
+  resumes-begun place z =
+      ⊎-elim
+      (λ k. resumes-start place k ∙ omega (arith, div-add-mod' place (m + 1)))
+      (λ k. resumes-there place k)
+      (page-cases Z place)
+
   pub turn-resumes : (place : ℕ) → turn (resumesAt place) ≡ turn place
   turn-resumes place =
       ⊎-elim

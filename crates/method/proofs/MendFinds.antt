@@ -19,6 +19,7 @@ use Rattle.flash.proofs.Bounds.{Bounds, range-in}
 use Rattle.method.specs.Move.{letter}
 use Rattle.method.specs.Place.{Pass, forward, backward, lastPlace, passAt, filling, filled}
 use Rattle.method.specs.Mend.{Reading, fullFrom, forwardTorn, backwardTorn, forwardFull, backwardFull, lines, legalMarks, reading}
+use Rattle.method.specs.Answers.{fitsNone}
 use Rattle.method.specs.Claims.{LinesAgree}
 use Rattle.method.proofs.Shape.{Shape}
 use Rattle.method.proofs.MendLines.{lines-agree}
@@ -141,7 +142,7 @@ placeRead (some found) = found .place
 module _ (Z : Sizes) (B : Bounds Z) where
   open Sizes Z using (m)
 
-  -- a block that is filled at the last place is not full
+  -- where all pages of a block are written, its turn's erase is still to come
   full-early : (place : ℕ) → place ≤ lastPlace Z → filled Z place ≡ m → place < lastPlace Z
   full-early place h k =
       ⊎-elim
@@ -153,7 +154,7 @@ module _ (Z : Sizes) (B : Bounds Z) where
       omega arith)
       (bool-cases (eqb place (lastPlace Z)))
 
-  -- so it is never block 0 of which the backward pass says so
+  -- so that in the backward pass it is not block 0, which is never written then
   edge-low : (place : ℕ) → place < lastPlace Z → (pass : Pass) → passAt Z place ≡ pass → 1 ≤ edge pass (filling Z place)
   edge-low place h forward e = omega arith
   edge-low place h backward e = backward-low Z place h e
@@ -191,6 +192,15 @@ module _ (Z : Sizes) (B : Bounds Z) where
     unfolding placeRead
     finds-place place (torn z S e) = ap placeRead e
     finds-place place (full k A e) = ap placeRead e
+
+    -- so neither mend nor read is refused for the marks
+    pub moment-fits : (place : ℕ) → Moment Z marks place → fitsNone (reading Z marks) ≡ false
+    unfolding fitsNone
+    moment-fits place M = go (finds place M)
+      where
+        go : Finds Z marks place → fitsNone (reading Z marks) ≡ false
+        go (torn z S e) = ap fitsNone e
+        go (full k A e) = ap fitsNone e
 
     pub moment-unique : (one other : ℕ) → Moment Z marks one → Moment Z marks other → one ≡ other
     moment-unique one other M N = sym (finds-place one (finds one M)) ∙ finds-place other (finds other N)
