@@ -14,12 +14,12 @@ use Rattle.method.specs.Cycle.{D, dest, pred, top, isTop, coded}
 use Rattle.method.specs.Read.{fullOf, codedSlot, plainSlot, finalSlot, goBack, goOn}
 use Rattle.method.proofs.Each.{Each, each-one}
 use Rattle.method.proofs.Shape.{Accepted, Shape}
-use Rattle.method.proofs.Slots.{slot-div}
+use Rattle.method.proofs.Indexes.{slot-div}
 use Rattle.method.proofs.Orbit.{DataBlock, iterate}
 use Rattle.method.proofs.Cycles.{D-page, dest-in, pred-in, pred-dest}
 use Rattle.method.proofs.Tops.{top-dest, top-pred, isTop-true}
 use Rattle.method.proofs.Walks.{Ends, ends-next, once, way, each-way, walk-is, backEnds, backLast, back-walk, onEnds, onLast, on-walk}
-use Rattle.method.proofs.Bounds.{back-ends, on-ends}
+use Rattle.method.proofs.WalkBounds.{back-ends, on-ends}
 use Rattle.method.proofs.Stored.{Stored, Reads, Adds, pair-adds, swap-adds, reads-one, reads-add, reads-within, stored-apart, plain-stored, final-stored, code-stored}
 
 -- ---- what a coded page sums
