@@ -1,10 +1,10 @@
 -- Numbers as indexes: two in order, one taken apart into block and page or into turn and step, and elements of lists by index.
-use mathlib.Core.Path.{_≡_, ap, _∙_}
+use mathlib.Core.Path.{_≡_, ap, _∙_, subst}
 use mathlib.Core.Logic.{⊎-elim}
 use mathlib.Core.Bool.{true, false}
 use mathlib.Core.List.{List, [], _∷_, map}
 use Prim.Native.Nat.{ℕ, zero, suc, _+_, _-_, _*_, _/_, _%_, _<_}
-use native.Mathlib.Nat.{not-suc-le-zero, le-of-suc-le-suc, mul-add-div-right, div-eq-of-lt, mul-add-mod-self-right, mod-eq-of-lt, add-zero, mul-le-mul-right, suc-mul}
+use native.Mathlib.Nat.{not-suc-le-zero, le-of-suc-le-suc, mul-add-div-right, div-eq-of-lt, mul-add-mod-self-right, mod-eq-of-lt, add-zero, mul-le-mul-right, suc-mul, div-add-mod', mod-lt, div-lt-iff-lt-mul}
 use native.Mathlib.Omega.{arith}
 use lib.Dec.{ltb}
 use lib.ListN.{length, getD, List·getD-append}
@@ -40,6 +40,13 @@ slot-mod size b j h = mul-add-mod-self-right b size j ∙ mod-eq-of-lt h
 
 pub slot-lt : (size b j count : ℕ) → b < count → j < size → b * size + j < count * size
 slot-lt size b j count h l = omega (arith, mul-le-mul-right size h, suc-mul b size)
+
+-- what holds of page j of block b, for each of them, holds of each slot
+pub each-slot : (size count : ℕ) (P : ℕ → Type 0) → ((b j : ℕ) → b < count → j < size → P (b * size + j)) → (t : ℕ) → t < count * size → P t
+each-slot zero count P f t h = absurd (omega arith)
+each-slot (suc s) count P f t h =
+    let pages : 0 < suc s = omega arith in
+    subst P (div-add-mod' t (suc s)) (f (t / suc s) (t % suc s) (div-lt-iff-lt-mul pages .1 h) (mod-lt t pages))
 
 pub map-range-at : {A : Type 0} (f : ℕ → A) (start count i : ℕ) (d : A) → i < count → getD (map f (range start count)) i d ≡ f (start + i)
 unfolding range

@@ -22,7 +22,14 @@ pub mod Runs
 pub mod Held
 pub mod PlaceShape
 pub mod Advance
+pub mod Writing
 pub mod PlacesDiffer
 pub mod Tallies
 pub mod ErasesCounted
 pub mod PagesRise
+pub mod Turns
+pub mod Moments
+pub mod Fades
+pub mod Readings
+pub mod Recovery
+pub mod Standing

@@ -20,7 +20,7 @@ letterAbove backward = 2
 module _ (Z : Sizes) where
   open Sizes Z using (n, m)
 
-  mark-above : (pass : Pass) → heldMark Z (above pass) ≡ letter Z (letterAbove pass)
+  pub mark-above : (pass : Pass) → heldMark Z (above pass) ≡ letter Z (letterAbove pass)
   unfolding heldMark above
   mark-above forward = refl
   mark-above backward = refl
