@@ -1,6 +1,6 @@
 -- Marks that mend reads have a shape.
 use mathlib.Core.Path.{_≡_, refl}
-use mathlib.Core.Logic.{_⊎_, inl, inr, ⊎-elim}
+use mathlib.Core.Logic.{inl, inr, ⊎-elim}
 use mathlib.Core.Bool.{true, false}
 use mathlib.Core.Option.{none, some}
 use mathlib.Core.List.{List, [], _∷_, List·Memᴰ, List·Memᴰ·head, List·Memᴰ·tail}
@@ -12,7 +12,7 @@ use Rattle.flash.proofs.Bools.{bool-cases}
 use Rattle.flash.proofs.Blocks.{unfinished-at}
 use Rattle.method.specs.Move.{letter}
 use Rattle.method.specs.Mend.{Reading, lines, legalMarks, reading}
-use Rattle.method.proofs.Shape.{Shape}
+use Rattle.method.proofs.Shape.{Shape, Shaped}
 use Rattle.method.proofs.MendLines.{Torn, Filled, Fit, torn-forth, torn-back, full-forth, full-back, fit}
 
 -- the row that is found fits
@@ -23,14 +23,6 @@ first-fit {A} (top ∷ rows) found e = ⊎-elim
     (λ (f : top .fits ≡ true). (let is : some (top .gives) ≡ some found = rw f at e in (top, List·Memᴰ·head refl, f, cc)))
     (λ (f : top .fits ≡ false). (let r = first-fit rows found (rw f at e) in (r .0, List·Memᴰ·tail (r .1), r .2, r .3)))
     (bool-cases (top .fits))
-
--- the shape of the marks in one of the passes
-pub record Shaped (Z : Sizes) (marks : List ℕ) : Type 0 where
-  pub low : ℕ
-  pub high : ℕ
-  pub index : ℕ
-  pub pass : (index ≡ 0) ⊎ (index ≡ 2)
-  pub shape : Shape Z marks low high index
 
 module _ (Z : Sizes) (pages : 0 < Z .m) (marks : List ℕ) where
   -- block b is torn: it is the block between
@@ -59,10 +51,10 @@ module _ (Z : Sizes) (pages : 0 < Z .m) (marks : List ℕ) where
   }
 
   shaped-row : (row : Row Reading) → Fit Z pages marks row → Shaped Z marks
-  shaped-row row (torn-forth b T e) = record { low = b; high = suc b; index = 0; pass = inl refl; shape = torn-shape 0 b T }
-  shaped-row row (torn-back b T e) = record { low = b; high = suc b; index = 2; pass = inr refl; shape = torn-shape 2 b T }
-  shaped-row row (full-forth b F e) = record { low = b; high = b; index = 0; pass = inl refl; shape = filled-shape 0 b F }
-  shaped-row row (full-back b F e) = record { low = b; high = b; index = 2; pass = inr refl; shape = filled-shape 2 b F }
+  shaped-row row (torn-forth b T e) = record { low = b; high = suc b; i = 0; pass = inl refl; shape = torn-shape 0 b T }
+  shaped-row row (torn-back b T e) = record { low = b; high = suc b; i = 2; pass = inr refl; shape = torn-shape 2 b T }
+  shaped-row row (full-forth b F e) = record { low = b; high = b; i = 0; pass = inl refl; shape = filled-shape 0 b F }
+  shaped-row row (full-back b F e) = record { low = b; high = b; i = 2; pass = inr refl; shape = filled-shape 2 b F }
 
   pub shaped : (found : Reading) → reading Z marks ≡ some found → Shaped Z marks
   unfolding reading

@@ -18,7 +18,7 @@ use Rattle.flash.proofs.Searches.{all-of}
 use Rattle.method.specs.Move.{letter}
 use Rattle.method.specs.Place.{Pass, forward, backward, lastPlace, passAt, filling, filled, Held, blank, plain, code, final, above, heldAt, heldMark}
 use Rattle.method.proofs.Indexes.{Order, less, same, more, order, each-slot}
-use Rattle.method.proofs.Shape.{Shape}
+use Rattle.method.proofs.Shape.{Shape, Shaped}
 use Rattle.method.proofs.Places.{Stands, page-cases, filling-in}
 use Rattle.method.proofs.Held.{edge, MarksAt, held-below, held-above, held-blank}
 use Rattle.method.proofs.PlaceShape.{letterAbove, mark-above, shape-of, shape-full}
@@ -131,22 +131,14 @@ module _ (Z : Sizes) where
           inside = inside;
         })
 
-  -- all that read needs of marks
-  pub record Shaped (marks : List ℕ) : Type 0 where
-    pub low : ℕ
-    pub high : ℕ
-    pub i : ℕ
-    pub shape : Shape Z marks low high i
-    pub pass : (i ≡ 0) ⊎ (i ≡ 2)
-
   letter-cases : (pass : Pass) → (letterAbove pass ≡ 0) ⊎ (letterAbove pass ≡ 2)
   letter-cases forward = inl refl
   letter-cases backward = inr refl
 
-  pub moment-shape : (marks : List ℕ) (place : ℕ) → Moment marks place → Shaped marks
+  pub moment-shape : (marks : List ℕ) (place : ℕ) → Moment marks place → Shaped Z marks
   moment-shape marks place M = go (M .own)
     where
-      go : Block marks place → Shaped marks
+      go : Block marks place → Shaped Z marks
       go (unfinished z q k hole) = record {
         low = filling Z place;
         high = suc (filling Z place);

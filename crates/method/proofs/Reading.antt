@@ -100,9 +100,9 @@ module _ (M : Move) (A : Accepted M) (marks : List ℕ) (low high : ℕ) (k : �
     no-plain b h = not-full M A marks low high 2 S 0 b h (λ l. omega arith) (λ l. omega arith)
 
     -- the whole cycle is still coded
-    reads-down : fullOf M marks 1 (top M set v - 1) ≡ true → Reads M marks low high n (goBack M marks set n v) k
+    reads-coded : fullOf M marks 1 (top M set v - 1) ≡ true → Reads M marks low high n (goBack M marks set n v) k
     unfolding letter fullOf
-    reads-down full = rw (D-is M A k k-in) at (reads-back M A marks low high 2 S set set-ok (top M set v) v v-met near-top)
+    reads-coded full = rw (D-is M A k k-in) at (reads-back M A marks low high 2 S set set-ok (top M set v) v v-met near-top)
       where
         top-under : top M set v ≤ low
         top-under = ⊎-elim
@@ -135,8 +135,8 @@ module _ (M : Move) (A : Accepted M) (marks : List ℕ) (low high : ℕ) (k : �
       unfolding fullOf
       top-final = S .above (top M set v) (omega (arith, S .near, over)) (top-in M A set set-ok v v-in .high)
 
-      reads-up : fullOf M marks 2 (dest M set v) ≡ false → Reads M marks low high n (goOn M marks set n v) k
-      reads-up not-there =
+      reads-final : fullOf M marks 2 (dest M set v) ≡ false → Reads M marks low high n (goOn M marks set n v) k
+      reads-final not-there =
           rw (D-is M A k k-in) at (reads-on M A marks low high 2 S set set-ok (top M set v) v v-in refl over top-final not-there
           (λ b b-in e. omega (arith, below-high M A marks low high 2 S (dest M set b) (dest-in M A set set-ok b b-in .high) e, S .near)))
 
@@ -147,9 +147,9 @@ module _ (M : Move) (A : Accepted M) (marks : List ℕ) (low high : ℕ) (k : �
         rw (no-plain v (v-in .high), there) (one-page 2 (finalSlot M marks k) (final-stored M marks low high A 2 S k k-in (rw (dest-is M A k k-in) at there))))
         (λ (not-there : fullOf M marks 2 (dest M set v) ≡ false).
         ⊎-elim
-        (λ (full : fullOf M marks 1 (top M set v - 1) ≡ true). rw (no-plain v (v-in .high), not-there, full) (reads-down full))
+        (λ (full : fullOf M marks 1 (top M set v - 1) ≡ true). rw (no-plain v (v-in .high), not-there, full) (reads-coded full))
         (λ (gone : fullOf M marks 1 (top M set v - 1) ≡ false).
-        rw (no-plain v (v-in .high), not-there, gone, none-is (fullOf M marks 0) 0 (n + 1) (λ b a h. no-plain b (omega arith))) (reads-up gone not-there))
+        rw (no-plain v (v-in .high), not-there, gone, none-is (fullOf M marks 0) 0 (n + 1) (λ b a h. no-plain b (omega arith))) (reads-final gone not-there))
         (bool-cases (fullOf M marks 1 (top M set v - 1))))
         (bool-cases (fullOf M marks 2 (dest M set v)))
 

@@ -17,7 +17,7 @@ use Rattle.method.proofs.WalkBounds.{back-bound}
 use Rattle.method.proofs.Reading.{reads, reads-on-bound}
 use Rattle.method.proofs.Fits.{shaped}
 
-accepted : (M : Move) → AcceptedMove M → Accepted M
+pub accepted : (M : Move) → AcceptedMove M → Accepted M
 accepted M A = record {
   ranges = in-range (M .sizes) (A .ranges);
   list-length = A .list-length;
@@ -55,7 +55,7 @@ walks-end M A marks found e k h =
     let Z = M .sizes in
     let A′ = accepted M A in
     let shape = shaped Z (A′ .ranges .m-low) marks found e in
-    let r = reads M A′ marks (shape .low) (shape .high) k h (shape .index) (shape .pass) (shape .shape) in
+    let r = reads M A′ marks (shape .low) (shape .high) k h (shape .i) (shape .pass) (shape .shape) in
     record {
       slots = record {
         some = r .some;
@@ -68,5 +68,5 @@ walks-end M A marks found e k h =
             full-finished (Z .m) marks _ (letter Z (t .index)) (omega arith) (t .full);
       };
       back = λ extra. back-bound M A′ marks (setOf (M .sets) k) (set-in M A′ k h) (blockOf (Z .m) k) extra (block-in M A′ k h);
-      on = reads-on-bound M A′ marks (shape .low) (shape .high) k h (shape .index) (shape .pass) (shape .shape);
+      on = reads-on-bound M A′ marks (shape .low) (shape .high) k h (shape .i) (shape .pass) (shape .shape);
     }
