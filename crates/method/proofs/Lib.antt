@@ -33,3 +33,4 @@ pub mod Fades
 pub mod Readings
 pub mod Recovery
 pub mod Standing
+pub mod Keeping

@@ -30,6 +30,10 @@ use Rattle.method.proofs.Reading.{reads, reads-original}
 abbrev pub Originals : Move → List ℕ → Type 0
 Originals M ks = (i : ℕ) → i < length ks → getD ks i 0 < originalCount (M .sizes)
 
+pub originals-one : (M : Move) (x : ℕ) → x < originalCount (M .sizes) → Originals M (x ∷ [])
+originals-one M x h zero l = h
+originals-one M x h (suc i) l = absurd (omega arith)
+
 module _ (M : Move) (A : Accepted M) where
   open Sizes (M .sizes) using (n, m, P)
 
@@ -46,15 +50,11 @@ module _ (M : Move) (A : Accepted M) where
   pub coded-in : (set i : ℕ) → set < m → DataBlock n i → Originals M (coded M set i)
   unfolding coded
   coded-in set i s b = ⊎-elim
-      (λ (e : isTop M set i ≡ true). rw e (one (D M set i) (D-page M A set s i b .inside)))
+      (λ (e : isTop M set i ≡ true). rw e (originals-one M (D M set i) (D-page M A set s i b .inside)))
       (λ (e : isTop M set i ≡ false).
       rw e (two (D M set i) (D M set (pred M set i)) (D-page M A set s i b .inside) (D-page M A set s (pred M set i) (pred-in M A set s i b) .inside)))
       (bool-cases (isTop M set i))
     where
-      one : (x : ℕ) → x < originalCount Z → Originals M (x ∷ [])
-      one x h zero l = h
-      one x h (suc i) l = absurd (omega arith)
-
       two : (x y : ℕ) → x < originalCount Z → y < originalCount Z → Originals M (x ∷ y ∷ [])
       two x y h k zero l = h
       two x y h k (suc zero) l = k
