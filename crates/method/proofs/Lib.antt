@@ -34,3 +34,5 @@ pub mod Readings
 pub mod Recovery
 pub mod Standing
 pub mod Keeping
+pub mod States
+pub mod Rest

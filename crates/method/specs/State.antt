@@ -2,7 +2,7 @@
 use mathlib.Core.Bool.{Bool, _&&_}
 use mathlib.Core.List.{List, [], _∷_, _++_}
 use Prim.Native.Nat.{ℕ, _+_, _*_, _/_, _%_}
-use lib.ListN.{replicate}
+use lib.ListN.{drop, replicate}
 use Rattle.flash.specs.Lists.{range, all, concatMap, part}
 use Rattle.flash.specs.Geometry.{Sizes, slot, numberAt, originalCount, slotCount}
 use Rattle.flash.specs.PageSum.{sum}
@@ -23,6 +23,10 @@ atRest Z originals = record {
   store = replicate (Z .m * Z .P) erased ++ originals;
   marks = replicate (Z .m) erased ++ replicate (originalCount Z) (Z .s);
 }
+
+-- the originals that a store at rest holds: the pages of the data blocks
+unfoldable pub originalsIn : Sizes → Chip → List ℕ
+originalsIn Z chip = drop (Z .m * Z .P) (chip .store)
 
 -- the originals whose sum a page holds
 unfoldable pub heldOriginals : Move → Held → (block page : ℕ) → List ℕ
