@@ -14,12 +14,12 @@ use Rattle.method.specs.Cycle.{D, dest, pred, top, isTop, coded}
 use Rattle.method.specs.Read.{fullOf, codedSlot, plainSlot, finalSlot, goBack, goOn}
 use Rattle.method.proofs.Each.{Each, each-one}
 use Rattle.method.proofs.Shape.{Accepted, Shape}
-use Rattle.method.proofs.Slots.{slot-div}
+use Rattle.method.proofs.Indexes.{slot-div}
 use Rattle.method.proofs.Orbit.{DataBlock, iterate}
 use Rattle.method.proofs.Cycles.{D-page, dest-in, pred-in, pred-dest}
 use Rattle.method.proofs.Tops.{top-dest, top-pred, isTop-true}
-use Rattle.method.proofs.Walks.{Ends, ends-next, once, way, each-way, walk-is, backEnds, backLast, back-walk, onEnds, onLast, on-walk}
-use Rattle.method.proofs.Bounds.{back-ends, on-ends}
+use Rattle.method.proofs.Walks.{Ends, ends-next, once, way, each-way, walk, walk-is, backEnds, backLast, back-walk, onEnds, onLast, on-walk}
+use Rattle.method.proofs.WalkBounds.{back-ends, on-ends}
 use Rattle.method.proofs.Stored.{Stored, Reads, Adds, pair-adds, swap-adds, reads-one, reads-add, reads-within, stored-apart, plain-stored, final-stored, code-stored}
 
 -- ---- what a coded page sums
@@ -54,7 +54,7 @@ module _ (M : Move) (A : Accepted M) (marks : List ℕ) (low high i : ℕ) (S : 
         let q : b - 1 ≡ c - 1 = sym (slot-div m (b - 1) set set-ok) ∙ ap (λ (t : ℕ). t / m) e ∙ slot-div m (c - 1) set set-ok in
         omega arith
 
-    -- The walk's slots sum to original `x b`, b being where it starts; `last` gives what it ends with.
+    -- The slots of a walk from b on sum to original `x b`; `last` tells what follows the last coded page.
     module _ (last : ℕ → List ℕ) (x : ℕ → ℕ) where
       record End (bound c : ℕ) : Type 0 where
         reads : Reads M marks low high bound (codedSlot M marks set c ∷ last c) (x c)
@@ -96,6 +96,13 @@ module _ (M : Move) (A : Accepted M) (marks : List ℕ) (low high i : ℕ) (S : 
             (reads-add M marks low high (d + bound) 1 (codedSlot M marks set b) (x b) (x (f b)) (coded M set b) (way f (codedSlot M marks set) last d (f b))
             (met-stored b o) (adds b o goes) fresh (reads-way bound d (f b) E′ o′ end))
 
+        reads-walk : (bound d b : ℕ) → Ends f ends d b → Met M low set tip b → (Met M low set tip (iterate f d b) → End bound (iterate f d b)) → 1 ≤ bound → d + bound ≤ n
+            → Reads M marks low high n (walk f (codedSlot M marks set) last ends n b) (x b)
+        reads-walk bound d b E o end h l =
+            rw (walk-is f (codedSlot M marks set) last ends n d b E (omega arith))
+            (reads-within M marks low high (d + bound) n (x b) (way f (codedSlot M marks set) last d b) l
+            (reads-way bound d b E o (end (met-way d b E o d (omega arith)))))
+
     -- ---- rule 2
     module _ (v : ℕ) (v-met : Met M low set tip v) (near : (b : ℕ) → Met M low set tip b → backEnds M marks set b ≡ false → pred M set b ≤ low) where
       stays-back : (b : ℕ) → Met M low set tip b → backEnds M marks set b ≡ false → Met M low set tip (pred M set b)
@@ -132,19 +139,16 @@ module _ (M : Move) (A : Accepted M) (marks : List ℕ) (low high i : ℕ) (S : 
       reads-back =
           let e = back-ends M A marks set set-ok v (v-met .inside) in
           let d : ℕ = e .0 in
-          let c : ℕ = iterate (pred M set) d v in
           let E = e .2 in
-          let c-met = met-way (backLast M marks set) (D M set) (pred M set) (backEnds M marks set) stays-back adds-back d v E v-met d (omega arith) in
-          let ts : List ℕ = way (pred M set) (codedSlot M marks set) (backLast M marks set) d v in
-          let is : goBack M marks set n v ≡ ts = back-walk M marks set n v ∙ walk-is (pred M set) (codedSlot M marks set) (backLast M marks set) (backEnds M marks set) n d v E (e .1) in
-          rw is
+          let c : ℕ = iterate (pred M set) d v in
+          rw (back-walk M marks set n v)
           (⊎-elim
           (λ (is-top : isTop M set c ≡ true).
-          reads-within M marks low high (d + 1) n (D M set v) ts (omega (arith, e .1))
-          (reads-way (backLast M marks set) (D M set) (pred M set) (backEnds M marks set) stays-back adds-back 1 d v E v-met (end-top c c-met is-top)))
+          reads-walk (backLast M marks set) (D M set) (pred M set) (backEnds M marks set) stays-back adds-back
+          1 d v E v-met (λ o. end-top c o is-top) (omega arith) (omega (arith, e .1)))
           (λ (not-top : isTop M set c ≡ false).
-          reads-within M marks low high (d + 2) n (D M set v) ts (omega (arith, e .3 not-top))
-          (reads-way (backLast M marks set) (D M set) (pred M set) (backEnds M marks set) stays-back adds-back 2 d v E v-met (end-plain c c-met not-top (E .here))))
+          reads-walk (backLast M marks set) (D M set) (pred M set) (backEnds M marks set) stays-back adds-back
+          2 d v E v-met (λ o. end-plain c o not-top (E .here)) (omega arith) (omega (arith, e .3 not-top)))
           (bool-cases (isTop M set c)))
 
     -- ---- rule 3
@@ -184,13 +188,11 @@ module _ (M : Move) (A : Accepted M) (marks : List ℕ) (low high i : ℕ) (S : 
       unfolding before
       reads-on =
           let e = on-ends M A marks set set-ok v v-in (rw v-top tip-full) not-there in
-          let w : ℕ = dest M set v in
           let d : ℕ = e .0 in
-          let c : ℕ = iterate (dest M set) d w in
           let E = e .2 in
+          let w : ℕ = dest M set v in
           let w-met : Met M low set tip w = record { inside = dest-in M A set set-ok v v-in; under = near v v-in not-there; of-cycle = top-dest M A set set-ok v v-in ∙ v-top } in
-          let c-met = met-way (onLast M marks set) before (dest M set) (onEnds M marks set) stays-on adds-on d w E w-met d (omega arith) in
-          let ts : List ℕ = way (dest M set) (codedSlot M marks set) (onLast M marks set) d w in
-          let is : goOn M marks set n v ≡ ts = on-walk M marks set n v ∙ walk-is (dest M set) (codedSlot M marks set) (onLast M marks set) (onEnds M marks set) n d w E (omega (arith, e .1)) in
-          let r = reads-way (onLast M marks set) before (dest M set) (onEnds M marks set) stays-on adds-on 2 d w E w-met (end-final c c-met (E .here)) in
-          rw is (reads-within M marks low high (d + 2) n (D M set v) ts (omega (arith, e .1)) (rw (pred-dest M A set set-ok v v-in) at r))
+          let r =
+          reads-walk (onLast M marks set) before (dest M set) (onEnds M marks set) stays-on adds-on
+          2 d w E w-met (λ o. end-final (iterate (dest M set) d w) o (E .here)) (omega arith) (omega (arith, e .1)) in
+          rw (on-walk M marks set n v) (rw (pred-dest M A set set-ok v v-in) at r)

@@ -14,7 +14,7 @@ use Rattle.split.proofs.SplitLaws.{PageOf, set-lt, page-from, page-to, same-fro
 use Rattle.method.specs.Move.{Move}
 use Rattle.method.specs.Cycle.{D, dest, pred, sentTo}
 use Rattle.method.proofs.Shape.{Accepted}
-use Rattle.method.proofs.Slots.{slot-div}
+use Rattle.method.proofs.Indexes.{slot-div}
 use Rattle.method.proofs.Orbit.{DataBlock, OneToOne}
 
 module _ (M : Move) (A : Accepted M) where

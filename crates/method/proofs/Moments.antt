@@ -16,7 +16,7 @@ use Rattle.flash.proofs.Searches.{all-of}
 use Rattle.method.specs.Move.{Move, letter}
 use Rattle.method.specs.Place.{lastPlace, passAt, filling, filled, Held, blank, plain, code, final, above, heldAt, heldMark}
 use Rattle.method.proofs.Indexes.{Order, less, same, more, order, this-or-other, each-slot}
-use Rattle.method.proofs.Shape.{Shape}
+use Rattle.method.proofs.Shape.{Shape, Shaped}
 use Rattle.method.proofs.Accepting.{StandsAt}
 use Rattle.method.proofs.Places.{Stands, page-cases, filling-in, last-stands}
 use Rattle.method.proofs.Held.{edge, MarksAt, marksOf-at, held-below, held-above, held-blank}
@@ -135,18 +135,10 @@ module _ (Z : Sizes) where
           inside = inside;
         })
 
-  -- all that read needs of marks
-  pub record Shaped (marks : List ℕ) : Type 0 where
-    pub low : ℕ
-    pub high : ℕ
-    pub i : ℕ
-    pub shape : Shape Z marks low high i
-    pub pass : (i ≡ 0) ⊎ (i ≡ 2)
-
-  pub moment-shape : (marks : List ℕ) (place : ℕ) → Moment marks place → Shaped marks
+  pub moment-shape : (marks : List ℕ) (place : ℕ) → Moment marks place → Shaped Z marks
   moment-shape marks place M = go (M .own)
     where
-      go : Block marks place → Shaped marks
+      go : Block marks place → Shaped Z marks
       go (unfinished z q k hole) = record {
         low = filling Z place;
         high = suc (filling Z place);

@@ -9,7 +9,7 @@ use lib.ListN.{length}
 use Rattle.flash.specs.Lists.{range, any, part}
 use Rattle.flash.specs.Geometry.{Sizes, blockOf, originalCount}
 use Rattle.flash.specs.Chip.{Chip}
-use Rattle.flash.proofs.Bools.{bool-cases, never-both, or-false-right, fails}
+use Rattle.flash.proofs.Bools.{bool-cases, never-both, or-false-left, or-false-right, fails}
 use Rattle.flash.proofs.Ranges.{any-is, none-is}
 use Rattle.flash.proofs.Blocks.{full-same}
 use Rattle.split.specs.Split.{setOf}
@@ -22,6 +22,7 @@ use Rattle.method.proofs.Orbit.{DataBlock}
 use Rattle.method.proofs.Cycles.{set-in, block-in, D-is, dest-in, dest-is, pred-in}
 use Rattle.method.proofs.Tops.{top-in, top-ge-self, top-pred}
 use Rattle.method.proofs.Walks.{backEnds}
+use Rattle.method.proofs.WalkBounds.{on-bound}
 use Rattle.method.proofs.Stored.{Stored, Reads, reads-one, reads-within, full-clear, plain-stored, final-stored}
 use Rattle.method.proofs.CodedWalks.{Met, reads-back, reads-on}
 
@@ -99,9 +100,9 @@ module _ (M : Move) (A : Accepted M) (marks : List ℕ) (low high : ℕ) (k : �
     no-plain b h = not-full M A marks low high 2 S 0 b h (λ l. omega arith) (λ l. omega arith)
 
     -- the whole cycle is still coded
-    reads-down : fullOf M marks 1 (top M set v - 1) ≡ true → Reads M marks low high n (goBack M marks set n v) k
+    reads-coded : fullOf M marks 1 (top M set v - 1) ≡ true → Reads M marks low high n (goBack M marks set n v) k
     unfolding letter fullOf
-    reads-down full = rw (D-is M A k k-in) at (reads-back M A marks low high 2 S set set-ok (top M set v) v v-met near-top)
+    reads-coded full = rw (D-is M A k k-in) at (reads-back M A marks low high 2 S set set-ok (top M set v) v v-met near-top)
       where
         top-under : top M set v ≤ low
         top-under = ⊎-elim
@@ -120,17 +121,24 @@ module _ (M : Move) (A : Accepted M) (marks : List ℕ) (low high : ℕ) (k : �
             omega (arith, top-ge-self M A set set-ok (pred M set b) u-in, top-pred M A set set-ok b (o .inside), o .of-cycle, top-under)
 
     -- its top is final already
-    reads-up : fullOf M marks 1 (top M set v - 1) ≡ false → fullOf M marks 2 (dest M set v) ≡ false → Reads M marks low high n (goOn M marks set n v) k
-    unfolding fullOf
-    reads-up gone not-there =
-        let t-in = top-in M A set set-ok v v-in in
-        let over : low < top M set v = ⊎-elim
-        (λ (l : low < top M set v). l)
-        (λ (l : top M set v ≤ low). absurd (never-both (S .below (top M set v - 1) (omega arith)) gone))
-        (lt-cases low (top M set v)) in
-        let tip-full = S .above (top M set v) (omega (arith, S .near)) (t-in .high) in
-        rw (D-is M A k k-in) at (reads-on M A marks low high 2 S set set-ok (top M set v) v v-in refl over tip-full not-there
-        (λ b b-in e. omega (arith, below-high M A marks low high 2 S (dest M set b) (dest-in M A set set-ok b b-in .high) e, S .near)))
+    module _ (gone : fullOf M marks 1 (top M set v - 1) ≡ false) where
+      over : low < top M set v
+      unfolding fullOf
+      over = ⊎-elim
+          (λ (l : low < top M set v). l)
+          (λ (l : top M set v ≤ low).
+          let t-in = top-in M A set set-ok v v-in in
+          absurd (never-both (S .below (top M set v - 1) (omega arith)) gone))
+          (lt-cases low (top M set v))
+
+      top-final : fullOf M marks 2 (top M set v) ≡ true
+      unfolding fullOf
+      top-final = S .above (top M set v) (omega (arith, S .near, over)) (top-in M A set set-ok v v-in .high)
+
+      reads-final : fullOf M marks 2 (dest M set v) ≡ false → Reads M marks low high n (goOn M marks set n v) k
+      reads-final not-there =
+          rw (D-is M A k k-in) at (reads-on M A marks low high 2 S set set-ok (top M set v) v v-in refl over top-final not-there
+          (λ b b-in e. omega (arith, below-high M A marks low high 2 S (dest M set b) (dest-in M A set set-ok b b-in .high) e, S .near)))
 
     reads-backward : Reads M marks low high n (readSlots M marks k) k
     unfolding readSlots
@@ -139,9 +147,9 @@ module _ (M : Move) (A : Accepted M) (marks : List ℕ) (low high : ℕ) (k : �
         rw (no-plain v (v-in .high), there) (one-page 2 (finalSlot M marks k) (final-stored M marks low high A 2 S k k-in (rw (dest-is M A k k-in) at there))))
         (λ (not-there : fullOf M marks 2 (dest M set v) ≡ false).
         ⊎-elim
-        (λ (full : fullOf M marks 1 (top M set v - 1) ≡ true). rw (no-plain v (v-in .high), not-there, full) (reads-down full))
+        (λ (full : fullOf M marks 1 (top M set v - 1) ≡ true). rw (no-plain v (v-in .high), not-there, full) (reads-coded full))
         (λ (gone : fullOf M marks 1 (top M set v - 1) ≡ false).
-        rw (no-plain v (v-in .high), not-there, gone, none-is (fullOf M marks 0) 0 (n + 1) (λ b a h. no-plain b (omega arith))) (reads-up gone not-there))
+        rw (no-plain v (v-in .high), not-there, gone, none-is (fullOf M marks 0) 0 (n + 1) (λ b a h. no-plain b (omega arith))) (reads-final gone not-there))
         (bool-cases (fullOf M marks 1 (top M set v - 1))))
         (bool-cases (fullOf M marks 2 (dest M set v)))
 
@@ -149,6 +157,17 @@ module _ (M : Move) (A : Accepted M) (marks : List ℕ) (low high : ℕ) (k : �
   reads i which S = ⊎-elim
       (λ (e : i ≡ 0). reads-forward (rw e at S))
       (λ (e : i ≡ 2). reads-backward (rw e at S))
+      which
+
+  -- rule 3's walk has an end
+  pub reads-on-bound : (i : ℕ) → (i ≡ 0) ⊎ (i ≡ 2) → Shape (M .sizes) marks low high i → fullOf M marks 2 (dest M set v) ≡ false
+      → (fullOf M marks 1 (top M set v - 1) || any (fullOf M marks 0) (range 0 (n + 1))) ≡ false
+      → (extra : ℕ) → goOn M marks set (n + extra) v ≡ goOn M marks set n v
+  reads-on-bound i which S not-there not-back extra = ⊎-elim
+      (λ (e : i ≡ 0). absurd (never-both (plain-left (rw e at S)) not-back))
+      (λ (e : i ≡ 2).
+      let gone = or-false-left (fullOf M marks 1 (top M set v - 1)) (any (fullOf M marks 0) (range 0 (n + 1))) not-back in
+      on-bound M A marks set set-ok v v-in (top-final (rw e at S) gone) not-there extra)
       which
 
 -- "Read puts original k in the work page"

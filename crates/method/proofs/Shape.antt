@@ -1,5 +1,6 @@
 -- What the proofs about a move start from: an accepted move, the shape of marks that fit, and what whole pages hold.
 use mathlib.Core.Path.{_≡_}
+use mathlib.Core.Logic.{_⊎_}
 use mathlib.Core.Bool.{true, false}
 use mathlib.Core.List.{List}
 use Prim.Native.Nat.{ℕ, suc, _-_, _≤_, _<_}
@@ -31,6 +32,14 @@ pub record Shape (Z : Sizes) (marks : List ℕ) (low high i : ℕ) : Type 0 wher
   pub order : low ≤ high
   pub near : high ≤ suc low
   pub inside : low ≤ Z .n
+
+-- all that read needs of marks: their shape in one of the passes
+pub record Shaped (Z : Sizes) (marks : List ℕ) : Type 0 where
+  pub low : ℕ
+  pub high : ℕ
+  pub i : ℕ
+  pub shape : Shape Z marks low high i
+  pub pass : (i ≡ 0) ⊎ (i ≡ 2)
 
 -- What a page holds goes by its slot and its letter.
 pub record Holding (M : Move) (originals : List ℕ) (chip : Chip) : Type 0 where

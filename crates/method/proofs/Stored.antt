@@ -24,7 +24,7 @@ use Rattle.method.specs.Cycle.{coded}
 use Rattle.method.specs.Read.{fullOf, codedSlot, plainSlot, finalSlot}
 use Rattle.method.proofs.Each.{Each, each-cons, each-one, distinct-cons}
 use Rattle.method.proofs.Shape.{Accepted, Shape, Holding}
-use Rattle.method.proofs.Slots.{slot-div, slot-lt}
+use Rattle.method.proofs.Indexes.{slot-div, slot-lt}
 use Rattle.method.proofs.Orbit.{DataBlock}
 use Rattle.method.proofs.Cycles.{block-in, entry-in}
 

@@ -1,19 +1,24 @@
 -- The theorems of this crate, each a statement about the definitions; `claims` in src/lib.rt demands their proofs.
-use mathlib.Core.Bool.{Bool, true, false}
+use mathlib.Core.Bool.{Bool, true, false, _||_}
 use mathlib.Core.Path.{_≡_}
 use mathlib.Core.Logic.{_≢_}
 use mathlib.Core.List.{List, List·Memᴰ}
-use Prim.Native.Nat.{ℕ, _+_, _*_, _≤_, _<_}
+use mathlib.Core.Option.{some}
+use Prim.Native.Nat.{ℕ, _+_, _-_, _*_, _/_, _≤_, _<_}
 use lib.Dec.{eqb}
-use lib.ListN.{length}
-use Rattle.flash.specs.Lists.{count}
+use lib.ListN.{length, getD}
+use Rattle.flash.specs.Lists.{range, any, count}
 use Rattle.flash.specs.Tables.{Row, Lowest, refusal}
-use Rattle.flash.specs.Geometry.{Sizes, inRange}
-use Rattle.flash.specs.Chip.{Chip}
+use Rattle.flash.specs.Geometry.{Sizes, inRange, blockOf, originalCount, slotCount, listLength, setsLength}
+use Rattle.flash.specs.Chip.{Chip, isWhole, isUnfinished}
+use Rattle.split.specs.OneToOne.{isOneToOne}
+use Rattle.split.specs.Split.{setOf, isSplit}
 use Rattle.method.specs.Move.{Move}
+use Rattle.method.specs.Cycle.{dest, top}
+use Rattle.method.specs.Read.{fullOf, goBack, goOn, readSlots}
 use Rattle.method.specs.Place.{Pass, Operation, write, erase, done, operations, lastPlace, operationAt, blank, heldAt, marksOf}
 use Rattle.method.specs.Step.{tally, operationsFrom}
-use Rattle.method.specs.Mend.{Reading, lines}
+use Rattle.method.specs.Mend.{Reading, lines, reading}
 use Rattle.method.specs.Answers.{runRows, mendRows, readRows}
 use Rattle.method.specs.Runs.{RunsAddUp, StatesReached}
 use Rattle.method.specs.Cases.{CasesHold}
@@ -53,6 +58,57 @@ pub record PagesRise : Type 0 where
       → ((r : ℕ) → p < r → r < q → operationAt Z r ≢ erase b) → i < j
   pub only-blank : (Z : Sizes) (place : ℕ) (pass : Pass) (b q : ℕ) → operationAt Z place ≡ write pass b q → heldAt Z place b q ≡ blank
 
+-- a move that rows 1 to 4 of the table let pass
+pub record AcceptedMove (M : Move) : Type 0 where
+  pub ranges : inRange (M .sizes) ≡ true
+  pub list-length : length (M .list) ≡ listLength (M .sizes)
+  pub sets-length : length (M .sets) ≡ setsLength (M .sizes)
+  pub one-to-one : isOneToOne (originalCount (M .sizes)) (M .list) ≡ true
+  pub split : isSplit (M .sizes .n) (M .sizes .m) (M .list) (M .sets) ≡ true
+
+-- the blocks of i's cycle: i, the block where its page goes, and so on
+pub data InCycle (M : Move) (set i : ℕ) : (j : ℕ) → Type 0 where
+  start : InCycle M set i i
+  next : {j : ℕ} → InCycle M set i j → InCycle M set i (dest M set j)
+
+-- "The top of a cycle is its highest block."
+pub record TopIsHighest : Type 0 where
+  pub in-cycle : (M : Move) → AcceptedMove M → (set i : ℕ) → set < M .sizes .m → 1 ≤ i → i ≤ M .sizes .n → InCycle M set i (top M set i)
+  pub highest : (M : Move) → AcceptedMove M → (set i j : ℕ) → set < M .sizes .m → 1 ≤ i → i ≤ M .sizes .n → InCycle M set i j → j ≤ top M set i
+
+-- The slots that read sums: 1 to n of the store's, none twice, all whole and none in an unfinished block.
+pub record SlotsSummed (Z : Sizes) (marks slots : List ℕ) : Type 0 where
+  pub some : 1 ≤ length slots
+  pub few : length slots ≤ Z .n
+  pub once : (i j : ℕ) → i < length slots → j < length slots → getD slots i 0 ≡ getD slots j 0 → i ≡ j
+  pub inside : (i : ℕ) → i < length slots → getD slots i 0 < slotCount Z
+  pub whole : (i : ℕ) → i < length slots → isWhole marks (getD slots i 0) ≡ true
+  pub finished : (i : ℕ) → i < length slots → isUnfinished (Z .m) marks (getD slots i 0 / Z .m) ≡ false
+
+-- Read's walks for original k end by their rules and never by their bound n: a wider one changes nothing.
+module _ (M : Move) (marks : List ℕ) (k : ℕ) where
+  open Sizes (M .sizes) using (n, m)
+
+  -- "Start with v = k's block, in k's set."
+  abbrev v : ℕ
+  v = blockOf m k
+
+  abbrev set : ℕ
+  set = setOf (M .sets) k
+
+  pub record WalksOf : Type 0 where
+    pub slots : SlotsSummed (M .sizes) marks (readSlots M marks k)
+    pub back : (extra : ℕ) → goBack M marks set (n + extra) v ≡ goBack M marks set n v
+    -- where neither the destination page is copied nor rule 2 holds
+    pub on : fullOf M marks 2 (dest M set v) ≡ false → (fullOf M marks 1 (top M set v - 1) || any (fullOf M marks 0) (range 0 (n + 1))) ≡ false
+        → (extra : ℕ) → goOn M marks set (n + extra) v ≡ goOn M marks set n v
+
+-- "Read answers for every store whose marks fit"
+unfoldable pub WalksEnd : Type 0
+WalksEnd =
+    (M : Move) → AcceptedMove M → (marks : List ℕ) (found : Reading) → reading (M .sizes) marks ≡ some found
+    → (k : ℕ) → k < originalCount (M .sizes) → WalksOf M marks k
+
 -- Two of mend's lines that fit the same marks give the same answer: it does not matter which is tried first.
 unfoldable pub LinesAgree : Type 0
 LinesAgree =
@@ -74,5 +130,7 @@ pub record Claims : Type 0 where
   pub places : PlacesDiffer
   pub erases : ErasesCounted
   pub pages : PagesRise
+  pub tops : TopIsHighest
+  pub walks : WalksEnd
   pub lines : LinesAgree
   pub lowest : LowestReturned
