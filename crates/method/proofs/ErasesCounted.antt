@@ -17,8 +17,8 @@ use Rattle.flash.proofs.Ranges.{none-is, one-counted}
 use Rattle.flash.proofs.Bounds.{in-range}
 use Rattle.method.specs.Move.{Move}
 use Rattle.method.specs.Place.{Pass, forward, backward, write, erase, writes, forwardTurn, backwardTurn, operations, lastPlace}
-use Rattle.method.specs.Step.{tally, operationsFrom}
-use Rattle.method.specs.Claims.{StepsCounted, erasesBlock, ErasesCounted}
+use Rattle.method.specs.Step.{erasesBlock, tally, operationsFrom}
+use Rattle.method.specs.Claims.{StepsCounted, ErasesCounted}
 use Rattle.method.proofs.Indexes.{Order, less, same, more, order}
 use Rattle.method.proofs.Steps.{steps-counted}
 use Rattle.method.proofs.Tallies.{tally-total, steps-tallied, erases-tallied}

@@ -1,11 +1,10 @@
 -- The theorems of this crate, each a statement about the definitions; `claims` in src/lib.rt demands their proofs.
-use mathlib.Core.Bool.{Bool, true, false, _||_}
+use mathlib.Core.Bool.{true, false, _||_}
 use mathlib.Core.Path.{_≡_}
 use mathlib.Core.Logic.{_≢_}
 use mathlib.Core.List.{List, List·Memᴰ}
 use mathlib.Core.Option.{some}
 use Prim.Native.Nat.{ℕ, _+_, _-_, _*_, _/_, _≤_, _<_}
-use lib.Dec.{eqb}
 use lib.ListN.{length, getD}
 use Rattle.flash.specs.Lists.{range, any, count}
 use Rattle.flash.specs.Tables.{Row, Lowest, refusal}
@@ -16,8 +15,8 @@ use Rattle.split.specs.Split.{setOf, isSplit}
 use Rattle.method.specs.Move.{Move}
 use Rattle.method.specs.Cycle.{dest, top}
 use Rattle.method.specs.Read.{fullOf, goBack, goOn, readSlots}
-use Rattle.method.specs.Place.{Pass, Operation, write, erase, done, operations, lastPlace, operationAt, blank, heldAt, marksOf}
-use Rattle.method.specs.Step.{tally, operationsFrom}
+use Rattle.method.specs.Place.{Pass, write, erase, operations, lastPlace, operationAt, blank, heldAt, marksOf}
+use Rattle.method.specs.Step.{erasesBlock, tally, operationsFrom}
 use Rattle.method.specs.Mend.{Reading, lines, reading}
 use Rattle.method.specs.Answers.{runRows, mendRows, readRows}
 use Rattle.method.specs.Runs.{RunsAddUp, StatesReached}
@@ -31,12 +30,6 @@ StepsCounted = (Z : Sizes) → length (operations Z) ≡ lastPlace Z
 unfoldable pub PlacesDiffer : Type 0
 PlacesDiffer =
     (Z : Sizes) → inRange Z ≡ true → (p q : ℕ) → p ≤ lastPlace Z → q ≤ lastPlace Z → marksOf Z p ≡ marksOf Z q → p ≡ q
-
--- the step is an erase of this block
-unfoldable pub erasesBlock : (block : ℕ) → Operation → Bool
-erasesBlock block (write pass b page) = false
-erasesBlock block (erase b) = eqb b block
-erasesBlock block done = false
 
 -- "the two passes, 2 × n erases": block 0 and block n are erased once, every block between twice. What a run counts is as many
 -- steps as it takes, each a write or an erase.

@@ -8,5 +8,7 @@ pub mod Cut
 pub mod Mend
 pub mod Answers
 pub mod Runs
+pub mod Events
+pub mod Demand3
 pub mod Cases
 pub mod Claims

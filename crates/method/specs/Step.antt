@@ -1,6 +1,8 @@
 -- Document 01, "Two passes": one step, and run as that step repeated.
+use mathlib.Core.Bool.{Bool, true, false}
 use mathlib.Core.List.{List, [], _∷_}
 use Prim.Native.Nat.{ℕ, zero, suc}
+use lib.Dec.{eqb}
 use lib.ListN.{take, drop}
 use Rattle.flash.specs.Lists.{concatMap}
 use Rattle.flash.specs.Geometry.{slot}
@@ -47,6 +49,17 @@ module _ (M : Move) where
   unfoldable pub steps : (count place : ℕ) → Running → Running
   steps zero place run = run
   steps (suc count) place run = steps count (suc place) (step place run)
+
+-- the step is an erase, or an erase of this block
+unfoldable pub isErase : Operation → Bool
+isErase (write pass block page) = false
+isErase (erase block) = true
+isErase done = false
+
+unfoldable pub erasesBlock : (block : ℕ) → Operation → Bool
+erasesBlock block (write pass b page) = false
+erasesBlock block (erase b) = eqb b block
+erasesBlock block done = false
 
 -- what is counted of the operations done
 pub record Tally : Type 0 where

@@ -1,0 +1,98 @@
+-- Demand 3: one claim over any list of runs, recoveries and reads, with cuts anywhere.
+use mathlib.Core.Bool.{true, false}
+use mathlib.Core.Path.{_≡_}
+use mathlib.Core.List.{List, [], _∷_}
+use Prim.Native.Nat.{ℕ, _+_, _*_, _≤_, _<_}
+use lib.ListN.{length, getD}
+use Rattle.flash.specs.Lists.{count}
+use Rattle.flash.specs.Tables.{refusal}
+use Rattle.flash.specs.Geometry.{slotOf, originalCount, slotCount, workLength}
+use Rattle.flash.specs.PageSum.{sum}
+use Rattle.flash.specs.Chip.{Chip, pageAt, isWhole}
+use Rattle.method.specs.Move.{Move}
+use Rattle.method.specs.Place.{done, lastPlace}
+use Rattle.method.specs.Read.{readSlots}
+use Rattle.method.specs.State.{originalsIn, stateOf}
+use Rattle.method.specs.Step.{isErase, erasesBlock}
+use Rattle.method.specs.Runs.{Start}
+use Rattle.method.specs.Cut.{CutInside}
+use Rattle.method.specs.Answers.{runRows, runAnswer, mendAnswer, readAnswer}
+use Rattle.method.specs.Events.{Call, run, mend, read, CutPoint, uncut, between, inside, Event, History, sizesOf, numberOf, stepsOf, chipAfter, starting, after, moments}
+
+-- ---- the premises, a line for each sentence; the first is `Start` of Runs.antt
+-- "All calls not refused share the sizes, s, an accepted list .. and a correct split of it"
+abbrev pub Shares : Move → Call → Type 0
+Shares M (run N work place budget) = N ≡ M
+Shares M (mend Z) = Z ≡ M .sizes
+Shares M (read N work k) = N ≡ M
+
+-- "with a mend between each cut and the next run"
+abbrev pub Mended : Call → History → Type 0
+Mended (run M work place budget) h = h .unmended ≡ false
+Mended (mend Z) h = Unit {0}
+Mended (read M work k) h = Unit {0}
+
+-- a cut lies within the call's steps, and leaves what the rule of the cut allows
+abbrev pub CutObeys : Call → CutPoint → Chip → Type 0
+CutObeys call uncut chip = Unit {0}
+CutObeys call (between finished) chip = finished ≤ length (stepsOf call chip)
+CutObeys call (inside finished left) chip =
+    (finished < length (stepsOf call chip)) × CutInside (sizesOf call) (getD (stepsOf call chip) finished done) (chipAfter call chip finished) left
+
+pub record Allowed (M : Move) (event : Event) (h : History) : Type 0 where
+  -- "a refused one may have any others"
+  pub shares : numberOf (event .call) (h .chip) ≡ 0 → Shares M (event .call)
+  pub mended : numberOf (event .call) (h .chip) ≡ 0 → Mended (event .call) h
+  pub cut-obeys : CutObeys (event .call) (event .cut) (h .chip)
+
+-- each event of a list is allowed where it comes
+pub data AllAllowed (M : Move) : List Event → History → Type 0 where
+  none : {h : History} → AllAllowed M [] h
+  next : {event : Event} {events : List Event} {h : History} → Allowed M event h → AllAllowed M events (after event h) → AllAllowed M (event ∷ events) h
+
+-- ---- the claim
+-- "each original page stays the sum of at most n whole stored pages, a read gives exactly it": of one original, whose bytes are
+-- `page`, at a moment
+pub record Stays (M : Move) (chip : Chip) (k : ℕ) (page : List ℕ) : Type 0 where
+  pub few : length (readSlots M (chip .marks) k) ≤ M .sizes .n
+  pub stored : (i : ℕ) → i < length (readSlots M (chip .marks) k) → getD (readSlots M (chip .marks) k) i 0 < slotCount (M .sizes)
+  pub whole : (i : ℕ) → i < length (readSlots M (chip .marks) k) → isWhole (chip .marks) (getD (readSlots M (chip .marks) k) i 0) ≡ true
+  pub total : sum (pageAt (M .sizes .P) chip) (readSlots M (chip .marks) k) ≡ page
+  pub read-gives : (work : List ℕ) → length work ≡ workLength (M .sizes)
+      → readAnswer M chip work k ≡ record { number = 0; count = length (readSlots M (chip .marks) k); work = page }
+
+-- what holds at every moment; `chip₀` is the store at rest, "whose pages are the originals"
+pub record Keeps (M : Move) (chip₀ : Chip) (h : History) : Type 0 where
+  pub stays : (k : ℕ) → k < originalCount (M .sizes) → Stays M (h .chip) k (pageAt (M .sizes .P) chip₀ (slotOf (M .sizes .m) k))
+  -- "erases are at most 2 × n plus one for each recovery call"
+  pub erases : count isErase (h .begun) ≤ 2 * M .sizes .n + h .mends
+  -- "with no cut and no recovery no block is erased more than twice"
+  pub block-erases : h .cuts ≡ 0 → h .mends ≡ 0 → (b : ℕ) → count (erasesBlock b) (h .begun) ≤ 2
+  -- "the finish is final": "from then on, cuts included, the slot that the list gives for original k holds its bytes"
+  pub final : h .finished ≡ true → (k : ℕ) → k < originalCount (M .sizes)
+      → pageAt (M .sizes .P) (h .chip) (slotOf (M .sizes .m) (getD (M .list) k 0)) ≡ pageAt (M .sizes .P) chip₀ (slotOf (M .sizes .m) k)
+  -- whenever a run is not refused, store and marks are those of its place (demand 2 along the list)
+  pub placed : (work : List ℕ) (place : ℕ) → refusal (runRows M (h .chip) work place) ≡ 0
+      → h .chip ≡ stateOf M (originalsIn (M .sizes) chip₀) place
+  -- recovery always succeeds, the run after it is accepted, and with budget enough it reaches the finish
+  pub recovers : mendAnswer (M .sizes) (h .chip) .number ≡ 0
+  pub goes-on : (work : List ℕ) → length work ≡ workLength (M .sizes) → (budget : ℕ) → lastPlace (M .sizes) ≤ budget
+      → runAnswer M (mendAnswer (M .sizes) (h .chip) .chip) work (mendAnswer (M .sizes) (h .chip) .place) budget .finished ≡ 1
+
+pub data AtEach (P : History → Type 0) : List History → Type 0 where
+  none : AtEach P []
+  more : {h : History} {hs : List History} → P h → AtEach P hs → AtEach P (h ∷ hs)
+
+unfoldable pub Demand3 : Type 0
+Demand3 =
+    (M : Move) (chip₀ : Chip) → Start M chip₀ → (events : List Event) → AllAllowed M events (starting chip₀)
+    → AtEach (Keeps M chip₀) (moments events (starting chip₀))
+
+-- "equal marks mean the same pages summed": two reads under the same sizes, list, split and s
+unfoldable pub SameSlots : Type 0
+SameSlots =
+    (M : Move) (one other : Chip) → one .marks ≡ other .marks → (k : ℕ) (work₁ work₂ : List ℕ)
+    → readAnswer M one work₁ k .number ≡ 0 → readAnswer M other work₂ k .number ≡ 0
+    → (slots : List ℕ)
+    × (readAnswer M one work₁ k ≡ record { number = 0; count = length slots; work = sum (pageAt (M .sizes .P) one) slots })
+    × (readAnswer M other work₂ k ≡ record { number = 0; count = length slots; work = sum (pageAt (M .sizes .P) other) slots })

@@ -1,0 +1,153 @@
+-- Document 01, "What demand 3 speaks of": lists of calls with cuts, and what they leave. "The list has runs, mends and reads in any
+-- order, refused ones included". Answers are those of Answers.antt and no others.
+use mathlib.Core.Bool.{Bool, true, false, cond, _||_}
+use mathlib.Core.List.{List, [], _∷_, _++_, map}
+use mathlib.Core.Option.{Option, none, some}
+use Prim.Native.Nat.{ℕ, zero, suc}
+use lib.Dec.{eqb}
+use lib.ListN.{length, take}
+use Rattle.flash.specs.Lists.{range}
+use Rattle.flash.specs.Geometry.{Sizes}
+use Rattle.flash.specs.Chip.{Chip}
+use Rattle.method.specs.Move.{Move}
+use Rattle.method.specs.Place.{Operation, erase}
+use Rattle.method.specs.Step.{operationsFrom}
+use Rattle.method.specs.Mend.{Reading, reading}
+use Rattle.method.specs.Answers.{stepsTaken, runAnswer, mendAnswer, readAnswer}
+
+-- A call with all that it is given but store and marks: "Each call gets store and marks as the call or cut before it left them."
+-- "A run has any budget and any place".
+pub data Call : Type 0 where
+  run : Move → (work : List ℕ) → (place budget : ℕ) → Call
+  mend : Sizes → Call
+  read : Move → (work : List ℕ) → (k : ℕ) → Call
+
+-- "Any call may be cut. A cut point is the call, how many of its steps are finished, and whether the next is begun." What a cut
+-- inside a step leaves is part of the event, since it is open.
+pub data CutPoint : Type 0 where
+  uncut : CutPoint
+  between : (finished : ℕ) → CutPoint
+  inside : (finished : ℕ) → (left : Chip) → CutPoint
+
+pub record Event : Type 0 where
+  pub call : Call
+  pub cut : CutPoint
+
+-- the sizes that a call is given
+unfoldable pub sizesOf : Call → Sizes
+sizesOf (run M work place budget) = M .sizes
+sizesOf (mend Z) = Z
+sizesOf (read M work k) = M .sizes
+
+-- the number that the call returns if it is not cut: 0, or its refusal
+unfoldable pub numberOf : Call → Chip → ℕ
+numberOf (run M work place budget) chip = runAnswer M chip work place budget .number
+numberOf (mend Z) chip = mendAnswer Z chip .number
+numberOf (read M work k) chip = readAnswer M chip work k .number
+
+-- mend's one step, if it has one
+unfoldable pub mendSteps : Option Reading → List Operation
+mendSteps none = []
+mendSteps (some found) = elim (found .toErase) [ none ↦ [] | some b ↦ erase b ∷ [] ]
+
+-- the steps of a call that is not refused; a refused call has none
+unfoldable pub stepsOf : Call → Chip → List Operation
+stepsOf (run M work place budget) chip =
+    cond (eqb (numberOf (run M work place budget) chip) 0) (operationsFrom M place (stepsTaken (M .sizes) place budget)) []
+stepsOf (mend Z) chip = cond (eqb (numberOf (mend Z) chip) 0) (mendSteps (reading Z (chip .marks))) []
+stepsOf (read M work k) chip = []
+
+-- the chip once some steps of a call are finished: what the call with just that budget leaves
+unfoldable pub chipAfter : Call → Chip → (finished : ℕ) → Chip
+chipAfter (run M work place budget) chip finished = runAnswer M chip work place finished .chip
+chipAfter (mend Z) chip zero = chip
+chipAfter (mend Z) chip (suc finished) = mendAnswer Z chip .chip
+chipAfter (read M work k) chip finished = chip
+
+-- the chip once the call has returned
+unfoldable pub chipReturned : Call → Chip → Chip
+chipReturned (run M work place budget) chip = runAnswer M chip work place budget .chip
+chipReturned (mend Z) chip = mendAnswer Z chip .chip
+chipReturned (read M work k) chip = chip
+
+-- "The finish is a run that returns 'finished'"
+unfoldable pub returnsFinished : Call → Chip → Bool
+returnsFinished (run M work place budget) chip = eqb (runAnswer M chip work place budget .finished) 1
+returnsFinished (mend Z) chip = false
+returnsFinished (read M work k) chip = false
+
+unfoldable pub isMend : Call → Bool
+isMend (run M work place budget) = false
+isMend (mend Z) = true
+isMend (read M work k) = false
+
+-- what has happened up to a moment
+pub record History : Type 0 where
+  pub chip : Chip
+  -- the operations begun: "An erase is begun once its step is, by run or mend, finished or cut inside."
+  pub begun : List Operation
+  -- the recovery calls, refused and cut ones included
+  pub mends : ℕ
+  pub cuts : ℕ
+  -- a cut has come, and no mend since that was not itself cut
+  pub unmended : Bool
+  -- a run has returned "finished"
+  pub finished : Bool
+
+unfoldable pub starting : Chip → History
+starting chip = record { chip = chip; begun = []; mends = 0; cuts = 0; unmended = false; finished = false }
+
+module _ (h : History) where
+  -- within a call, `finished` steps of it being finished
+  unfoldable pub during : Call → (finished : ℕ) → History
+  during call finished = record {
+    chip = chipAfter call (h .chip) finished;
+    begun = h .begun ++ take finished (stepsOf call (h .chip));
+    mends = cond (isMend call) (suc (h .mends)) (h .mends);
+    cuts = h .cuts;
+    unmended = h .unmended;
+    finished = h .finished;
+  }
+
+  -- once the call has returned
+  unfoldable pub returned : Call → History
+  returned call = record {
+    chip = chipReturned call (h .chip);
+    begun = h .begun ++ stepsOf call (h .chip);
+    mends = cond (isMend call) (suc (h .mends)) (h .mends);
+    cuts = h .cuts;
+    unmended = cond (isMend call) false (h .unmended);
+    finished = h .finished || returnsFinished call (h .chip);
+  }
+
+  -- once the call is cut: "A cut call returns nothing." `left` is what the cut leaves, `begun` how many steps were begun.
+  unfoldable pub cutShort : Call → (begun : ℕ) → (left : Chip) → History
+  cutShort call begun left = record {
+    chip = left;
+    begun = h .begun ++ take begun (stepsOf call (h .chip));
+    mends = cond (isMend call) (suc (h .mends)) (h .mends);
+    cuts = suc (h .cuts);
+    unmended = true;
+    finished = h .finished;
+  }
+
+  -- "A cut with the next step not begun leaves the store and marks as the finished steps left them."
+  unfoldable pub afterCall : Call → CutPoint → History
+  afterCall call uncut = returned call
+  afterCall call (between finished) = cutShort call finished (chipAfter call (h .chip) finished)
+  afterCall call (inside finished left) = cutShort call (suc finished) left
+
+  -- how many steps of the call are finished when it ends
+  unfoldable pub stepsFinished : Call → CutPoint → ℕ
+  stepsFinished call uncut = length (stepsOf call (h .chip))
+  stepsFinished call (between finished) = finished
+  stepsFinished call (inside finished left) = finished
+
+unfoldable pub after : Event → History → History
+after event h = afterCall h (event .call) (event .cut)
+
+-- every moment of a list of events: inside each call, after each of its finished steps, and after each call
+unfoldable pub moments : List Event → History → List History
+moments [] h = h ∷ []
+moments (event ∷ events) h =
+    map (during h (event .call)) (range 0 (suc (stepsFinished h (event .call) (event .cut)))) ++ moments events (after event h)
