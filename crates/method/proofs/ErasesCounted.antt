@@ -85,6 +85,26 @@ module _ (Z : Sizes) (block : ℕ) where
   forward-never : block < 1 → count (λ i. eqb i block) (range 1 n) ≡ 0
   forward-never h = count-none (λ i. eqb i block) (range 1 n) (none-is (λ i. eqb i block) 1 n (λ j l _. ne-eqb j block (omega arith)))
 
+  -- no block is erased more than twice
+  pub at-most-twice : count (erasesBlock block) (operations Z) ≤ 2
+  at-most-twice = go (order 0 block) (order block n)
+    where
+      last : cond (ltb block n) 1 0 ≤ 1
+      last = ⊎-elim
+          (λ (e : ltb block n ≡ true). rw e (omega arith))
+          (λ (e : ltb block n ≡ false). rw e (omega arith))
+          (bool-cases (ltb block n))
+
+      never : ((j : ℕ) → 1 ≤ j → j < 1 + n → eqb j block ≡ false) → count (erasesBlock block) (operations Z) ≤ 2
+      never f = omega (arith, both-passes, last, count-none (λ i. eqb i block) (range 1 n) (none-is (λ i. eqb i block) 1 n f))
+
+      go : Order 0 block → Order block n → count (erasesBlock block) (operations Z) ≤ 2
+      go (same e) _ = never (λ j l u. ne-eqb j block (omega arith))
+      go (more h) _ = absurd (omega arith)
+      go (less l) (more h) = never (λ j l u. ne-eqb j block (omega arith))
+      go (less l) (less h) = omega (arith, both-passes, last, forward-once (omega arith) (omega arith))
+      go (less l) (same e) = omega (arith, both-passes, last, forward-once (omega arith) (omega arith))
+
 -- all the steps, as the steps of a run from place 0; they are the same for every list and split
 module _ (Z : Sizes) where
   open Sizes Z using (n, m)

@@ -38,3 +38,4 @@ pub mod Keeping
 pub mod States
 pub mod Rest
 pub mod RunClaims
+pub mod Histories
