@@ -39,3 +39,5 @@ pub mod States
 pub mod Rest
 pub mod RunClaims
 pub mod Histories
+pub mod Idle
+pub mod RunEvents

@@ -3,7 +3,7 @@ use mathlib.Core.Path.{_≡_, sym, ap, _∙_, subst}
 use mathlib.Core.Logic.{⊎-elim}
 use mathlib.Core.Bool.{cond}
 use Prim.Native.Nat.{ℕ, suc, _+_, _*_, _/_, _≤_, _<_}
-use native.Mathlib.Nat.{suc-mul, add-zero, div-add-mod', div-lt-iff-lt-mul}
+use native.Mathlib.Nat.{suc-mul, add-zero, div-add-mod', div-lt-iff-lt-mul, mul-div-cancel}
 use native.Mathlib.Omega.{arith}
 use lib.Dec.{ltb}
 use borrow.Author.Tests.{lt-ltb, le-ltb}
@@ -28,6 +28,10 @@ module _ (Z : Sizes) where
   turn-high place h =
       let in-time : turn place < suc (2 * n) = div-lt-iff-lt-mul {k = m + 1} (omega arith) .1 (omega arith) in
       omega arith
+
+  pub turn-last : turn (lastPlace Z) ≡ 2 * n
+  unfolding lastPlace
+  turn-last = mul-div-cancel (2 * n) (omega arith)
 
   -- a write stays in its turn, and an erase ends it
   pub turn-writes : (place : ℕ) → filled Z place < m → turn (suc place) ≡ turn place
