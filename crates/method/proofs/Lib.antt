@@ -41,3 +41,5 @@ pub mod RunClaims
 pub mod Histories
 pub mod Idle
 pub mod RunEvents
+pub mod MendEvents
+pub mod Demand

@@ -47,8 +47,8 @@ pub record Allowed (M : Move) (event : Event) (h : History) : Type 0 where
 
 -- each event of a list is allowed where it comes
 pub data AllAllowed (M : Move) : List Event → History → Type 0 where
-  none : {h : History} → AllAllowed M [] h
-  next : {event : Event} {events : List Event} {h : History} → Allowed M event h → AllAllowed M events (after event h) → AllAllowed M (event ∷ events) h
+  ends : {h : History} → AllAllowed M [] h
+  goes : {event : Event} {events : List Event} {h : History} → Allowed M event h → AllAllowed M events (after event h) → AllAllowed M (event ∷ events) h
 
 -- ---- the claim
 -- "each original page stays the sum of at most n whole stored pages, a read gives exactly it": of one original, whose bytes are
