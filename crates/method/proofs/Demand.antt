@@ -20,10 +20,11 @@ use Rattle.method.specs.Place.{Operation, filled}
 use Rattle.method.specs.Step.{operationsFrom}
 use Rattle.method.specs.State.{originalsIn}
 use Rattle.method.specs.Mend.{Reading, reading}
-use Rattle.method.specs.Answers.{RunAnswer, runRows, stepsTaken, runRefused, runAnswer, mendRows, mended, mendAnswer}
+use Rattle.method.specs.Read.{readSlots, readPage}
+use Rattle.method.specs.Answers.{RunAnswer, runRows, stepsTaken, runRefused, runAnswer, mendRows, mended, mendAnswer, readRows, readAnswer}
 use Rattle.method.specs.Runs.{Start}
 use Rattle.method.specs.Events.{Call, run, mend, read, CutPoint, Event, History, numberOf, mendSteps, stepsOf, chipAfter, chipReturned, returnsFinished, starting, during, after, stepsFinished, moments}
-use Rattle.method.specs.Demand3.{CutObeys, Allowed, AllAllowed, goes, Keeps, AtEach, none, more, Demand3}
+use Rattle.method.specs.Demand3.{CutObeys, Allowed, AllAllowed, goes, Keeps, AtEach, none, more, Demand3, SameSlots}
 use Rattle.method.proofs.Shape.{Accepted}
 use Rattle.method.proofs.Accepting.{StandsAt}
 use Rattle.method.proofs.Rest.{rest-stands, rest-holds, rest-length}
@@ -163,3 +164,17 @@ module _ (M : Move) (chip₀ : Chip) (S : Start M chip₀) where
 pub demand-3 : Demand3
 unfolding Demand3
 demand-3 M chip₀ S events O = all-kept M chip₀ S events (starting chip₀) (started M chip₀ S) O
+
+-- ---- equal marks
+read-answer : (M : Move) (chip : Chip) (work : List ℕ) (k : ℕ) → readAnswer M chip work k .number ≡ 0
+    → readAnswer M chip work k ≡ record { number = 0; count = length (readSlots M (chip .marks) k); work = readPage M chip k }
+unfolding readAnswer
+read-answer M chip work k e = ⊎-elim
+    (λ (q : eqb (refusal (readRows M chip work k)) 0 ≡ true). rw q)
+    (λ (q : eqb (refusal (readRows M chip work k)) 0 ≡ false). absurd (eqb-false _ 0 q (rw q at e)))
+    (bool-cases (eqb (refusal (readRows M chip work k)) 0))
+
+pub same-slots : SameSlots
+unfolding SameSlots readPage
+same-slots M one other marks k work₁ work₂ e f =
+    (readSlots M (one .marks) k, read-answer M one work₁ k e, rw marks (read-answer M other work₂ k f))

@@ -43,3 +43,4 @@ pub mod Idle
 pub mod RunEvents
 pub mod MendEvents
 pub mod Demand
+pub mod Example

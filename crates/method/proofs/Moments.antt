@@ -1,7 +1,7 @@
 -- Moments of a move: the marks that places have, and those that cuts leave. A moment goes by the place where the move goes on after
 -- a mend, which the marks tell (Recovery).
 use mathlib.Core.Path.{_≡_, refl, sym, ap, _∙_, subst}
-use mathlib.Core.Logic.{_⊎_, _≢_, ⊎-elim}
+use mathlib.Core.Logic.{_≢_, ⊎-elim}
 use mathlib.Core.Bool.{true}
 use mathlib.Core.List.{List}
 use Prim.Native.Nat.{ℕ, suc, _+_, _*_, _≤_, _<_}

@@ -133,7 +133,7 @@ mendRefusedAs number n = mend (sizes n 1) (resting n) (record { number = number;
 abbrev pub three : Move
 three = record { sizes = sizes 3 1; list = 1 ∷ 2 ∷ 0 ∷ []; sets = 0 ∷ 0 ∷ 0 ∷ [] }
 
-abbrev threeAtRest : Chip
+abbrev pub threeAtRest : Chip
 threeAtRest = chip (255 ∷ 1 ∷ 2 ∷ 4 ∷ []) (255 ∷ 0 ∷ 0 ∷ 0 ∷ [])
 
 abbrev threeFinished : Chip

@@ -20,6 +20,8 @@ use Rattle.method.specs.Step.{erasesBlock, tally, operationsFrom}
 use Rattle.method.specs.Mend.{Reading, lines, reading}
 use Rattle.method.specs.Answers.{runRows, mendRows, readRows}
 use Rattle.method.specs.Runs.{RunsAddUp, StatesReached}
+use Rattle.method.specs.Demand3.{Demand3, SameSlots}
+use Rattle.method.specs.Example.{ExampleHolds}
 use Rattle.method.specs.Cases.{CasesHold}
 
 -- "There are 2 × n × (m + 1) steps"
@@ -127,3 +129,6 @@ pub record Claims : Type 0 where
   pub walks : WalksEnd
   pub lines : LinesAgree
   pub lowest : LowestReturned
+  pub demand-3 : Demand3
+  pub same-slots : SameSlots
+  pub example : ExampleHolds

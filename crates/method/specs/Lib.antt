@@ -11,4 +11,5 @@ pub mod Runs
 pub mod Events
 pub mod Demand3
 pub mod Cases
+pub mod Example
 pub mod Claims

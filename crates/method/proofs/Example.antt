@@ -1,0 +1,76 @@
+-- The example is allowed, and demand 3 is applied to it.
+use mathlib.Core.Path.{_≡_, refl, sym}
+use mathlib.Core.Logic.{inl}
+use mathlib.Core.Bool.{true≢false}
+use mathlib.Core.List.{[], _∷_}
+use Prim.Native.Nat.{ℕ, zero, suc, _<_}
+use lib.Dec.{lit<}
+use lib.ListN.{length}
+use native.Mathlib.Omega.{arith}
+use Rattle.flash.specs.Chip.{Chip}
+use Rattle.method.specs.Place.{forward, write, erase}
+use Rattle.method.specs.Cut.{CutInside, touches, isTornMark}
+use Rattle.method.specs.Step.{isErase}
+use Rattle.method.specs.Runs.{Start}
+use Rattle.method.specs.Events.{starting, sizesOf, numberOf, mendSteps, stepsOf, chipAfter, chipReturned, returnsFinished, isMend, during, returned, cutShort, afterCall, after}
+use Rattle.method.specs.Demand3.{AllAllowed, ends, goes, Demand3}
+use Rattle.method.specs.Cases.{three, threeAtRest}
+use Rattle.method.specs.Example.{tornWrite, untouched, cutInWrite, cutInMend, wholeMend, cutInErase, lastRun, exampleEvents, afterAll, ExampleHolds}
+use Rattle.method.proofs.Open.{all-open}
+use Rattle.method.proofs.Demand.{demand-3}
+
+unfoldable events-open : Unit {0}
+unfolding all-open starting sizesOf numberOf mendSteps stepsOf chipAfter chipReturned returnsFinished isMend during returned cutShort afterCall after exampleEvents afterAll isErase touches isTornMark
+events-open = tt
+
+-- the four slots of this chip
+four : (Q : ℕ → Type 0) → Q 0 → Q 1 → Q 2 → Q 3 → (t : ℕ) → t < 4 → Q t
+four Q a b c d zero h = a
+four Q a b c d (suc zero) h = b
+four Q a b c d (suc (suc zero)) h = c
+four Q a b c d (suc (suc (suc zero))) h = d
+four Q a b c d (suc (suc (suc (suc t)))) h = absurd (omega arith)
+
+cut-write : CutInside (three .sizes) (write forward 1 0) (record { store = 5 ∷ 255 ∷ 2 ∷ 4 ∷ []; marks = 1 ∷ 255 ∷ 0 ∷ 0 ∷ [] }) tornWrite
+unfolding events-open
+cut-write = record {
+  store-length = refl;
+  marks-length = refl;
+  inside = four _ (λ e. absurd (true≢false (sym e))) (λ e. record { mark = refl }) (λ e. absurd (true≢false (sym e))) (λ e. absurd (true≢false (sym e)));
+  outside = four _ (λ e. record { mark = refl; page = refl }) (λ e. absurd (true≢false e)) (λ e. record { mark = refl; page = refl }) (λ e. record { mark = refl; page = refl });
+}
+
+-- the recovery's erase of block 1, and the erase of block 2, may both leave things as they were
+as-it-was : (b : ℕ) (chip : Chip) → length (chip .store) ≡ 4 → length (chip .marks) ≡ 4 → CutInside (three .sizes) (erase b) chip chip
+as-it-was b chip s m = record {
+  store-length = s;
+  marks-length = m;
+  inside = λ t h e. inl (record { mark = refl; page = refl });
+  outside = λ t h e. record { mark = refl; page = refl };
+}
+
+example-start : Start three threeAtRest
+unfolding events-open
+example-start = record { store-length = refl; marks-length = refl; at-rest = refl; list-accepted = refl; split-correct = refl }
+
+example-allowed : AllAllowed three exampleEvents (starting threeAtRest)
+unfolding events-open
+example-allowed =
+    goes {event = cutInWrite} (record { shares = λ e. refl; mended = λ e. refl; cut-obeys = (lit< {m = 2} {n = 5} tt, cut-write) })
+    (goes {event = cutInMend} (record { shares = λ e. refl; mended = λ e. tt; cut-obeys = (lit< {m = 0} {n = 1} tt, as-it-was 1 tornWrite refl refl) })
+    (goes {event = wholeMend} (record { shares = λ e. refl; mended = λ e. tt; cut-obeys = tt })
+    (goes {event = cutInErase} (record { shares = λ e. refl; mended = λ e. refl; cut-obeys = (lit< {m = 1} {n = 9} tt, as-it-was 2 untouched refl refl) })
+    (goes {event = wholeMend} (record { shares = λ e. refl; mended = λ e. tt; cut-obeys = tt })
+    (goes {event = lastRun} (record { shares = λ e. refl; mended = λ e. refl; cut-obeys = tt })
+    ends)))))
+
+pub example-holds : ExampleHolds
+unfolding events-open Demand3
+example-holds = record {
+  start = example-start;
+  allowed = example-allowed;
+  kept = demand-3 three threeAtRest example-start exampleEvents example-allowed;
+  mends = refl;
+  erases = refl;
+  finished = refl;
+}
