@@ -1,6 +1,6 @@
 -- Laws of marks: when a block is full of a letter, or unfinished.
 use mathlib.Core.Path.{_≡_, refl, sym, _∙_}
-use mathlib.Core.Logic.{_≢_}
+use mathlib.Core.Logic.{_≢_, ⊎-elim}
 use mathlib.Core.Bool.{Bool, true, false, or-true}
 use mathlib.Core.List.{List, [], _∷_}
 use Prim.Native.Nat.{ℕ, zero, suc, _+_, _*_, _≤_, _<_}
@@ -9,12 +9,12 @@ use native.Mathlib.Omega.{arith}
 use lib.Dec.{eqb}
 use lib.ListN.{length, getD}
 use borrow.Author.Tests.{eqb-true, eq-eqb, ne-eqb}
-use Rattle.flash.specs.Lists.{range, all, part}
+use Rattle.flash.specs.Lists.{range, all, any, part}
 use Rattle.flash.specs.Geometry.{slot}
 use Rattle.flash.specs.Chip.{erased, markAt, isFull, isUnfinished, letterOf, noLetter}
-use Rattle.flash.proofs.Bools.{never-both, fails, bool-eq}
-use Rattle.flash.proofs.Searches.{all-at, all-of, first-none}
-use Rattle.flash.proofs.Ranges.{all-in, all-is, all-not, none-is, first-is}
+use Rattle.flash.proofs.Bools.{bool-cases, never-both, fails, bool-eq}
+use Rattle.flash.proofs.Searches.{all-at, all-of, first-none, first-passes}
+use Rattle.flash.proofs.Ranges.{all-in, all-is, all-not, none-is, first-hit, first-is}
 use Rattle.flash.proofs.Parts.{length-part, part-at}
 
 -- what a list has at an index within it does not depend on the default
@@ -28,7 +28,8 @@ pub mark-is : (marks : List ℕ) (t : ℕ) → t < length marks → markAt marks
 unfolding markAt
 mark-is marks t h = getD-any marks t erased 0 h
 
-pub first-mark : (m : ℕ) (marks : List ℕ) (block : ℕ) → 0 < m → block * m + m ≤ length marks → markAt marks (slot m block 0) ≡ getD marks (block * m) 0
+first-mark : (m : ℕ) (marks : List ℕ) (block : ℕ) → 0 < m → block * m + m ≤ length marks
+    → markAt marks (slot m block 0) ≡ getD marks (block * m) 0
 first-mark m marks block h fits =
     let start : block * m + 0 ≡ block * m = omega arith in
     rw start (mark-is marks (block * m) (omega arith))
@@ -38,42 +39,51 @@ module _ (m : ℕ) (marks : List ℕ) (block : ℕ) where
   marked letter page = eqb (markAt marks (slot m block page)) letter
 
   -- full: each mark is the letter
-  pub full-at : (letter page : ℕ) → isFull m marks block letter ≡ true → page < m → markAt marks (slot m block page) ≡ letter
+  pub full-at : (letter page : ℕ) → isFull m marks block letter ≡ true → page < m
+      → markAt marks (slot m block page) ≡ letter
   unfolding isFull
   full-at letter page e h = eqb-true _ _ (all-in (marked letter) 0 m e page (omega arith) (omega arith))
 
-  pub full-of : (letter : ℕ) → ((page : ℕ) → page < m → markAt marks (slot m block page) ≡ letter) → isFull m marks block letter ≡ true
+  pub full-of : (letter : ℕ) → ((page : ℕ) → page < m → markAt marks (slot m block page) ≡ letter)
+      → isFull m marks block letter ≡ true
   unfolding isFull
   full-of letter f = all-is (marked letter) 0 m (λ page a b. eq-eqb _ _ (f page (omega arith)))
 
-  pub not-full : (letter page : ℕ) → page < m → markAt marks (slot m block page) ≢ letter → isFull m marks block letter ≡ false
+  pub not-full : (letter page : ℕ) → page < m → markAt marks (slot m block page) ≢ letter
+      → isFull m marks block letter ≡ false
   unfolding isFull
   not-full letter page h ne = all-not (marked letter) 0 m page (omega arith) (omega arith) (ne-eqb _ _ ne)
 
   -- full of one letter, and of no other
-  pub full-other : (letter other : ℕ) → 0 < m → isFull m marks block letter ≡ true → letter ≢ other → isFull m marks block other ≡ false
+  pub full-other : (letter other : ℕ) → 0 < m → isFull m marks block letter ≡ true → letter ≢ other
+      → isFull m marks block other ≡ false
   full-other letter other h e ne = not-full other 0 h (λ q. ne (sym (full-at letter 0 e h) ∙ q))
 
-  pub full-same : (letter other : ℕ) → 0 < m → isFull m marks block letter ≡ true → isFull m marks block other ≡ true → letter ≡ other
+  pub full-same : (letter other : ℕ) → 0 < m → isFull m marks block letter ≡ true → isFull m marks block other ≡ true
+      → letter ≡ other
   full-same letter other h e f = sym (full-at letter 0 e h) ∙ full-at other 0 f h
 
   -- a block that is full of a letter is finished
-  pub full-finished : (letter : ℕ) → letter < 3 → isFull m marks block letter ≡ true → isUnfinished m marks block ≡ false
+  pub full-finished : (letter : ℕ) → letter < 3 → isFull m marks block letter ≡ true
+      → isUnfinished m marks block ≡ false
   unfolding isUnfinished
   full-finished zero h e = rw e
   full-finished (suc zero) h e = rw (e, or-true)
   full-finished (suc (suc zero)) h e = rw (e, or-true)
   full-finished (suc (suc (suc letter))) h e = absurd (omega arith)
 
-  pub unfinished-at : (letter : ℕ) → letter < 3 → isUnfinished m marks block ≡ true → isFull m marks block letter ≡ false
+  pub unfinished-at : (letter : ℕ) → letter < 3 → isUnfinished m marks block ≡ true
+      → isFull m marks block letter ≡ false
   unfinished-at letter h u = fails (λ e. never-both u (full-finished letter h e))
 
-  pub unfinished-of : ((letter : ℕ) → letter < 3 → isFull m marks block letter ≡ false) → isUnfinished m marks block ≡ true
+  pub unfinished-of : ((letter : ℕ) → letter < 3 → isFull m marks block letter ≡ false)
+      → isUnfinished m marks block ≡ true
   unfolding isUnfinished
   unfinished-of f = rw (f 0 (omega arith), f 1 (omega arith), f 2 (omega arith))
 
   -- the letter that fills a block
-  pub letter-is : (letter : ℕ) → 0 < m → letter < 3 → isFull m marks block letter ≡ true → letterOf m marks block ≡ letter
+  pub letter-is : (letter : ℕ) → 0 < m → letter < 3 → isFull m marks block letter ≡ true
+      → letterOf m marks block ≡ letter
   unfolding letterOf
   letter-is letter h l e =
       first-is (isFull m marks block) 0 3 noLetter letter
@@ -90,18 +100,42 @@ module _ (m : ℕ) (marks : List ℕ) (block : ℕ) where
       first-none (isFull m marks block) (range 0 3) noLetter
       (none-is (isFull m marks block) 0 3 (λ letter a b. unfinished-at letter (omega arith) u))
 
-  -- no other letter can fill a block than its first mark
-  pub unfinished-first : (mark : ℕ) → 0 < m → markAt marks (slot m block 0) ≡ mark → (mark < 3 → isFull m marks block mark ≡ false) → isUnfinished m marks block ≡ true
-  unfinished-first mark h at f =
+  pub letter-full : letterOf m marks block < 3 → isFull m marks block (letterOf m marks block) ≡ true
+  unfolding letterOf
+  letter-full h =
+      ⊎-elim
+      (λ q. first-passes (isFull m marks block) (range 0 3) noLetter q)
+      (λ q. absurd (omega (arith, first-none (isFull m marks block) (range 0 3) noLetter q)))
+      (bool-cases (any (isFull m marks block) (range 0 3)))
+
+  none-unfinished : letterOf m marks block ≡ noLetter → isUnfinished m marks block ≡ true
+  unfolding letterOf
+  none-unfinished none =
       unfinished-of
+      (λ letter l. fails (λ e. omega (arith, first-hit (isFull m marks block) 0 3 letter noLetter (omega arith) (omega arith) e .high)))
+
+  pub unfinished-is : isUnfinished m marks block ≡ eqb (letterOf m marks block) noLetter
+  unfinished-is =
+      bool-eq (isUnfinished m marks block) (eqb (letterOf m marks block) noLetter)
+      (λ u. eq-eqb _ _ (letter-none u))
+      (λ e. none-unfinished (eqb-true _ _ e))
+
+  -- no other letter than its first mark can fill a block
+  pub first-not-full : 0 < m → block * m + m ≤ length marks
+      → (getD marks (block * m) 0 < 3 → isFull m marks block (getD marks (block * m) 0) ≡ false)
+      → letterOf m marks block ≡ noLetter
+  first-not-full h fits f =
+      letter-none
+      (unfinished-of
       (λ letter l.
       fails
       (λ e.
-      let same : mark ≡ letter = sym at ∙ full-at letter 0 e h in
-      never-both e (rw same at (f (rw same l)))))
+      let same : getD marks (block * m) 0 ≡ letter = sym (first-mark m marks block h fits) ∙ full-at letter 0 e h in
+      never-both e (rw same at (f (rw same l))))))
 
   -- the test over the block's part of the marks
-  pub full-part : (letter : ℕ) → block * m + m ≤ length marks → isFull m marks block letter ≡ all (λ mark. eqb mark letter) (part m block marks)
+  pub full-part : (letter : ℕ) → block * m + m ≤ length marks
+      → isFull m marks block letter ≡ all (λ mark. eqb mark letter) (part m block marks)
   unfolding markAt
   full-part letter fits =
       let size = length-part m block marks fits in
@@ -116,3 +150,12 @@ module _ (m : ℕ) (marks : List ℕ) (block : ℕ) where
       (λ page h.
       sym (part-at m block marks page erased h)
       ∙ eqb-true _ _ (all-at (λ mark. eqb mark letter) (part m block marks) page erased e (omega arith))))
+
+-- marks that agree on a block fill it alike
+pub full-same-marks : (m block letter : ℕ) (marks other : List ℕ)
+    → ((page : ℕ) → page < m → markAt marks (slot m block page) ≡ markAt other (slot m block page))
+    → isFull m marks block letter ≡ isFull m other block letter
+full-same-marks m block letter marks other same =
+    bool-eq (isFull m marks block letter) (isFull m other block letter)
+    (λ e. full-of m other block letter (λ page h. sym (same page h) ∙ full-at m marks block letter page e h))
+    (λ e. full-of m marks block letter (λ page h. same page h ∙ full-at m other block letter page e h))

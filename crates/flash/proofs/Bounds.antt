@@ -47,7 +47,15 @@ in-range Z e =
 pub range-in : (Z : Sizes) → Bounds Z → inRange Z ≡ true
 unfolding inRange isLetter
 range-in Z B =
-    rw (le-leb _ _ (B .n-low), le-leb _ _ (B .n-high), le-leb _ _ (B .m-low), le-leb _ _ (B .m-high), le-leb _ _ (B .P-low), le-leb _ _ (B .P-high)) (lt-ltb _ _ (B .s-high))
+    rw (
+      le-leb _ _ (B .n-low),
+      le-leb _ _ (B .n-high),
+      le-leb _ _ (B .m-low),
+      le-leb _ _ (B .m-high),
+      le-leb _ _ (B .P-low),
+      le-leb _ _ (B .P-high),
+    )
+    (lt-ltb _ _ (B .s-high))
 
 -- a product of bounded numbers
 pub product-le : (a b : ℕ) {c d : ℕ} → a ≤ c → b ≤ d → a * b ≤ c * d

@@ -17,7 +17,8 @@ use Rattle.flash.proofs.Searches.{all-at, all-of}
 use Rattle.flash.proofs.Parts.{part-fits, length-part, part-at, length-setPart, setPart-at, part-setPart, part-setPart-other, part-part, part-replicate}
 
 -- lent parts that hold a chip make that chip
-pub holds-chip : (chip : Chip) (store marks : List ℕ) → Holds chip store marks → _≡_ {A = Chip} (record { store = store; marks = marks }) chip
+pub holds-chip : (chip : Chip) (store marks : List ℕ) → Holds chip store marks
+    → _≡_ {A = Chip} (record { store = store; marks = marks }) chip
 holds-chip chip store marks H =
     ap₂ {C = Chip} (λ (s t : List ℕ). record { store = s; marks = t }) (H .store-is) (H .marks-is)
 
@@ -27,7 +28,8 @@ unfolding pageAt
 page-is P chip t = refl
 
 -- blank: the mark and each byte are 255
-pub blank-of : (P : ℕ) (chip : Chip) (t : ℕ) → markAt (chip .marks) t ≡ erased → pageAt P chip t ≡ replicate P erased → isBlank P chip t ≡ true
+pub blank-of : (P : ℕ) (chip : Chip) (t : ℕ) → markAt (chip .marks) t ≡ erased → pageAt P chip t ≡ replicate P erased
+    → isBlank P chip t ≡ true
 unfolding isBlank
 blank-of P chip t mark page =
     let test : ℕ → Bool = λ byte. eqb byte erased in
@@ -35,7 +37,8 @@ blank-of P chip t mark page =
     all-of test (replicate P erased) 0 (λ i h. eq-eqb _ _ (getD-replicate P i erased 0 (omega (arith, length-replicate P erased)))) in
     rw (eq-eqb (markAt (chip .marks) t) erased mark, page) bytes
 
-pub blank-is : (P : ℕ) (chip : Chip) (t : ℕ) → markAt (chip .marks) t ≡ erased → isBlank P chip t ≡ all (λ byte. eqb byte erased) (part P t (chip .store))
+pub blank-is : (P : ℕ) (chip : Chip) (t : ℕ) → markAt (chip .marks) t ≡ erased
+    → isBlank P chip t ≡ all (λ byte. eqb byte erased) (part P t (chip .store))
 unfolding isBlank pageAt
 blank-is P chip t mark = rw (eq-eqb (markAt (chip .marks) t) erased mark)
 
@@ -47,7 +50,8 @@ pub blank-mark : (P : ℕ) (chip : Chip) (t : ℕ) → isBlank P chip t ≡ true
 unfolding isBlank
 blank-mark P chip t e = eqb-true (markAt (chip .marks) t) erased (and-left (eqb (markAt (chip .marks) t) erased) _ e)
 
-pub blank-page : (P : ℕ) (chip : Chip) (t : ℕ) → t * P + P ≤ length (chip .store) → isBlank P chip t ≡ true → pageAt P chip t ≡ replicate P erased
+pub blank-page : (P : ℕ) (chip : Chip) (t : ℕ) → t * P + P ≤ length (chip .store) → isBlank P chip t ≡ true
+    → pageAt P chip t ≡ replicate P erased
 unfolding isBlank pageAt
 blank-page P chip t fits e =
     let test : ℕ → Bool = λ byte. eqb byte erased in
@@ -57,14 +61,28 @@ blank-page P chip t fits e =
     ext-getD 0 page (replicate P erased) (size ∙ sym (length-replicate P erased))
     (λ i h. eqb-true (getD page i 0) erased (all-at test page i 0 bytes h) ∙ sym (getD-replicate P i erased 0 (omega arith)))
 
-module _ (m P block : ℕ) (chip : Chip) (store-fits : block * (m * P) + m * P ≤ length (chip .store)) (marks-fit : block * m + m ≤ length (chip .marks)) where
+module _ (m P block : ℕ) (chip : Chip)
+    (store-fits : block * (m * P) + m * P ≤ length (chip .store)) (marks-fit : block * m + m ≤ length (chip .marks)) where
+  -- what the erase leaves in the block's two parts
+  abbrev blank-store : List ℕ
+  blank-store = replicate (m * P) erased
+
+  abbrev blank-marks : List ℕ
+  blank-marks = replicate m erased
+
+  store-whole : length (replicate (m * P) erased) ≡ m * P
+  store-whole = length-replicate (m * P) erased
+
+  marks-whole : length (replicate m erased) ≡ m
+  marks-whole = length-replicate m erased
+
   pub erase-store-length : length (eraseBlock m P block chip .store) ≡ length (chip .store)
   unfolding eraseBlock
-  erase-store-length = length-setPart (m * P) block (chip .store) (replicate (m * P) erased) store-fits (length-replicate (m * P) erased)
+  erase-store-length = length-setPart (m * P) block (chip .store) blank-store store-fits store-whole
 
   pub erase-marks-length : length (eraseBlock m P block chip .marks) ≡ length (chip .marks)
   unfolding eraseBlock
-  erase-marks-length = length-setPart m block (chip .marks) (replicate m erased) marks-fit (length-replicate m erased)
+  erase-marks-length = length-setPart m block (chip .marks) blank-marks marks-fit marks-whole
 
   module _ (page : ℕ) (inside : page < m) where
     -- the pages of the block become blank
@@ -72,13 +90,13 @@ module _ (m P block : ℕ) (chip : Chip) (store-fits : block * (m * P) + m * P �
     unfolding pageAt eraseBlock
     erase-page =
         sym (part-part P m block page (eraseBlock m P block chip .store) inside)
-        ∙ ap (part P page) (part-setPart (m * P) block (chip .store) (replicate (m * P) erased) store-fits (length-replicate (m * P) erased))
+        ∙ ap (part P page) (part-setPart (m * P) block (chip .store) blank-store store-fits store-whole)
         ∙ part-replicate P page (m * P) erased (part-fits page m P inside)
 
     pub erase-mark : markAt (eraseBlock m P block chip .marks) (slot m block page) ≡ erased
     unfolding markAt eraseBlock
     erase-mark =
-        setPart-at m block (chip .marks) (replicate m erased) marks-fit (length-replicate m erased) page erased inside
+        setPart-at m block (chip .marks) blank-marks marks-fit marks-whole page erased inside
         ∙ getD-replicate m page erased erased inside
 
     pub erase-blank : isBlank P (eraseBlock m P block chip) (slot m block page) ≡ true
@@ -90,14 +108,14 @@ module _ (m P block : ℕ) (chip : Chip) (store-fits : block * (m * P) + m * P �
       unfolding pageAt eraseBlock
       erase-page-other =
           sym (part-part P m other page (eraseBlock m P block chip .store) inside)
-          ∙ ap (part P page) (part-setPart-other (m * P) block (chip .store) (replicate (m * P) erased) store-fits (length-replicate (m * P) erased) other apart)
+          ∙ ap (part P page) (part-setPart-other (m * P) block (chip .store) blank-store store-fits store-whole other apart)
           ∙ part-part P m other page (chip .store) inside
 
       pub erase-mark-other : markAt (eraseBlock m P block chip .marks) (slot m other page) ≡ markAt (chip .marks) (slot m other page)
       unfolding markAt eraseBlock
       erase-mark-other =
           sym (part-at m other (eraseBlock m P block chip .marks) page erased inside)
-          ∙ ap (λ (p : List ℕ). getD p page erased) (part-setPart-other m block (chip .marks) (replicate m erased) marks-fit (length-replicate m erased) other apart)
+          ∙ ap (λ (p : List ℕ). getD p page erased) (part-setPart-other m block (chip .marks) blank-marks marks-fit marks-whole other apart)
           ∙ part-at m other (chip .marks) page erased inside
 
 module _ (P t : ℕ) (page : List ℕ) (mark : ℕ) (chip : Chip) where

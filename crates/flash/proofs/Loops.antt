@@ -17,19 +17,22 @@ use Rattle.flash.proofs.Searches.{all-append}
 use Rattle.flash.proofs.Xor.{xor-zero-eq}
 
 -- A loop that makes a list `old` into a list `new` of its length, one element a turn: after i turns it is `take i new ++ drop i old`.
-pub front-at : (new old : List ℕ) (i : ℕ) → length new ≡ length old → i < length old → getD (take i new ++ drop i old) i 0 ≡ getD old i 0
+pub front-at : (new old : List ℕ) (i : ℕ) → length new ≡ length old → i < length old
+    → getD (take i new ++ drop i old) i 0 ≡ getD old i 0
 front-at new [] i e l = absurd (not-suc-le-zero l)
 front-at [] (y ∷ old) i e l = absurd (omega arith)
 front-at (x ∷ new) (y ∷ old) zero e l = refl
 front-at (x ∷ new) (y ∷ old) (suc i) e l = front-at new old i (omega arith) (le-of-suc-le-suc l)
 
-front-suc : (new old : List ℕ) (i : ℕ) → length new ≡ length old → i < length old → set (take i new ++ drop i old) i (getD new i 0) ≡ take (suc i) new ++ drop (suc i) old
+front-suc : (new old : List ℕ) (i : ℕ) → length new ≡ length old → i < length old
+    → set (take i new ++ drop i old) i (getD new i 0) ≡ take (suc i) new ++ drop (suc i) old
 front-suc new [] i e l = absurd (not-suc-le-zero l)
 front-suc [] (y ∷ old) i e l = absurd (omega arith)
 front-suc (x ∷ new) (y ∷ old) zero e l = refl
 front-suc (x ∷ new) (y ∷ old) (suc i) e l = ap (λ (t : List ℕ). x ∷ t) (front-suc new old i (omega arith) (le-of-suc-le-suc l))
 
-pub front-more : (new old : List ℕ) (i : ℕ) → length new ≡ length old → i < length old → set (take i new ++ drop i old) i (getD new i 0) ≡ take (i + 1) new ++ drop (i + 1) old
+pub front-more : (new old : List ℕ) (i : ℕ) → length new ≡ length old → i < length old
+    → set (take i new ++ drop i old) i (getD new i 0) ≡ take (i + 1) new ++ drop (i + 1) old
 front-more new old i e l = rw add-one (front-suc new old i e l)
 
 -- A loop that gathers the bits in which bytes differ from a value: they are none while each byte is that value.
@@ -53,7 +56,9 @@ xor-none a b =
     (λ e. eq-eqb a b (xor-zero-eq a b (eqb-true (bitXor a b) 0 e)))
     (λ e. eq-eqb (bitXor a b) 0 (rw (eqb-true a b e) (xor-self b)))
 
-pub filled-more : (part : List ℕ) (value different i : ℕ) → i < length part → eqb different 0 ≡ all (λ byte. eqb byte value) (take i part) → eqb (bitOr different (bitXor (getD part i 0) value)) 0 ≡ all (λ byte. eqb byte value) (take (i + 1) part)
+pub filled-more : (part : List ℕ) (value different i : ℕ) → i < length part
+    → eqb different 0 ≡ all (λ byte. eqb byte value) (take i part)
+    → eqb (bitOr different (bitXor (getD part i 0) value)) 0 ≡ all (λ byte. eqb byte value) (take (i + 1) part)
 unfolding all
 filled-more part value different i h e =
     or-none different (bitXor (getD part i 0) value)

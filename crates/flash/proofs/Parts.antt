@@ -32,7 +32,8 @@ unfolding part
 length-part-of size i xs = simp (length-take, length-drop)
 
 -- two lists have the same part where they have the same length and the same elements there
-pub part-ext : (size i : ℕ) (xs ys : List ℕ) → length xs ≡ length ys → ((j : ℕ) → j < size → getD xs (i * size + j) 0 ≡ getD ys (i * size + j) 0) → part size i xs ≡ part size i ys
+pub part-ext : (size i : ℕ) (xs ys : List ℕ) → length xs ≡ length ys
+    → ((j : ℕ) → j < size → getD xs (i * size + j) 0 ≡ getD ys (i * size + j) 0) → part size i xs ≡ part size i ys
 part-ext size i xs ys e f =
     ext-getD 0 (part size i xs) (part size i ys) (length-part-of size i xs ∙ rw e (sym (length-part-of size i ys)))
     (λ j h.
@@ -127,7 +128,8 @@ part-replicate size i n v fits =
     ∙ sym (getD-replicate size k v 0 k-in))
 
 -- lists with the same parts are equal
-pub parts-ext : (size count : ℕ) (xs ys : List ℕ) → length xs ≡ count * size → length ys ≡ count * size → ((i : ℕ) → i < count → part size i xs ≡ part size i ys) → xs ≡ ys
+pub parts-ext : (size count : ℕ) (xs ys : List ℕ) → length xs ≡ count * size → length ys ≡ count * size
+    → ((i : ℕ) → i < count → part size i xs ≡ part size i ys) → xs ≡ ys
 parts-ext zero count xs ys a b f =
     let z = mul-zero count in
     ext-getD 0 xs ys (a ∙ sym b) (λ k h. absurd (omega arith))
@@ -150,14 +152,17 @@ module _ (size i : ℕ) (xs : List ℕ) where
       let k : i * size + size - i * size ≡ size = omega arith in
       rw k
 
-  pub lent-back : (new : List ℕ) → take (i * size) xs ++ (new ++ drop (i * size + size - i * size) (drop (i * size) xs)) ≡ setPart size i xs new
+  pub lent-back : (new : List ℕ)
+      → take (i * size) xs ++ (new ++ drop (i * size + size - i * size) (drop (i * size) xs)) ≡ setPart size i xs new
   unfolding setPart
   lent-back new =
       let k : i * size + size - i * size ≡ size = omega arith in
       rw (k, drop-drop)
 
 -- a lent part that came back filled
-pub filled-back : (size i value : ℕ) (xs back : List ℕ) → i * size + size ≤ length xs → back ≡ replicate (length (take (i * size + size - i * size) (drop (i * size) xs))) value → take (i * size) xs ++ (back ++ drop (i * size + size - i * size) (drop (i * size) xs)) ≡ setPart size i xs (replicate size value)
+pub filled-back : (size i value : ℕ) (xs back : List ℕ) → i * size + size ≤ length xs
+    → back ≡ replicate (length (take (i * size + size - i * size) (drop (i * size) xs))) value
+    → take (i * size) xs ++ (back ++ drop (i * size + size - i * size) (drop (i * size) xs)) ≡ setPart size i xs (replicate size value)
 filled-back size i value xs back fits e =
     let back-is : back ≡ replicate size value = e ∙ rw (lent-part size i xs, length-part size i xs fits) in
     rw back-is (lent-back size i xs (replicate size value))

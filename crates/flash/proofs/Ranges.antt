@@ -53,7 +53,8 @@ module _ (test : ℕ → Bool) (start size : ℕ) where
   unfolding count
   count-more = rw (range-more start size) (count-append test (range start size) ((start + size) ∷ []))
 
-  pub first-more : (otherwise : ℕ) → first test (range start (size + 1)) otherwise ≡ first test (range start size) (cond (test (start + size)) (start + size) otherwise)
+  pub first-more : (otherwise : ℕ)
+      → first test (range start (size + 1)) otherwise ≡ first test (range start size) (cond (test (start + size)) (start + size) otherwise)
   unfolding first
   first-more otherwise = rw (range-more start size) (first-append test (range start size) ((start + size) ∷ []) otherwise)
 
@@ -97,7 +98,8 @@ pub record First (test : ℕ → Bool) (start size r : ℕ) : Type 0 where
   pub before : (j : ℕ) → start ≤ j → j < r → test j ≡ false
 
 -- where one passes, there is a first
-pub first-hit : (test : ℕ → Bool) (start size j otherwise : ℕ) → start ≤ j → j < start + size → test j ≡ true → First test start size (first test (range start size) otherwise)
+pub first-hit : (test : ℕ → Bool) (start size j otherwise : ℕ) → start ≤ j → j < start + size → test j ≡ true
+    → First test start size (first test (range start size) otherwise)
 unfolding range first
 first-hit test start zero j otherwise a b e = absurd (omega arith)
 first-hit test start (suc size) j otherwise a b e =
@@ -122,7 +124,8 @@ first-hit test start (suc size) j otherwise a b e =
     (bool-cases (test start))
 
 -- there is but one first
-pub first-is : (test : ℕ → Bool) (start size otherwise r : ℕ) → First test start size r → first test (range start size) otherwise ≡ r
+pub first-is : (test : ℕ → Bool) (start size otherwise r : ℕ) → First test start size r
+    → first test (range start size) otherwise ≡ r
 first-is test start size otherwise r F =
     let f = first-hit test start size r otherwise (F .low) (F .high) (F .passes) in
     let r′ : ℕ = first test (range start size) otherwise in
@@ -138,7 +141,8 @@ pub record Only (test : ℕ → Bool) (start size k : ℕ) : Type 0 where
   pub others : (j : ℕ) → start ≤ j → j < start + size → test j ≡ true → j ≡ k
 
 -- the count is 1 where one passes and no other does
-pub count-one : (test : ℕ → Bool) (start size otherwise : ℕ) → count test (range start size) ≡ 1 → Only test start size (first test (range start size) otherwise)
+pub count-one : (test : ℕ → Bool) (start size otherwise : ℕ) → count test (range start size) ≡ 1
+    → Only test start size (first test (range start size) otherwise)
 unfolding range count first
 count-one test start zero otherwise e = absurd (omega arith)
 count-one test start (suc size) otherwise e =

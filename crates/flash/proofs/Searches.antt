@@ -30,7 +30,8 @@ module _ {A : Type 0} (test : A → Bool) where
       (λ (e : test x ≡ false). rw e (count-append xs ys))
       (bool-cases (test x))
 
-  pub first-append : (xs ys : List A) (otherwise : A) → first test (xs ++ ys) otherwise ≡ first test xs (first test ys otherwise)
+  pub first-append : (xs ys : List A) (otherwise : A)
+      → first test (xs ++ ys) otherwise ≡ first test xs (first test ys otherwise)
   unfolding first
   first-append [] ys otherwise = refl
   first-append (x ∷ xs) ys otherwise = ap (λ (r : A). cond (test x) x r) (first-append xs ys otherwise)

@@ -77,13 +77,15 @@ module _ (page : ℕ → List ℕ) where
   sum-next work t ts = sym (⊕-assoc work (page t) (sum page ts))
 
 -- sums of the same pages are equal
-pub sum-same : (page other : ℕ → List ℕ) (ts : List ℕ) → ((i : ℕ) → i < length ts → page (getD ts i 0) ≡ other (getD ts i 0)) → sum page ts ≡ sum other ts
+pub sum-same : (page other : ℕ → List ℕ) (ts : List ℕ)
+    → ((i : ℕ) → i < length ts → page (getD ts i 0) ≡ other (getD ts i 0)) → sum page ts ≡ sum other ts
 unfolding sum
 sum-same page other [] f = refl
 sum-same page other (t ∷ ts) f = ap₂ (λ (p s : List ℕ). p ⊕ s) (f 0 (omega arith)) (sum-same page other ts (λ i h. f (suc i) (omega arith)))
 
 -- the length of a sum of pages of one size, of which there is at least one
-pub length-sum : (page : ℕ → List ℕ) (size : ℕ) (ts : List ℕ) → ((i : ℕ) → i < length ts → length (page (getD ts i 0)) ≡ size) → 0 < length ts → length (sum page ts) ≡ size
+pub length-sum : (page : ℕ → List ℕ) (size : ℕ) (ts : List ℕ)
+    → ((i : ℕ) → i < length ts → length (page (getD ts i 0)) ≡ size) → 0 < length ts → length (sum page ts) ≡ size
 unfolding sum
 length-sum page size [] f h = absurd (not-suc-le-zero h)
 length-sum page size (t ∷ []) f h = ap length (⊕-nil (page t)) ∙ f 0 (omega arith)

@@ -33,7 +33,15 @@ xor-assoc =
     bin-ind (λ (a : ℕ). (b c : ℕ) → bitXor (bitXor a b) c ≡ bitXor a (bitXor b c)) (λ b c. refl)
     (λ a ih b c.
     xor-step (bitXor a b) c
-    ∙ rw (xor-half a b, xor-odd a b, ih (b / 2) (c / 2), differ-assoc (a % 2) (b % 2) (c % 2) (bit-lt a) (bit-lt b) (bit-lt c), ← xor-half b c, ← xor-odd b c) (sym (xor-step a (bitXor b c))))
+    ∙ rw (
+      xor-half a b,
+      xor-odd a b,
+      ih (b / 2) (c / 2),
+      differ-assoc (a % 2) (b % 2) (c % 2) (bit-lt a) (bit-lt b) (bit-lt c),
+      ← xor-half b c,
+      ← xor-odd b c,
+    )
+    (sym (xor-step a (bitXor b c))))
 
 -- what is added twice cancels
 pub xor-cancel : (a b : ℕ) → bitXor (bitXor a b) b ≡ a

@@ -15,7 +15,8 @@ pub const NO_LETTER: u8 = 3;
 pub fn erase_block(store: &mut [u8], marks: &mut [u8], m: usize, p: usize, block: usize)
     requires { ⌜ block * (m * p) + m * p ≤ length (now store) ⌝ }
     requires { ⌜ block * m + m ≤ length (now marks) ⌝ }
-    ensures { λ _. ⌜ Holds (eraseBlock m p block (record { store = now (store .entry); marks = now (marks .entry) })) (now (store .exit)) (now (marks .exit)) ⌝ }
+    ensures { λ _. ⌜ Holds (eraseBlock m p block (record { store = now (store .entry); marks = now (marks .entry) }))
+        (now (store .exit)) (now (marks .exit)) ⌝ }
 {
     let size = m * p;
     let start = block * size;

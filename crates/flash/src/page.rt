@@ -26,7 +26,8 @@ pub fn write_page(store: &mut [u8], marks: &mut [u8], p: usize, slot: usize, wor
     requires { ⌜ slot * p + p ≤ length (now store) ⌝ }
     requires { ⌜ slot < length (now marks) ⌝ }
     requires { ⌜ length (now work) ≡ p ⌝ }
-    ensures { λ _. ⌜ Holds (writePage p slot (now (work .entry)) mark (record { store = now (store .entry); marks = now (marks .entry) })) (now (store .exit)) (now (marks .exit)) ⌝ }
+    ensures { λ _. ⌜ Holds (writePage p slot (now (work .entry)) mark (record { store = now (store .entry); marks = now (marks .entry) }))
+        (now (store .exit)) (now (marks .exit)) ⌝ }
 {
     let to = slot * p;
     let end = to + p;

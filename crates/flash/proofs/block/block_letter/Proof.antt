@@ -1,10 +1,10 @@
 use mathlib.Core.Path.{_≡_, sym, _∙_}
-use mathlib.Core.Bool.{true, false}
-use Prim.Native.Nat.{_*_}
+use mathlib.Core.Bool.{true}
+use Prim.Native.Nat.{ℕ, _*_, _<_}
 use native.Mathlib.Omega.{arith}
 use lib.ListN.{getD}
 use Rattle.flash.specs.Chip.{isFull}
-use Rattle.flash.proofs.Blocks.{first-mark, letter-is, letter-none, unfinished-first}
+use Rattle.flash.proofs.Blocks.{letter-is, first-not-full}
 use Rattle.flash.proofs.block.block_letter.Statement.{statement}
 use Rattle.flash.proofs.block.block_letter.Tie as tie
 
@@ -19,27 +19,23 @@ is-full-requires c κs = omega arith
 
 returns : tie.Need-returns
 returns c =
-    let s = c .before .before .before .before .before in
-    let a = s .args in
-    let full : isFull (a .m) (a .marks .now) (a .block) (getD (a .marks .now) (a .block * a .m) 0) ≡ true = sym (c .before .is-full .ensures) ∙ c .if2 .taken in
-    sym (letter-is (a .m) (a .marks .now) (a .block) (getD (a .marks .now) (a .block * a .m) 0) (omega arith) (c .before .before .if1 .taken) full)
+    let a = c .before .before .before .before .before .args in
+    let mark : ℕ = getD (a .marks .now) (a .block * a .m) 0 in
+    let full : isFull (a .m) (a .marks .now) (a .block) mark ≡ true = sym (c .before .is-full .ensures) ∙ c .if2 .taken in
+    sym (letter-is (a .m) (a .marks .now) (a .block) mark (omega arith) (c .before .before .if1 .taken) full)
 
 returns-2 : tie.Need-returns-2
 returns-2 c =
-    let s = c .before .before .before .before .before in
-    let a = s .args in
-    let full : isFull (a .m) (a .marks .now) (a .block) (getD (a .marks .now) (a .block * a .m) 0) ≡ false = sym (c .before .is-full .ensures) ∙ c .if2 .left in
+    let a = c .before .before .before .before .before .args in
     sym
-    (letter-none (a .m) (a .marks .now) (a .block)
-    (unfinished-first (a .m) (a .marks .now) (a .block) _ (omega arith) (first-mark (a .m) (a .marks .now) (a .block) (omega arith) (omega arith)) (λ h. full)))
+    (first-not-full (a .m) (a .marks .now) (a .block) (omega arith) (omega arith)
+    (λ h. sym (c .before .is-full .ensures) ∙ c .if2 .left))
 
 returns-3 : tie.Need-returns-3
 returns-3 c =
     let a = c .before .before .before .args in
-    let large = c .if1 .left in
-    sym
-    (letter-none (a .m) (a .marks .now) (a .block)
-    (unfinished-first (a .m) (a .marks .now) (a .block) _ (omega arith) (first-mark (a .m) (a .marks .now) (a .block) (omega arith) (omega arith)) (λ h. absurd (omega arith))))
+    let none : getD (a .marks .now) (a .block * a .m) 0 < 3 → ⊥ = λ h. omega (arith, c .if1 .left) in
+    sym (first-not-full (a .m) (a .marks .now) (a .block) (omega arith) (omega arith) (λ h. absurd (none h)))
 
 pub block-letter-spec : {M : Type 1} → statement M
 block-letter-spec =

@@ -10,7 +10,8 @@ use Rattle.flash.proofs.part.fill.Tie as tie
 
 -- the bytes before i are filled, and those from i on are as they were
 abbrev Inv-loop : tie.InvT-loop
-Inv-loop part₀ value i₀ part i = (part ≡ replicate i value ++ drop i part₀) × (i ≤ length part₀) × (length part ≡ length part₀)
+Inv-loop part₀ value i₀ part i =
+    (part ≡ replicate i value ++ drop i part₀) × (i ≤ length part₀) × (length part ≡ length part₀)
 
 abbrev μ-loop : tie.MeasureT-loop
 μ-loop part₀ value i₀ part i = length part₀ - i

@@ -11,7 +11,8 @@ use Rattle.flash.proofs.part.is_filled.Tie as tie
 
 -- no bit differs while each byte before i is the value
 abbrev Inv-loop : tie.InvT-loop
-Inv-loop bytes value different₀ i₀ different i = (i ≤ length bytes) × (eqb different 0 ≡ all (λ byte. eqb byte value) (take i bytes))
+Inv-loop bytes value different₀ i₀ different i =
+    (i ≤ length bytes) × (eqb different 0 ≡ all (λ byte. eqb byte value) (take i bytes))
 
 abbrev μ-loop : tie.MeasureT-loop
 μ-loop bytes value different₀ i₀ different i = length bytes - i

@@ -13,7 +13,9 @@ use Rattle.flash.proofs.part.put_or_add.Tie as tie
 
 -- the bytes before i are those of the sum, and those from i on are as they were
 abbrev Inv-loop : tie.InvT-loop
-Inv-loop target₀ page add i₀ target i = (target ≡ take i (putOrAdd add target₀ page) ++ drop i target₀) × (i ≤ length target₀) × (length target ≡ length target₀)
+Inv-loop target₀ page add i₀ target i =
+    (target ≡ take i (putOrAdd add target₀ page) ++ drop i target₀) × (i ≤ length target₀)
+    × (length target ≡ length target₀)
 
 abbrev μ-loop : tie.MeasureT-loop
 μ-loop target₀ page add i₀ target i = length target₀ - i
@@ -62,7 +64,8 @@ returns c =
     let l = c .before .loop in
     let a = c .before .before .args in
     let old = a .target .now in
-    let size : length (putOrAdd (a .add) old (a .page .now)) ≤ length old = omega (arith, length-putOrAdd (a .add) old (a .page .now) (c .before .before .pre)) in
+    let new = putOrAdd (a .add) old (a .page .now) in
+    let size : length new ≤ length old = omega (arith, length-putOrAdd (a .add) old (a .page .now) (c .before .before .pre)) in
     let end : l .i ≡ length old = omega arith in
     l .inv .0 ∙ rw (end, drop-length, append-nil, take-all)
 
