@@ -7,3 +7,4 @@ pub mod Exchange
 pub mod RuleLaws
 pub mod Claimed
 pub mod MaskLaws
+pub mod CheckLaws

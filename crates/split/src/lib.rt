@@ -1,5 +1,7 @@
 // A list of destinations and its split into sets. The definitions are in specs/.
-pub mod mask;
+pub mod list;
+mod mask;
+mod wide;
 
 ghost use Rattle.split.specs.Claims.{SplitEnds, WalkEnds, WalkIsShort, FilledFits, RowsAscend};
 
