@@ -8,3 +8,5 @@ pub mod RuleLaws
 pub mod Claimed
 pub mod MaskLaws
 pub mod CheckLaws
+pub mod MaskedLaws
+pub mod SetsLaws
