@@ -6,8 +6,10 @@ pub mod Walk
 pub mod Exchange
 pub mod RuleLaws
 pub mod Turns
+pub mod PathLaws
 pub mod Claimed
 pub mod MaskLaws
 pub mod CheckLaws
 pub mod MaskedLaws
 pub mod SetsLaws
+pub mod Walking

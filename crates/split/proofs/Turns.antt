@@ -106,8 +106,18 @@ module _ (m : ℕ) (list given : List ℕ) (C : Coloured m list given) (a b : �
     page-is : page ≡ getD met i 0
     page-is = T .next on-path .0
 
-    page-as : setOf given page ≡ at end
+    pub page-as : setOf given page ≡ at end
     page-as = T .next on-path .1
+
+    -- the page still has its set
+    pub page-now : setOf sets page ≡ at end
+    page-now =
+        let new : any (eqb page) (take i met) ≡ false = false-of _ (λ e.
+        let f = in-front i page e in
+        let o = f .1 in
+        let j : f .0 ≡ i = path-distinct m list given C a b differ block unused (length given) (f .0) i (f .2) on-path (f .3 ∙ page-is) in
+        omega arith) in
+        sets-behind i page sets (T .sets-are page more) new ∙ page-as
 
     -- a page exchanged already is none to go on with
     not-front : (x : ℕ) → x < length given → blockAt m list (otherEnd end) x ≡ blockAt m list (otherEnd end) page → setOf sets x ≡ at (otherEnd end)

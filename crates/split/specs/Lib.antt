@@ -5,3 +5,4 @@ pub mod Answer
 pub mod Claims
 pub mod Mask
 pub mod Ends
+pub mod Work

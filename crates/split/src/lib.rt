@@ -2,6 +2,7 @@
 mod ends;
 pub mod list;
 mod mask;
+mod path;
 pub mod sets;
 mod wide;
 
