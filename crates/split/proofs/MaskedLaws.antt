@@ -102,11 +102,11 @@ count-cons test start n = ⊎-elim
     (λ (q : test start ≡ false). rw q (omega arith))
     (bool-cases (test start))
 
-count-same : (f g : ℕ → Bool) (start n : ℕ) → ((x : ℕ) → start ≤ x → f x ≡ g x) → count f (range start n) ≡ count g (range start n)
+pub count-same : (f g : ℕ → Bool) (start n : ℕ) → ((x : ℕ) → start ≤ x → x < start + n → f x ≡ g x) → count f (range start n) ≡ count g (range start n)
 unfolding count range
 count-same f g start zero same = refl
 count-same f g start (suc n) same =
-    rw (same start (omega arith), count-same f g (suc start) n (λ x l. same x (omega arith)))
+    rw (same start (omega arith) (omega arith), count-same f g (suc start) n (λ x l h. same x (omega arith) (omega arith)))
 
 pub count-change : (f g : ℕ → Bool) (start n p : ℕ) → start ≤ p → p < start + n → ((x : ℕ) → x ≢ p → f x ≡ g x)
     → count g (range start n) + one-if (f p) ≡ count f (range start n) + one-if (g p)
@@ -116,7 +116,7 @@ count-change f g start (suc n) p l h same =
     let cg = count-cons g start n in
     ⊎-elim
     (λ (q : start ≡ p).
-    let e = count-same f g (suc start) n (λ x a. same x (λ r. absurd (omega arith))) in
+    let e = count-same f g (suc start) n (λ x a h. same x (λ r. absurd (omega arith))) in
     let ef : one-if (f start) ≡ one-if (f p) = ap (λ (x : ℕ). one-if (f x)) q in
     let eg : one-if (g start) ≡ one-if (g p) = ap (λ (x : ℕ). one-if (g x)) q in
     omega arith)
@@ -125,6 +125,18 @@ count-change f g start (suc n) p l h same =
     let r = count-change f g (suc start) n p (omega arith) (omega arith) same in
     omega arith)
     (eq-cases start p)
+
+pub set-here : (sets : List ℕ) (p v : ℕ) → p < length sets → setOf (set sets p v) p ≡ v
+unfolding setOf
+set-here sets p v h = getD-set-same sets p v 0 h
+
+pub set-else : (sets : List ℕ) (p v x : ℕ) → x ≢ p → setOf (set sets p v) x ≡ setOf sets x
+unfolding setOf
+set-else sets p v x ne = getD-set-other sets p x v 0 ne
+
+pub page-else : (m : ℕ) (list sets : List ℕ) (end : End) (p v block s x : ℕ) → x ≢ p → isPageOf m list sets end block s x ≡ isPageOf m list (set sets p v) end block s x
+unfolding isPageOf
+page-else m list sets end p v block s x ne = ap (λ (c : ℕ). eqb (blockAt m list end x) block && eqb c s) (sym (set-else sets p v x ne))
 
 -- of two sets, the page has one and gets the other
 abbrev pub Exchanged : (a b was is : ℕ) → Type 0
@@ -147,12 +159,10 @@ module _ (m : ℕ) (list sets : List ℕ) (end : End) (k : ℕ) (masks after : L
   changed = set sets p other
 
   changed-set : setOf changed p ≡ other
-  unfolding setOf
-  changed-set = getD-set-same sets p other 0 room
+  changed-set = set-here sets p other room
 
   changed-else : (block s x : ℕ) → x ≢ p → isPageOf m list sets end block s x ≡ isPageOf m list changed end block s x
-  unfolding isPageOf setOf
-  changed-else block s x ne = ap (λ (c : ℕ). eqb (blockAt m list end x) block && eqb c s) (sym (getD-set-other sets p x other 0 ne))
+  changed-else block s x ne = page-else m list sets end p other block s x ne
 
   not-page : (of : List ℕ) (block s : ℕ) → (block ≢ blockAt m list end p) ⊎ (s ≢ setOf of p) → isPageOf m list of end block s p ≡ false
   not-page of block s ne = false-of _ (λ e.

@@ -19,20 +19,12 @@ use Rattle.split.specs.Work.{Found, Working, Blocked, Exchanged}
 use Rattle.split.proofs.RuleLaws.{given, used-page, lowest-none, lowest-lt}
 use Rattle.split.proofs.Walk.{Coloured, PageAt, metAs}
 use Rattle.split.proofs.Turns.{FoundPage, Turn, first-turn, on-path, page-now, page-as, next-turn, turns-done}
-use Rattle.split.proofs.MaskedLaws.{mask-change, count-change}
+use Rattle.split.proofs.MaskedLaws.{mask-change, count-change, set-here, set-else}
 
 end-not : (s : Bool) → otherEnd (endOf s) ≡ endOf (not s)
 unfolding otherEnd
 end-not true = refl
 end-not false = refl
-
-set-here : (sets : List ℕ) (p v : ℕ) → p < length sets → setOf (set sets p v) p ≡ v
-unfolding setOf
-set-here sets p v h = getD-set-same sets p v 0 h
-
-set-else : (sets : List ℕ) (p v x : ℕ) → x ≢ p → setOf (set sets p v) x ≡ setOf sets x
-unfolding setOf
-set-else sets p v x ne = getD-set-other sets p x v 0 ne
 
 -- how many of the first k pages have the set that they had at the start
 abbrev pub unchanged : (start sets : List ℕ) → (k : ℕ) → ℕ

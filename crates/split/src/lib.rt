@@ -1,8 +1,10 @@
 // A list of destinations and its split into sets. The definitions are in specs/.
+pub mod call;
 mod ends;
 pub mod list;
 mod mask;
 mod path;
+pub mod rule;
 pub mod sets;
 mod wide;
 
