@@ -43,18 +43,9 @@ fn give(
     let destination = block_at(list, m, false, k);
     let a = lowest_free(sources[source]);
     let used = destinations[destination];
+    let b = lowest_free(used);
     if has(used, a) {
-        exchange(
-            list,
-            from,
-            m,
-            k,
-            a,
-            lowest_free(used),
-            sets,
-            sources,
-            destinations,
-        );
+        exchange(list, from, m, k, a, b, sets, sources, destinations);
     }
     sets[k] = a as u8;
     flip(sources, source, a);

@@ -57,62 +57,69 @@ a-lt c =
     let W = start .pre .0 in
     omega (arith, a-is c, lowest-fits _ _ _ _ _ _ _ W (omega (arith, start .pre .1, W .accepted .listed)) source)
 
-has-requires : tie.Need-has-requires
-has-requires c κs = a-lt (c .before)
-
 lowest-free-requires-2 : tie.Need-lowest-free-requires-2
 lowest-free-requires-2 c κs = search needs
 
+has-requires : tie.Need-has-requires
+has-requires c κs = a-lt (c .before .before)
+
 -- what the test tells
 used-is : (c : tie.After-has)
-    → (let start = c .before .before .before .before .before .before .before .before in
-    c .has .result ≡ isUsed (start .args .m) (start .args .list .now) (setsGiven (start .args .m) (start .args .list .now) (start .args .k)) destination (blockAt (start .args .m) (start .args .list .now) destination (start .args .k)) (c .before .before .lowest-free .result))
+    → (let l = c .before .before .before in
+    let start = l .before .before .before .before .before .before in
+    c .has .result ≡ isUsed (start .args .m) (start .args .list .now) (setsGiven (start .args .m) (start .args .list .now) (start .args .k)) destination (blockAt (start .args .m) (start .args .list .now) destination (start .args .k)) (l .lowest-free .result))
 used-is c =
-    let start = c .before .before .before .before .before .before .before .before in
+    let l = c .before .before .before in
+    let start = l .before .before .before .before .before .before in
     let W = start .pre .0 in
-    c .has .ensures ∙ blocked _ _ _ _ _ _ _ W (omega (arith, start .pre .1, W .accepted .listed)) _ _ (c .before .before .before .before .block-at2 .ensures)
+    c .has .ensures ∙ blocked _ _ _ _ _ _ _ W (omega (arith, start .pre .1, W .accepted .listed)) _ _ (l .before .before .block-at2 .ensures)
 
-is-blocked : (c : tie.After-lowest-free2)
-    → (let start = c .before .before .before .before .before .before .before .before .before .before in
-    Blocked (start .args .m) (start .args .list .now) (start .args .k) (c .before .before .before .before .lowest-free .result) (c .lowest-free2 .result))
+is-blocked : (c : tie.Then1)
+    → (let f = c .before .before in
+    let l = f .before .before in
+    let start = l .before .before .before .before .before .before in
+    Blocked (start .args .m) (start .args .list .now) (start .args .k) (l .lowest-free .result) (f .lowest-free2 .result))
 is-blocked c =
-    let h = c .before .before in
-    let start = h .before .before .before .before .before .before .before .before in
+    let f = c .before .before in
+    let l = f .before .before in
+    let start = l .before .before .before .before .before .before in
     let W = start .pre .0 in
     record {
-      a-is = a-is (h .before .before);
-      b-is = c .lowest-free2 .ensures
-          ∙ lowest-free _ _ _ _ _ _ _ W (omega (arith, start .pre .1, W .accepted .listed)) destination (start .args .destinations .now) (W .destination-masks) _ (h .before .before .before .before .block-at2 .ensures);
-      used = sym (used-is h) ∙ c .before .if1 .taken;
+      a-is = a-is l;
+      b-is = f .lowest-free2 .ensures
+          ∙ lowest-free _ _ _ _ _ _ _ W (omega (arith, start .pre .1, W .accepted .listed)) destination (start .args .destinations .now) (W .destination-masks) _ (l .before .before .block-at2 .ensures);
+      used = sym (used-is (c .before)) ∙ c .if1 .taken;
     }
 
 exchange-requires : tie.Need-exchange-requires
 exchange-requires c κs =
-    let f = c .before .before .before in
-    let start = f .before .before .before .before .before .before .before .before .before .before in
-    (start .pre .0, (start .pre .1, is-blocked f))
+    let t = c .before .before .before in
+    let start = t .before .before .before .before .before .before .before .before .before .before in
+    (start .pre .0, (start .pre .1, is-blocked t))
 
 cast-sets : tie.Need-cast-sets
-cast-sets c = record { fits = omega (arith, a-lt (c .before .before .before)) }
+cast-sets c = record { fits = omega (arith, a-lt (c .before .before .before .before)) }
 
 -- after the test, on both ways
 fresh : (c : tie.Joined1)
-    → (let start = c .before .before .before .before .before .before .before .before .before in
-    Fresh (start .args .m) (start .args .list .now) (start .args .k) (c .before .before .before .lowest-free .result) (start .args .sets .now) (c .if1 .sets) (c .if1 .sources) (c .if1 .destinations))
+    → (let l = c .before .before .before .before in
+    let start = l .before .before .before .before .before .before in
+    Fresh (start .args .m) (start .args .list .now) (start .args .k) (l .lowest-free .result) (start .args .sets .now) (c .if1 .sets) (c .if1 .sources) (c .if1 .destinations))
 fresh c =
     let h = c .before in
-    let start = h .before .before .before .before .before .before .before .before in
+    let l = h .before .before .before in
+    let start = l .before .before .before .before .before .before in
     let W = start .pre .0 in
     ⊎-elim
-    (λ w. rw (w .8, w .9, w .10) (record {
-      sized = w .5 .kept .1 .1 .1 .1 .1 .1 .0;
-      gives = gives-exchanged _ _ _ _ _ _ _ W _ _ _ _ _ (is-blocked (record { before = record { before = h; if1 = w .0 }; lowest-free2 = w .1 })) (w .5 .ensures);
-      source-masks = w .5 .ensures .source-masks;
-      destination-masks = w .5 .ensures .destination-masks;
+    (λ w. rw (w .7, w .8, w .9) (record {
+      sized = w .4 .kept .1 .1 .1 .1 .1 .1 .0;
+      gives = gives-exchanged _ _ _ _ _ _ _ W _ _ _ _ _ (is-blocked (record { before = h; if1 = w .0 })) (w .4 .ensures);
+      source-masks = w .4 .ensures .source-masks;
+      destination-masks = w .4 .ensures .destination-masks;
     }))
     (λ w. rw (w .1, w .2, w .3) (record {
       sized = refl;
-      gives = gives-plain _ _ _ _ _ _ _ W _ (a-is (h .before .before)) (sym (used-is h) ∙ w .0 .left);
+      gives = gives-plain _ _ _ _ _ _ _ W _ (a-is l) (sym (used-is h) ∙ w .0 .left);
       source-masks = W .source-masks;
       destination-masks = W .destination-masks;
     }))
@@ -120,17 +127,17 @@ fresh c =
 
 slice-write-sets : tie.Need-slice-write-sets
 slice-write-sets c =
-    let start = c .before .before .before .before .before .before .before .before .before in
+    let start = c .before .before .before .before .before .before .before .before .before .before in
     omega (arith, fresh c .sized, start .pre .0 .sized, start .pre .0 .accepted .listed, start .pre .1)
 
 flip-requires : tie.Need-flip-requires
 flip-requires c κs =
-    let l = c .before .before .before .before in
+    let l = c .before .before .before .before .before in
     (omega (arith, fits (l .before .before .before .before) source _ (l .before .before .before .block-at .ensures), c .flip-arg .given), a-lt l)
 
 flip-requires-2 : tie.Need-flip-requires-2
 flip-requires-2 c κs =
-    let l = c .before .before .before .before .before .before in
+    let l = c .before .before .before .before .before .before .before in
     (omega (arith, fits (l .before .before .before .before) destination _ (l .before .before .block-at2 .ensures), c .flip-arg2 .given), a-lt l)
 
 same-length : tie.Need-same-length
@@ -140,7 +147,7 @@ returns : tie.Need-returns
 returns c =
     let j = c .before .before .before .before in
     let f = fresh j in
-    let l = j .before .before .before in
+    let l = j .before .before .before .before in
     let start = l .before .before .before .before .before .before in
     let W = start .pre .0 in
     given-more _ _ _ _ _ _ _ W (omega (arith, start .pre .1, W .accepted .listed)) _ _ _ _ _ _ (f .sized) (f .gives) (f .source-masks) (f .destination-masks)
@@ -158,8 +165,8 @@ give-spec =
     lowest-free-requires
     mul-used
     element-copy-out-used
-    has-requires
     lowest-free-requires-2
+    has-requires
     exchange-requires
     cast-sets
     slice-write-sets
