@@ -1,6 +1,5 @@
 -- The proofs of what specs/Claims.antt claims.
 use mathlib.Core.Path.{_≡_, refl, sym, ap, _∙_, subst}
-use mathlib.Core.Logic.{⊎-elim}
 use mathlib.Core.Bool.{Bool, true, false, cond, not, _||_}
 use mathlib.Core.List.{List, [], _∷_}
 use Prim.Native.Nat.{ℕ, zero, suc, _+_, _-_, _*_, _≤_, _<_}
@@ -15,7 +14,7 @@ use Rattle.split.specs.Split.{isSplit}
 use Rattle.split.specs.Rule.{source, destination, blockAt, lowestUnused, pagesMet, setsGiven, splitByRule}
 use Rattle.split.specs.Answer.{splitRows, splitAnswer}
 use Rattle.split.specs.Claims.{SplitEnds, walkOf, WalkEnds, WalkIsShort, FilledFits, RowsAscend}
-use Rattle.split.proofs.Lists.{or-left, or-right}
+use Rattle.split.proofs.Answers.{accept, passed}
 use Rattle.split.proofs.RuleLaws.{given, rule-split, rule-length, walk-bound, walk-length}
 
 pub split-ends : SplitEnds
@@ -32,38 +31,6 @@ unfolding walkOf
 walk-is-short n m list listed accepted k h =
     let g = given n m list listed accepted k (omega arith) in
     rw (g .counted) at (walk-length n m list listed accepted (setsGiven m list k) (g .coloured) (omega (arith, g .counted)))
-
-accept : (originals : ℕ) (list : List ℕ) → badList originals list ≡ false → isOneToOne originals list ≡ true
-unfolding isOneToOne
-accept originals list e = rw e
-
--- a call carried out fits no row
-pub record Passed (Z : Sizes) (list sets : List ℕ) : Type 0 where
-  pub in-range : inRange Z ≡ true
-  pub listed : length list ≡ originalCount Z
-  pub sized : length sets ≡ originalCount Z
-  pub good : badList (originalCount Z) list ≡ false
-
--- a row that does not give 0 does not fit
-not-fit : (fits : Bool) (number : ℕ) (rows : List (Row ℕ)) → refusal (record { fits = fits; gives = suc number } ∷ rows) ≡ 0 → (fits ≡ false) × (refusal rows ≡ 0)
-unfolding refusal firstFit numberOr0
-not-fit true number rows e = absurd (omega arith)
-not-fit false number rows e = (refl, e)
-
-pub passed : (Z : Sizes) (list sets : List ℕ) → refusal (splitRows Z list sets) ≡ 0 → Passed Z list sets
-unfolding splitRows
-passed Z list sets e =
-    let one = not-fit _ 0 _ e in
-    let two = not-fit _ 1 _ (one .1) in
-    let three = not-fit _ 2 _ (two .1) in
-    let list-test = not (eqb (length list) (listLength Z)) in
-    let sets-test = not (eqb (length sets) (setsLength Z)) in
-    record {
-      in-range = not-false (inRange Z) (one .0);
-      listed = eqb-true _ _ (not-false _ (or-left list-test sets-test (two .0)));
-      sized = eqb-true _ _ (not-false _ (or-right list-test sets-test (two .0)));
-      good = three .0;
-    }
 
 pub filled-fits : FilledFits
 unfolding splitAnswer

@@ -1,6 +1,6 @@
 -- Laws of the bits of a mask.
 use mathlib.Core.Path.{_≡_, refl, ap, sym, _∙_}
-use mathlib.Core.Logic.{_≢_, ⊎-elim}
+use mathlib.Core.Logic.{_≢_, _⊎_, inl, inr, ⊎-elim}
 use mathlib.Core.Bool.{Bool, true, false, cond}
 use mathlib.Core.List.{List}
 use Prim.Native.Nat.{ℕ, zero, suc, _+_, _*_, _-_, _/_, _%_, _^_, _≤_, _<_}
@@ -8,14 +8,14 @@ use native.Mathlib.Nat.{pow-suc, div-eq-of-lt, div-self, div-one, mod-lt, div-ze
 use native.Mathlib.Numerals.{one-add}
 use native.Mathlib.Omega.{arith}
 use lib.Dec.{eqb}
-use lib.ListN.{length, getD, set}
+use lib.ListN.{length, getD, set, replicate}
 use lib.Seq.{getD-set-same, getD-set-other}
 use lib.Count.{trailingZeros, under}
 use lib.Pow.{pow-pos, pow-lt, pow-add, shr-shr, shl-shr}
 use lib.Bits.{bitXor, xor-step, xor-shr, differ}
 use borrow.Author.Tests.{eq-eqb, ne-eqb}
 use Rattle.flash.specs.Lists.{range, first}
-use Rattle.split.specs.Mask.{bitAt, lowestZero, Flipped, FlippedAt}
+use Rattle.split.specs.Mask.{bitAt, lowestZero, Flipped, FlippedAt, FlippedBoth}
 use Rattle.split.proofs.Lists.{bool-cases, lt-cases, eq-cases}
 
 pub bit-lt : (mask bit : ℕ) → bitAt mask bit < 2
@@ -23,6 +23,11 @@ bit-lt mask bit = mod-lt (mask / 2 ^ bit) {m = 2} (omega arith)
 
 pub no-bits : (bit : ℕ) → bitAt 0 bit ≡ 0
 no-bits bit = rw zero-div
+
+pub zeros-at : (n i : ℕ) → _≡_ {A = ℕ} (getD (replicate n 0) i 0) 0
+zeros-at zero i = refl
+zeros-at (suc n) zero = refl
+zeros-at (suc n) (suc i) = zeros-at n i
 
 -- bit k + 1 of a mask is bit k of its half
 bit-suc : (mask bit : ℕ) → bitAt mask (suc bit) ≡ bitAt (mask / 2) bit
@@ -113,4 +118,14 @@ flipped-at masks at bit r h f = record {
       (λ (q : block ≡ at). rw (q, getD-set-same masks at r 0 h) (f .same other (⊎-elim (λ (p : block ≢ at). absurd (p q)) (λ (p : other ≢ bit). p) ne)))
       (λ (q : block ≢ at). rw (getD-set-other masks at block r 0 q))
       (eq-cases block at);
+}
+
+pub flipped-both : (masks middle after : List ℕ) (at a b : ℕ) → a ≢ b → FlippedAt masks at a middle → FlippedAt middle at b after → FlippedBoth masks at a b after
+flipped-both masks middle after at a b differ f g = record {
+  changed = λ bit e. ⊎-elim
+      (λ (p : bit ≡ a). rw p (g .same at a (inr differ) ∙ f .changed))
+      (λ (p : bit ≡ b). rw p (g .changed ∙ ap (λ (x : ℕ). 1 - x) (f .same at b (inr (λ q. differ (sym q))))))
+      e;
+  same = λ block bit e. g .same block bit (⊎-elim (λ (p : block ≢ at). inl p) (λ (p : (bit ≢ a) × (bit ≢ b)). inr (p .1)) e)
+      ∙ f .same block bit (⊎-elim (λ (p : block ≢ at). inl p) (λ (p : (bit ≢ a) × (bit ≢ b)). inr (p .0)) e);
 }

@@ -61,14 +61,14 @@ module _ (m : ℕ) (list given : List ℕ) where
       go end x y h l v c (inr p) (inr q) = new x h p .0 ∙ sym (new y l q .0)
 
 -- the page number at an end
-unfoldable placeAt : List ℕ → End → (k : ℕ) → ℕ
+unfoldable pub placeAt : List ℕ → End → (k : ℕ) → ℕ
 placeAt list source k = k
 placeAt list destination k = getD list k 0
 
-place-block : (m : ℕ) (list : List ℕ) (end : End) (k : ℕ) → blockAt m list end k ≡ blockOf m (placeAt list end k)
+pub at-place : (m : ℕ) (list : List ℕ) (end : End) (k : ℕ) → blockAt m list end k ≡ blockOf m (placeAt list end k)
 unfolding placeAt blockAt sourceBlock destBlock
-place-block m list source k = refl
-place-block m list destination k = refl
+at-place m list source k = refl
+at-place m list destination k = refl
 
 same-place : (m x y : ℕ) → blockOf m x ≡ blockOf m y → x % m ≡ y % m → x ≡ y
 same-place m x y d r =
@@ -109,7 +109,7 @@ module _ (n m : ℕ) (list : List ℕ) (listed : length list ≡ n * m) (accepte
 
         same : (x y : ℕ) → x < n * m → y < n * m → blockAt m list end x ≡ blockAt m list end y → placeAt list end x % m ≡ placeAt list end y % m → x ≡ y
         same x y h l v r =
-            place-same end x y h l (same-place m (placeAt list end x) (placeAt list end y) (sym (place-block m list end x) ∙ v ∙ place-block m list end y) r)
+            place-same end x y h l (same-place m (placeAt list end x) (placeAt list end y) (sym (at-place m list end x) ∙ v ∙ at-place m list end y) r)
 
         differ : (i j : ℕ) → i < m → j < m → placeAt list end (page i) % m ≡ placeAt list end (page j) % m → i ≡ j
         differ i j h l r =

@@ -36,7 +36,7 @@ pub block-range : (n m place : ℕ) → place < n * m → (1 ≤ blockOf m place
 block-range n m place h = let d = div-lt-iff-lt-mul (some-page n m h) .1 h in (omega arith, omega arith)
 
 -- the places of a block
-place-block : (m b j : ℕ) → 1 ≤ b → j < m → blockOf m ((b - 1) * m + j) ≡ b
+pub place-block : (m b j : ℕ) → 1 ≤ b → j < m → blockOf m ((b - 1) * m + j) ≡ b
 place-block m b j l h =
     let e : ((b - 1) * m + j) / m ≡ (b - 1) + j / m = mul-add-div-right (omega arith) (b - 1) j in
     let f : j / m ≡ 0 = div-eq-of-lt h in

@@ -4,3 +4,5 @@ pub mod Rule
 pub mod Answer
 pub mod Claims
 pub mod Mask
+pub mod Ends
+pub mod Work

@@ -23,3 +23,8 @@ pub record Flipped (mask bit r : ℕ) : Type 0 where
 pub record FlippedAt (masks : List ℕ) (block bit : ℕ) (after : List ℕ) : Type 0 where
   pub changed : bitAt (getD after block 0) bit ≡ 1 - bitAt (getD masks block 0) bit
   pub same : (at other : ℕ) → (at ≢ block) ⊎ (other ≢ bit) → bitAt (getD after at 0) other ≡ bitAt (getD masks at 0) other
+
+-- and with two bits of one mask changed
+pub record FlippedBoth (masks : List ℕ) (block a b : ℕ) (after : List ℕ) : Type 0 where
+  pub changed : (bit : ℕ) → (bit ≡ a) ⊎ (bit ≡ b) → bitAt (getD after block 0) bit ≡ 1 - bitAt (getD masks block 0) bit
+  pub same : (at bit : ℕ) → (at ≢ block) ⊎ ((bit ≢ a) × (bit ≢ b)) → bitAt (getD after at 0) bit ≡ bitAt (getD masks at 0) bit

@@ -1,5 +1,12 @@
 // A list of destinations and its split into sets. The definitions are in specs/.
-pub mod mask;
+pub mod call;
+mod ends;
+pub mod list;
+mod mask;
+mod path;
+pub mod rule;
+pub mod sets;
+mod wide;
 
 ghost use Rattle.split.specs.Claims.{SplitEnds, WalkEnds, WalkIsShort, FilledFits, RowsAscend};
 

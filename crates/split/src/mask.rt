@@ -1,9 +1,10 @@
 // 64-bit masks: bit k tells of set k, or of entry k of a list.
 ghost use mathlib.Core.Path.{_≡_};
+ghost use mathlib.Core.Logic.{_≢_};
 ghost use Prim.Native.Nat.{_<_};
 ghost use lib.Dec.{eqb};
 ghost use lib.ListN.{length, getD};
-ghost use Rattle.split.specs.Mask.{bitAt, lowestZero, Flipped, FlippedAt};
+ghost use Rattle.split.specs.Mask.{bitAt, lowestZero, Flipped, FlippedAt, FlippedBoth};
 
 // The lowest set that is not in the mask; 64 if all are.
 pub fn lowest_free(mask: u64) -> usize
@@ -34,4 +35,12 @@ pub fn flip(masks: &mut [u64], at: usize, bit: usize) -> bool
     let mask = masks[at];
     masks[at] = flipped(mask, bit);
     has(mask, bit)
+}
+
+pub fn flip_both(masks: &mut [u64], at: usize, a: usize, b: usize)
+    requires { ⌜ (at < length (now masks)) × (a < 64) × (b < 64) × (a ≢ b) ⌝ }
+    ensures { λ _. ⌜ FlippedBoth (now (masks .entry)) at a b (now (masks .exit)) ⌝ }
+{
+    flip(masks, at, a);
+    flip(masks, at, b);
 }

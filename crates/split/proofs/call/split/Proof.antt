@@ -1,0 +1,30 @@
+use mathlib.Core.Path.{_≡_, sym, _∙_}
+use Rattle.split.proofs.Answers.{accepted, answered-0, answered-refused}
+use borrow.Author.Needs.{needs}
+use Rattle.split.proofs.call.split.Statement.{statement}
+use Rattle.split.proofs.call.split.Tie as tie
+
+refusal-requires : tie.Need-refusal-requires
+refusal-requires c κs = search needs
+
+fill-requires : tie.Need-fill-requires
+fill-requires c κs = let r = c .before .before in accepted _ _ _ (sym (r .refusal .ensures) ∙ c .before .if1 .taken)
+
+same-length : tie.Need-same-length
+same-length c = search needs
+
+returns : tie.Need-returns
+returns c =
+    let f = c .before .before in
+    let r = f .before .before .before in
+    answered-0 _ _ _ _ _ (r .refusal .ensures) (f .before .before .if1 .taken) (f .fill .ensures)
+
+same-length-2 : tie.Need-same-length-2
+same-length-2 c = search needs
+
+returns-2 : tie.Need-returns-2
+returns-2 c = answered-refused _ _ _ _ (c .before .refusal .ensures) (c .if1 .left)
+
+pub split-spec : {M : Type 1} → statement M
+split-spec =
+    tie.close (tie.spec refusal-requires fill-requires same-length returns same-length-2 returns-2)
