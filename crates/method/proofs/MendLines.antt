@@ -32,7 +32,7 @@ mem-range {A} f start (suc count) y h = ⊎-elim
 module _ (Z : Sizes) (pages : 0 < Z .m) (marks : List ℕ) where
   open Sizes Z using (n, m)
 
-  abbrev full : (i b : ℕ) → Bool
+  abbrev pub full : (i b : ℕ) → Bool
   full i b = isFull m marks b (letter Z i)
 
   -- a block is not full of two letters
@@ -40,22 +40,22 @@ module _ (Z : Sizes) (pages : 0 < Z .m) (marks : List ℕ) where
   one-letter i j b e f = full-same m marks b (letter Z i) (letter Z j) pages e f
 
   -- nor is it full and unfinished
-  finished : (i b : ℕ) → full i b ≡ true → isUnfinished m marks b ≡ true → ⊥
+  pub finished : (i b : ℕ) → full i b ≡ true → isUnfinished m marks b ≡ true → ⊥
   unfolding letter
   finished i b e u = never-both u (full-finished m marks b (letter Z i) (omega arith) e)
 
   -- A block b is torn, or none is, between blocks full of s + 1 and blocks full of s + i.
-  record Torn (i b : ℕ) : Type 0 where
-    low : b ≤ n
-    open-block : isUnfinished m marks b ≡ true
-    under : (j : ℕ) → j < b → full 1 j ≡ true
-    over : (j : ℕ) → b < j → j ≤ n → full i j ≡ true
+  pub record Torn (i b : ℕ) : Type 0 where
+    pub low : b ≤ n
+    pub open-block : isUnfinished m marks b ≡ true
+    pub under : (j : ℕ) → j < b → full 1 j ≡ true
+    pub over : (j : ℕ) → b < j → j ≤ n → full i j ≡ true
 
-  record Filled (i b : ℕ) : Type 0 where
-    low : 1 ≤ b
-    high : b ≤ n
-    under : (j : ℕ) → j < b → full 1 j ≡ true
-    over : (j : ℕ) → b ≤ j → j ≤ n → full i j ≡ true
+  pub record Filled (i b : ℕ) : Type 0 where
+    pub low : 1 ≤ b
+    pub high : b ≤ n
+    pub under : (j : ℕ) → j < b → full 1 j ≡ true
+    pub over : (j : ℕ) → b ≤ j → j ≤ n → full i j ≡ true
 
   -- whatever else is read from the marks, it is the same block that is torn
   torn-same : (i j b c : ℕ) → Torn i b → Torn j c → b ≡ c
@@ -89,7 +89,7 @@ module _ (Z : Sizes) (pages : 0 < Z .m) (marks : List ℕ) where
       omega arith
 
   -- what each of the four lines says of a row that fits
-  data Fit (row : Row Reading) : Type 0 where
+  pub data Fit (row : Row Reading) : Type 0 where
     torn-forth : (b : ℕ) → Torn 0 b → row .gives ≡ forwardTorn Z marks b .gives → Fit row
     torn-back : (b : ℕ) → Torn 2 b → row .gives ≡ backwardTorn Z marks b .gives → Fit row
     full-forth : (b : ℕ) → Filled 0 b → row .gives ≡ forwardFull Z marks b .gives → Fit row
@@ -109,7 +109,7 @@ module _ (Z : Sizes) (pages : 0 < Z .m) (marks : List ℕ) where
           let at : b ≡ 2 * n - c = omega (arith, ltb-false b n e, x .low, same) in
           ap₂ (λ (p q : ℕ). record { place = p * (m + 1); toErase = some q }) at same
 
-  agree : (one other : Row Reading) → Fit one → Fit other → one .gives ≡ other .gives
+  pub agree : (one other : Row Reading) → Fit one → Fit other → one .gives ≡ other .gives
   unfolding letter
   agree one other (torn-forth b x e) (torn-forth c y f) = e ∙ ap (λ (z : ℕ). forwardTorn Z marks z .gives) (torn-same 0 0 b c x y) ∙ sym f
   agree one other (torn-forth b x e) (torn-back c y f) = e ∙ torn-both b c x y ∙ sym f
@@ -155,7 +155,7 @@ module _ (Z : Sizes) (pages : 0 < Z .m) (marks : List ℕ) where
       }
 
   -- a row of the table that fits is one of the four
-  fit : (row : Row Reading) → List·Memᴰ row (lines Z marks) → row .fits ≡ true → Fit row
+  pub fit : (row : Row Reading) → List·Memᴰ row (lines Z marks) → row .fits ≡ true → Fit row
   unfolding lines
   fit row mem e = ⊎-elim first-line (λ r. ⊎-elim second-line (λ q. ⊎-elim third-line fourth-line
       (List·Memᴰ·append-cases (map (forwardFull Z marks) (range 1 n)) q))
