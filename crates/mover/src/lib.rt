@@ -1,3 +1,4 @@
 // The mover: the calls of document 01 as code, each proved equal to its definition in crate `method`.
 
 pub mod marks;
+pub mod mend;
