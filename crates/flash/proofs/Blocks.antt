@@ -28,7 +28,7 @@ pub mark-is : (marks : List ℕ) (t : ℕ) → t < length marks → markAt marks
 unfolding markAt
 mark-is marks t h = getD-any marks t erased 0 h
 
-first-mark : (m : ℕ) (marks : List ℕ) (block : ℕ) → 0 < m → block * m + m ≤ length marks
+pub first-mark : (m : ℕ) (marks : List ℕ) (block : ℕ) → 0 < m → block * m + m ≤ length marks
     → markAt marks (slot m block 0) ≡ getD marks (block * m) 0
 first-mark m marks block h fits =
     let start : block * m + 0 ≡ block * m = omega arith in
@@ -121,17 +121,18 @@ module _ (m : ℕ) (marks : List ℕ) (block : ℕ) where
       (λ e. none-unfinished (eqb-true _ _ e))
 
   -- no other letter than its first mark can fill a block
+  pub unfinished-first : (mark : ℕ) → 0 < m → markAt marks (slot m block 0) ≡ mark
+      → (mark < 3 → isFull m marks block mark ≡ false) → isUnfinished m marks block ≡ true
+  unfinished-first mark h at f =
+      unfinished-of
+      (λ letter l. fails (λ e.
+      let same : mark ≡ letter = sym at ∙ full-at letter 0 e h in
+      never-both e (rw same at (f (rw same l)))))
+
   pub first-not-full : 0 < m → block * m + m ≤ length marks
       → (getD marks (block * m) 0 < 3 → isFull m marks block (getD marks (block * m) 0) ≡ false)
       → letterOf m marks block ≡ noLetter
-  first-not-full h fits f =
-      letter-none
-      (unfinished-of
-      (λ letter l.
-      fails
-      (λ e.
-      let same : getD marks (block * m) 0 ≡ letter = sym (first-mark m marks block h fits) ∙ full-at letter 0 e h in
-      never-both e (rw same at (f (rw same l))))))
+  first-not-full h fits f = letter-none (unfinished-first (getD marks (block * m) 0) h (first-mark m marks block h fits) f)
 
   -- the test over the block's part of the marks
   pub full-part : (letter : ℕ) → block * m + m ≤ length marks

@@ -40,7 +40,7 @@ module _ (Z : Sizes) (pages : 0 < Z .m) (marks : List ℕ) where
   one-letter i j b e f = full-same m marks b (letter Z i) (letter Z j) pages e f
 
   -- nor is it full and unfinished
-  finished : (i b : ℕ) → full i b ≡ true → isUnfinished m marks b ≡ true → ⊥
+  pub finished : (i b : ℕ) → full i b ≡ true → isUnfinished m marks b ≡ true → ⊥
   unfolding letter
   finished i b e u = never-both u (full-finished m marks b (letter Z i) (omega arith) e)
 
@@ -109,7 +109,7 @@ module _ (Z : Sizes) (pages : 0 < Z .m) (marks : List ℕ) where
           let at : b ≡ 2 * n - c = omega (arith, ltb-false b n e, x .low, same) in
           ap₂ (λ (p q : ℕ). record { place = p * (m + 1); toErase = some q }) at same
 
-  agree : (one other : Row Reading) → Fit one → Fit other → one .gives ≡ other .gives
+  pub agree : (one other : Row Reading) → Fit one → Fit other → one .gives ≡ other .gives
   unfolding letter
   agree one other (torn-forth b x e) (torn-forth c y f) = e ∙ ap (λ (z : ℕ). forwardTorn Z marks z .gives) (torn-same 0 0 b c x y) ∙ sym f
   agree one other (torn-forth b x e) (torn-back c y f) = e ∙ torn-both b c x y ∙ sym f

@@ -1,1 +1,5 @@
 pub mod OperationLaws
+pub mod Reading
+pub mod Search
+pub mod Tells
+pub mod Answer

@@ -6,6 +6,7 @@ use native.Mathlib.Nat.{mul-le-mul, div-lt-iff-lt-mul}
 use native.Mathlib.Omega.{arith}
 use borrow.Author.Needs.{needs}
 use Rattle.mover.specs.declared.place.Op.the-variants.{Write}
+use Rattle.method.specs.Move.{letter}
 use Rattle.mover.proofs.OperationLaws.{forward-write, forward-erase, backward-write, backward-erase, back-block, all-done}
 use Rattle.mover.proofs.place.Place.operation.Statement.{statement}
 use Rattle.mover.proofs.place.Place.operation.Tie as tie
@@ -32,6 +33,7 @@ letter-after-requires : tie.Need-letter-after-requires
 letter-after-requires c κs = search needs
 
 returns : tie.Need-returns
+unfolding letter
 returns c =
     let a = c .before .before .before .args in
     ap (Write false (a .self .at / (a .m + 1)) (a .self .at % (a .m + 1))) (c .letter-after .ensures)
@@ -61,6 +63,7 @@ letter-after-requires-2 : tie.Need-letter-after-requires-2
 letter-after-requires-2 c κs = search needs
 
 returns-3 : tie.Need-returns-3
+unfolding letter
 returns-3 c =
     let a = c .before .before .before .before .args in
     ap (Write true (a .n - (a .self .at - a .n * (a .m + 1)) / (a .m + 1)) (a .self .at % (a .m + 1))) (c .letter-after2 .ensures)
