@@ -85,7 +85,7 @@ flip-both-requires : tie.Need-flip-both-requires Inv-loop μ-loop
 flip-both-requires c κs =
     let i = c .before .before .before .before .before .before in
     let R = i .before .loop .inv .ready in
-    (omega (arith, room i source (c .block-at3 .result) (c .block-at3 .ensures) .2, c .before .flip-both-arg .given), R .a-lt, R .b-lt, R .differ)
+    (omega (arith, room i _ (c .block-at3 .result) (c .block-at3 .ensures) .2, c .before .flip-both-arg .given), R .a-lt, R .b-lt, R .differ)
 
 block-at-requires-4 : tie.Need-block-at-requires-4 Inv-loop μ-loop
 block-at-requires-4 c κs = listed (c .before .before .before .before .before .before .before .before)
@@ -94,7 +94,7 @@ flip-both-requires-2 : tie.Need-flip-both-requires-2 Inv-loop μ-loop
 flip-both-requires-2 c κs =
     let i = c .before .before .before .before .before .before .before .before .before in
     let R = i .before .loop .inv .ready in
-    (omega (arith, room i destination (c .block-at4 .result) (c .block-at4 .ensures) .2, c .before .flip-both-arg2 .given), R .a-lt, R .b-lt, R .differ)
+    (omega (arith, room i _ (c .block-at4 .result) (c .block-at4 .ensures) .2, c .before .flip-both-arg2 .given), R .a-lt, R .b-lt, R .differ)
 
 loop-less : tie.Need-loop-less Inv-loop μ-loop
 loop-less c =

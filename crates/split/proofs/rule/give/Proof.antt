@@ -26,20 +26,23 @@ fits c end block e =
     let W = start .pre .0 in
     block-room _ _ _ (W .accepted) end (start .args .k) block (omega (arith, start .pre .1, W .accepted .listed)) e .small
 
+rooms : (c : tie.After-block-at2) → (c .before .block-at .result < 65) × (c .block-at2 .result < 65)
+rooms c = (fits (c .before .before) source _ (c .before .block-at .ensures), fits (c .before .before) destination _ (c .block-at2 .ensures))
+
 mul-lowest-free : tie.Need-mul-lowest-free
-mul-lowest-free c = record { fits = omega (arith, fits (c .before .before) source _ (c .before .block-at .ensures)) }
+mul-lowest-free c = record { fits = omega (arith, rooms c) }
 
 element-copy-out-lowest-free : tie.Need-element-copy-out-lowest-free
-element-copy-out-lowest-free c = fits (c .before .before) source _ (c .before .block-at .ensures)
+element-copy-out-lowest-free c = omega (arith, rooms c)
 
 lowest-free-requires : tie.Need-lowest-free-requires
 lowest-free-requires c κs = search needs
 
 mul-used : tie.Need-mul-used
-mul-used c = record { fits = omega (arith, fits (c .before .before .before .before) destination _ (c .before .before .block-at2 .ensures)) }
+mul-used c = record { fits = omega (arith, rooms (c .before .before)) }
 
 element-copy-out-used : tie.Need-element-copy-out-used
-element-copy-out-used c = fits (c .before .before .before .before) destination _ (c .before .before .block-at2 .ensures)
+element-copy-out-used c = omega (arith, rooms (c .before .before))
 
 -- the set found is the rule's a
 a-is : (c : tie.After-lowest-free)
@@ -74,6 +77,23 @@ used-is c =
     let W = start .pre .0 in
     c .has .ensures ∙ blocked _ _ _ _ _ _ _ W (omega (arith, start .pre .1, W .accepted .listed)) _ _ (l .before .before .block-at2 .ensures)
 
+-- and the second the rule's b
+b-is : (c : tie.After-lowest-free2)
+    → (let start = c .before .before .before .before .before .before .before .before in
+    c .lowest-free2 .result ≡ lowestUnused (start .args .m) (start .args .list .now) (setsGiven (start .args .m) (start .args .list .now) (start .args .k)) destination (blockAt (start .args .m) (start .args .list .now) destination (start .args .k)))
+b-is c =
+    let l = c .before .before in
+    let start = l .before .before .before .before .before .before in
+    let W = start .pre .0 in
+    c .lowest-free2 .ensures
+    ∙ lowest-free _ _ _ _ _ _ _ W (omega (arith, start .pre .1, W .accepted .listed)) destination (start .args .destinations .now) (W .destination-masks) _ (l .before .before .block-at2 .ensures)
+
+b-lt : (c : tie.After-lowest-free2) → c .lowest-free2 .result < 64
+b-lt c =
+    let start = c .before .before .before .before .before .before .before .before in
+    let W = start .pre .0 in
+    omega (arith, b-is c, lowest-fits _ _ _ _ _ _ _ W (omega (arith, start .pre .1, W .accepted .listed)) destination)
+
 is-blocked : (c : tie.Then1)
     → (let f = c .before .before in
     let l = f .before .before in
@@ -81,15 +101,7 @@ is-blocked : (c : tie.Then1)
     Blocked (start .args .m) (start .args .list .now) (start .args .k) (l .lowest-free .result) (f .lowest-free2 .result))
 is-blocked c =
     let f = c .before .before in
-    let l = f .before .before in
-    let start = l .before .before .before .before .before .before in
-    let W = start .pre .0 in
-    record {
-      a-is = a-is l;
-      b-is = f .lowest-free2 .ensures
-          ∙ lowest-free _ _ _ _ _ _ _ W (omega (arith, start .pre .1, W .accepted .listed)) destination (start .args .destinations .now) (W .destination-masks) _ (l .before .before .block-at2 .ensures);
-      used = sym (used-is (c .before)) ∙ c .if1 .taken;
-    }
+    record { a-is = a-is (f .before .before); b-is = b-is f; used = sym (used-is (c .before)) ∙ c .if1 .taken }
 
 exchange-requires : tie.Need-exchange-requires
 exchange-requires c κs =
@@ -98,7 +110,9 @@ exchange-requires c κs =
     (start .pre .0, (start .pre .1, is-blocked t))
 
 cast-sets : tie.Need-cast-sets
-cast-sets c = record { fits = omega (arith, a-lt (c .before .before .before .before)) }
+cast-sets c =
+    let f = c .before .before in
+    record { fits = omega (arith, a-lt (f .before .before), b-lt f) }
 
 -- after the test, on both ways
 fresh : (c : tie.Joined1)
