@@ -1,34 +1,10 @@
 // The split call: its refusals in the table's order, then the rule.
 ghost use mathlib.Core.Path.{_≡_};
 ghost use Rattle.flash.specs.Tables.{refusal};
-ghost use Rattle.flash.specs.Geometry.{inRange};
 ghost use Rattle.split.specs.Answer.{splitRows, SplitAnswered};
 use crate::list::check;
 use crate::rule::fill;
-
-fn in_range(n: usize, m: usize, p: usize, s: usize) -> bool
-    ensures { λ r. ⌜ r ≡ inRange (record { n = n; m = m; P = p; s = s }) ⌝ }
-{
-    if n < 1 {
-        return false;
-    }
-    if 64 < n {
-        return false;
-    }
-    if m < 1 {
-        return false;
-    }
-    if 64 < m {
-        return false;
-    }
-    if p < 1 {
-        return false;
-    }
-    if 4096 < p {
-        return false;
-    }
-    s < 3
-}
+use flash::sizes::in_range;
 
 // The number of the first row of the table that fits, or 0. Nothing is multiplied before the sizes are in range.
 fn refusal(n: usize, m: usize, p: usize, s: usize, list: &[u16], sets: &[u8]) -> u32
