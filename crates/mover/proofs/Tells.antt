@@ -95,6 +95,7 @@ module _ (Z : Sizes) (pages : 0 < Z .m) (marks : List ℕ) where
       torn-tells true e at t f = sym (reads-forward-torn Z pages marks torn legal (torn-is 0 e at (λ h. t refl)))
       torn-tells false e at t f = sym (reads-backward-torn Z pages marks torn legal (torn-is 2 e at (λ h. top-back h (f refl))))
 
+      -- the answer to what was gathered is the reading
       pub tells : (forward : Bool) → (forward ≡ true → top ≡ letter Z 0) → (forward ≡ false → top ≢ letter Z 0) → readingOf (foundAt n m forward count torn change) ≡ reading Z marks
       unfolding foundAt
       tells forward t f =

@@ -26,7 +26,8 @@ fn refused(number: usize) -> Mended
     }
 }
 
-// Reads the marks and erases the unfinished block, if there is one.
+// Reads the marks and erases the unfinished block, if there is one. The refusals are looked for in the table's order, so that
+// no length is computed from sizes out of range.
 pub fn mend(n: usize, m: usize, p: usize, s: usize, store: &mut [u8], marks: &mut [u8]) -> Mended
     ensures { λ r. ⌜ MendIs (record { n = n; m = m; P = p; s = s }) (record { store = now (store .entry); marks = now (marks .entry) }) r (now (store .exit)) (now (marks .exit)) ⌝ }
 {

@@ -4,6 +4,7 @@ use mathlib.Core.Bool.{true, false, _||_, not}
 use mathlib.Core.List.{List}
 use mathlib.Core.Option.{some}
 use Prim.Native.Nat.{ℕ}
+use native.Mathlib.Omega.{arith}
 use lib.Dec.{eqb}
 use lib.ListN.{length}
 use borrow.Author.Tests.{not-true, not-false}
@@ -18,17 +19,17 @@ use Rattle.mover.proofs.Answer.{same-reading, mend-is, chip-lengths, re
 use Rattle.mover.proofs.mend.mend.Statement.{statement}
 use Rattle.mover.proofs.mend.mend.Tie as tie
 
-in-range-requires : tie.Need-in-range-requires
-in-range-requires c κs = search needs
-
-refused-requires : tie.Need-refused-requires
-refused-requires c κs = search needs
-
 abbrev Z : (n m P s : ℕ) → Sizes
 Z n m P s = record { n = n; m = m; P = P; s = s }
 
 abbrev chip : (store marks : List ℕ) → Chip
 chip store marks = record { store = store; marks = marks }
+
+in-range-requires : tie.Need-in-range-requires
+in-range-requires c κs = search needs
+
+refused-requires : tie.Need-refused-requires
+refused-requires c κs = search needs
 
 returns : tie.Need-returns
 returns c =
@@ -62,6 +63,7 @@ returns-2 c =
     rw (c .refused2 .ensures)
     (mend-is (Z (a .n) (a .m) (a .p) (a .s)) (chip (a .store .now) (a .marks .now)) 2 0 0 _ (refused-2 _ _ (sizes (k .before .before)) bad))
 
+-- the lengths are right
 good : (c : tie.Else2) → (let a = c .before .before .before .before .before .before .before .args in badChip (Z (a .n) (a .m) (a .p) (a .s)) (chip (a .store .now) (a .marks .now))) ≡ false
 good c = sym (lengths (c .before)) ∙ c .if2 .left
 
@@ -90,6 +92,7 @@ told c =
     let a = c .before .before .before .before .before .before .before .before .before .args in
     c .read-marks .ensures ∙ same-reading (a .n) (a .m) (a .p) (a .s) (a .marks .now)
 
+-- and where a block is unfinished
 torn-told : (c : tie.After-place2) → (let a = c .before .before .before .before .before .before .before .before .before .before .before .args in reading (Z (a .n) (a .m) (a .p) (a .s)) (a .marks .now) ≡ some (record { place = c .place2 .given .0 .0; toErase = some (c .place2 .given .0 .1 .0) }))
 unfolding readingOf
 torn-told c = sym (told (c .before .before)) ∙ ap readingOf (c .place2 .given .1)
@@ -103,7 +106,7 @@ erase-block-requires c κs =
     let B = in-range z (sizes (k .before .before .before)) in
     let L = chip-lengths z (chip (a .store .now) (a .marks .now)) (good k) in
     let h = torn-inside z (B .m-low) (a .marks .now) (t .place2 .given .0 .0) (t .place2 .given .0 .1 .0) (torn-told t) in
-    (rw (L .0) (block-in-store z (t .place2 .given .0 .1 .0) h), rw (L .1) (block-in-marks z (t .place2 .given .0 .1 .0) h))
+    (omega (arith, L .0, block-in-store z (t .place2 .given .0 .1 .0) h), omega (arith, L .1, block-in-marks z (t .place2 .given .0 .1 .0) h))
 
 same-length : tie.Need-same-length
 same-length c = search needs
