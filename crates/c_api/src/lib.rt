@@ -1,0 +1,3 @@
+// The calls as C sees them: numbers of 32 bits, lent parts as pointer and length, the list as two bytes an entry.
+mod list;
+pub mod splitting;
