@@ -1,0 +1,40 @@
+/* The proved page mover, for C.
+ *
+ * Every call is total: it takes any numbers and any lengths, tests them, and either carries out the request and returns 0, or
+ * returns the first number of the table below that fits and changes nothing that was lent. A lent part is a pointer and its
+ * length in bytes; NULL goes with length 0. Lent parts of one call must not overlap. No call allocates or keeps anything.
+ *
+ * n            data blocks, 1 to 64; the spare block is block 0
+ * m            pages a block, 1 to 64
+ * page_bytes   bytes a page, 1 to 4096
+ * s            the letter that marks the data blocks before the move: 0, 1 or 2
+ * list         where each page goes: n * m entries of two bytes, low byte first; entry k is the page number, 0 to n * m - 1,
+ *              where original page k goes, which is page k % m of block k / m + 1
+ * sets         n * m bytes, the set of each page
+ */
+#ifndef MOVER_H
+#define MOVER_H
+
+#include <stdint.h>
+
+#ifdef __cplusplus
+extern "C" {
+#endif
+
+enum mover_refusal {
+    MOVER_DONE = 0,          /* carried out */
+    MOVER_BAD_SIZES = 1,     /* n, m, page_bytes or s out of its range */
+    MOVER_BAD_LENGTH = 2,    /* a lent part not of its exact length */
+    MOVER_BAD_LIST = 3       /* a list entry at or above n * m, or met twice */
+};
+
+/* Splits a list into m sets, each with one page from each data block and one page to each, and fills `sets` with the set of each
+ * page. Returns 0, or 1, 2 or 3; then `sets` is as it was. */
+uint32_t mover_split(uint32_t n, uint32_t m, uint32_t page_bytes, uint32_t s,
+                     const uint8_t *list, uint64_t list_len, uint8_t *sets, uint64_t sets_len);
+
+#ifdef __cplusplus
+}
+#endif
+
+#endif

@@ -1,0 +1,59 @@
+/* The library from C: document 01's cases of the split call, and its refusals. */
+#include "mover.h"
+
+#include <stdio.h>
+#include <string.h>
+
+static unsigned passed, failed;
+
+static void check(const char *what, int good)
+{
+    if (good) {
+        passed++;
+    } else {
+        failed++;
+        printf("FAILED: %s\n", what);
+    }
+}
+
+/* The call fills `sets`, or refuses and leaves them; 0xA5 stands behind them and must stay. */
+static void splits(const char *what, uint32_t n, uint32_t m, uint32_t page_bytes, uint32_t s, const uint8_t *list, uint64_t list_len,
+                   uint64_t sets_len, uint32_t number, const uint8_t *expected)
+{
+    uint8_t sets[16], before[16];
+    uint32_t got;
+    memset(sets, 0xA5, sizeof sets);
+    memcpy(before, sets, sizeof sets);
+    if (expected != NULL)
+        memcpy(before, expected, (size_t)sets_len);
+    got = mover_split(n, m, page_bytes, s, list, list_len, sets, sets_len);
+    check(what, got == number && memcmp(sets, before, sizeof sets) == 0);
+}
+
+int main(void)
+{
+    static const uint8_t p1[] = {0, 0, 2, 0, 1, 0, 3, 0}, p1_sets[] = {1, 0, 0, 1};
+    static const uint8_t p2[] = {0, 0, 3, 0, 2, 0, 1, 0}, p2_sets[] = {0, 1, 0, 1};
+    static const uint8_t twice[] = {0, 0, 0, 0}, high[] = {0, 0, 2, 0}, large[] = {0, 0, 1, 1};
+
+    splits("P1", 2, 2, 1, 0, p1, 8, 4, MOVER_DONE, p1_sets);
+    splits("P2", 2, 2, 4096, 2, p2, 8, 4, MOVER_DONE, p2_sets);
+    splits("P5: an entry met twice", 2, 1, 1, 0, twice, 4, 2, MOVER_BAD_LIST, NULL);
+    splits("an entry at n * m", 2, 1, 1, 0, high, 4, 2, MOVER_BAD_LIST, NULL);
+    splits("the high byte counts", 2, 1, 1, 0, large, 4, 2, MOVER_BAD_LIST, NULL);
+    splits("P6: n = 0", 0, 2, 1, 0, p1, 8, 4, MOVER_BAD_SIZES, NULL);
+    splits("P7: n = 65", 65, 2, 1, 0, p1, 8, 4, MOVER_BAD_SIZES, NULL);
+    splits("n = 2^32 - 1", UINT32_MAX, UINT32_MAX, 1, 0, p1, 8, 4, MOVER_BAD_SIZES, NULL);
+    splits("page_bytes = 4097", 2, 2, 4097, 0, p1, 8, 4, MOVER_BAD_SIZES, NULL);
+    splits("s = 3", 2, 2, 1, 3, p1, 8, 4, MOVER_BAD_SIZES, NULL);
+    splits("an odd number of bytes", 2, 2, 1, 0, p1, 7, 4, MOVER_BAD_LENGTH, NULL);
+    splits("a list too short", 2, 2, 1, 0, p1, 6, 4, MOVER_BAD_LENGTH, NULL);
+    splits("sets too short", 2, 2, 1, 0, p1, 8, 3, MOVER_BAD_LENGTH, NULL);
+    splits("sets too long", 2, 2, 1, 0, p1, 8, 5, MOVER_BAD_LENGTH, NULL);
+    splits("nothing lent", 2, 2, 1, 0, NULL, 0, 0, MOVER_BAD_LENGTH, NULL);
+    splits("1 before 2", 0, 2, 1, 0, p1, 7, 3, MOVER_BAD_SIZES, NULL);
+    splits("2 before 3", 2, 1, 1, 0, twice, 4, 3, MOVER_BAD_LENGTH, NULL);
+
+    printf("%u passed, %u failed\n", passed, failed);
+    return failed != 0 || passed == 0;
+}

@@ -1,0 +1,48 @@
+//! Shows that the comparison passes the simulator itself and reports every
+//! seeded fault.
+
+use mover_tests::checks::tally::Tally;
+use mover_tests::faults::all_faults;
+use mover_tests::faults::exports::{calls, Clean};
+use mover_tests::faults::programs::faulty_programs;
+use mover_tests::harness::compare::{check_mover, first_difference};
+use mover_tests::harness::programs::compare_program;
+use mover_tests::random::seed_from_environment;
+use mover_tests::simulator::rules::Correct;
+use mover_tests::simulator::step_program::step_program;
+use std::process::ExitCode;
+
+fn main() -> ExitCode {
+    let seed = seed_from_environment();
+    println!("seed {seed}");
+    let mut tally = Tally::default();
+    // A difference in these two would be a fault of the harness.
+    check_mover(
+        &mut tally,
+        "the simulator itself",
+        &calls::<Correct, Clean>(),
+        seed,
+    );
+    let itself = compare_program(seed, |input| step_program(input).into_bytes());
+    tally.check("the simulator's step program itself", itself);
+    faults_reported(&mut tally, seed);
+    tally.finish()
+}
+
+fn faults_reported(tally: &mut Tally, seed: u64) {
+    for fault in all_faults() {
+        let found = first_difference(&fault.calls, seed).map(|(family, _)| family);
+        reported(tally, fault.name, found);
+    }
+    for fault in faulty_programs() {
+        let found = compare_program(seed, fault.answer).err();
+        reported(tally, fault.name, found.map(|_| "step program"));
+    }
+}
+
+fn reported(tally: &mut Tally, name: &str, found: Option<&str>) {
+    if let Some(family) = found {
+        println!("reported: {name} ({family})");
+    }
+    tally.check(name, found.map(|_| ()).ok_or("not reported".into()));
+}

@@ -1,0 +1,23 @@
+//! The simulator's own checks.
+
+use mover_tests::checks::tally::Tally;
+use mover_tests::checks::{call_lists, hand_cases, papers, recovery_lines, refusing};
+use mover_tests::checks::{small_moves, step_inputs, torn};
+use mover_tests::random::{seed_from_environment, Random};
+use std::process::ExitCode;
+
+fn main() -> ExitCode {
+    let seed = seed_from_environment();
+    println!("seed {seed}");
+    let mut random = Random::new(seed);
+    let mut tally = Tally::default();
+    hand_cases::check(&mut tally);
+    refusing::check(&mut tally);
+    recovery_lines::check(&mut tally);
+    papers::check(&mut tally);
+    step_inputs::check(&mut tally);
+    small_moves::check(&mut tally, &mut random);
+    torn::check(&mut tally, &mut random);
+    call_lists::check(&mut tally, &mut random);
+    tally.finish()
+}

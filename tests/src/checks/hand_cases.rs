@@ -1,0 +1,186 @@
+//! The cases P1 to P11 that the document checks by hand.
+
+use super::tally::{ensure, same, Tally};
+use crate::scene::Scene;
+use crate::simulator::calls::answer;
+use crate::simulator::cuts::tear;
+use crate::simulator::flash::Flash;
+use crate::simulator::request::{Call, Numbers, CALLS};
+use crate::simulator::sizes::Sizes;
+
+type Outcome = Result<(), String>;
+
+pub fn check(tally: &mut Tally) {
+    tally.check("P1", split_gives(&[0, 2, 1, 3], &[1, 0, 0, 1]));
+    tally.check("P2", split_gives(&[0, 3, 2, 1], &[0, 1, 0, 1]));
+    tally.check("P3", pages_of_first_case());
+    tally.check("P4", smallest_move());
+    tally.check("P5", repeated_entry());
+    tally.check("P6", data_blocks_give(0, 1));
+    tally.check("P7 n = 65", data_blocks_give(65, 1));
+    tally.check("P7 n = 64", data_blocks_give(64, 0));
+    tally.check("P8", last_place());
+    tally.check("P9", torn_erase());
+    tally.check("P10", recovery_after_finish());
+    tally.check("P11", no_budget());
+    tally.check("bytes that no move has left", nonsense_bytes());
+}
+
+fn sizes(n: u32, m: u32) -> Sizes {
+    Sizes {
+        n,
+        m,
+        page_bytes: 1,
+        s: 0,
+    }
+}
+
+/// The step program's case: n = 3, m = 1, list 1 2 0, originals 1 2 4.
+fn program_case() -> Scene {
+    Scene::at_rest(sizes(3, 1), vec![1, 2, 0], vec![1, 2, 4])
+}
+
+fn split_gives(list: &[u16], due: &[u8]) -> Outcome {
+    let scene = Scene::at_rest(sizes(2, 2), list.to_vec(), vec![0; 4]);
+    let split = answer(&scene.request(Call::Split));
+    same("the number", split.numbers.returned, 0)?;
+    same("sets", &split.parts.sets[..], due)
+}
+
+fn pages_of_first_case() -> Outcome {
+    let mut scene = Scene::at_rest(sizes(2, 2), vec![0, 2, 1, 3], vec![1, 2, 4, 8]);
+    scene.run(0, 6);
+    same(
+        "store after the forward pass",
+        &scene.flash.store[..],
+        &[6, 1, 4, 8, 255, 255],
+    )?;
+    let last = scene.run(6, 6);
+    same("finished", last.numbers.finished, 1)?;
+    same(
+        "store at the end",
+        &scene.flash.store[..],
+        &[255, 255, 1, 4, 2, 8],
+    )
+}
+
+fn smallest_move() -> Outcome {
+    let mut scene = Scene::at_rest(sizes(1, 1), vec![0], vec![7]);
+    let due = Numbers {
+        place: 4,
+        steps: 4,
+        writes: 2,
+        erases: 2,
+        finished: 1,
+        ..Numbers::default()
+    };
+    same("the answer", scene.run(0, u32::MAX).numbers, due)
+}
+
+fn repeated_entry() -> Outcome {
+    let mut scene = Scene::at_rest(sizes(2, 1), vec![0, 1], vec![1, 2]);
+    scene.list = vec![0, 0];
+    for call in [Call::Split, Call::Run, Call::Read] {
+        let request = scene.request(call);
+        let refused = answer(&request);
+        same("the number", refused.numbers.returned, 3)?;
+        ensure(refused.parts == request.parts, || {
+            "lent bytes changed".into()
+        })?;
+    }
+    Ok(())
+}
+
+fn data_blocks_give(n: u32, due: u32) -> Outcome {
+    let count = n as usize;
+    let mut scene = Scene::at_rest(sizes(1, 1), vec![0], vec![0]);
+    scene.sizes = sizes(n, 1);
+    scene.list = (0..n as u16).collect();
+    scene.sets = vec![0; count];
+    scene.flash = Flash::at_rest(scene.sizes, &vec![0; count]);
+    for call in CALLS {
+        let given = answer(&scene.request(call)).numbers.returned;
+        same(&format!("the number of {call:?}"), given, due)?;
+    }
+    Ok(())
+}
+
+fn last_place() -> Outcome {
+    let mut scene = program_case();
+    scene.run(0, 12);
+    let due = Numbers {
+        place: 12,
+        finished: 1,
+        ..Numbers::default()
+    };
+    same("at place 12", scene.run(12, 5).numbers, due)?;
+    let refused = Numbers {
+        returned: 5,
+        ..Numbers::default()
+    };
+    same("at place 13", scene.run(13, 5).numbers, refused)
+}
+
+fn torn_erase() -> Outcome {
+    let mut scene = program_case();
+    scene.run(0, 3);
+    tear(&mut scene.flash, &[2], |_| vec![0x5a]);
+    let read = answer(&scene.read_request(1));
+    same(
+        "read",
+        (read.numbers.count, &read.parts.work[..]),
+        (3, &[2]),
+    )?;
+    let mended = scene.mend();
+    same(
+        "place and erases",
+        (mended.numbers.place, mended.numbers.erases),
+        (4, 1),
+    )?;
+    ensure(scene.flash.is_blank(2), || "block 2 is not blank".into())
+}
+
+fn recovery_after_finish() -> Outcome {
+    let mut scene = program_case();
+    scene.run(0, 12);
+    for _ in 0..2 {
+        let mended = scene.mend();
+        same(
+            "place and erases",
+            (mended.numbers.place, mended.numbers.erases),
+            (12, 1),
+        )?;
+    }
+    same("a second move", scene.run(0, 12).numbers.returned, 5)?;
+    same("the end", scene.run(12, 12).numbers.finished, 1)
+}
+
+/// Pages are summed by the rules even if block 0 does not hold c(1).
+fn nonsense_bytes() -> Outcome {
+    let mut scene = program_case();
+    scene.run(0, 2);
+    scene.flash.put_page(0, 1, &[0x77]);
+    let read = answer(&scene.read_request(0));
+    same(
+        "original 0",
+        (read.numbers.count, &read.parts.work[..]),
+        (2, &[0x77 ^ 4]),
+    )?;
+    let written = scene.run(2, 1);
+    same("c(2)", &written.parts.work[..], &[2 ^ 0x77 ^ 4])?;
+    scene.run(3, 3);
+    let last = scene.run(6, 1);
+    same(
+        "original 1",
+        &last.parts.work[..],
+        &[(2 ^ 0x77 ^ 4) ^ 0x77 ^ 4],
+    )
+}
+
+fn no_budget() -> Outcome {
+    let mut scene = program_case();
+    let before = scene.flash.clone();
+    let stopped = scene.run(0, 0);
+    same("the answer", stopped.numbers, Numbers::default())?;
+    ensure(scene.flash == before, || "the flash changed".into())
+}

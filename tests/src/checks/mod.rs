@@ -1,0 +1,12 @@
+//! The simulator's own checks.
+
+pub mod call_lists;
+pub mod hand_cases;
+pub mod papers;
+pub mod recovery_lines;
+pub mod refusing;
+pub mod small_moves;
+pub mod step_inputs;
+pub mod tally;
+pub mod torn;
+pub mod trace;

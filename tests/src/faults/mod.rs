@@ -1,0 +1,37 @@
+//! Movers with one fault each, to see that the comparison reports it.
+
+pub mod exports;
+mod manners;
+pub mod programs;
+mod reading;
+mod recovery;
+mod refusing;
+mod running;
+mod splitting;
+
+use crate::harness::interface::Calls;
+use crate::simulator::rules::Rules;
+use exports::{calls, Clean};
+
+pub struct Fault {
+    pub name: &'static str,
+    pub calls: Calls,
+}
+
+/// A fault in the rules.
+fn fault<R: Rules>(name: &'static str) -> Fault {
+    let calls = calls::<R, Clean>();
+    Fault { name, calls }
+}
+
+pub fn all_faults() -> Vec<Fault> {
+    let topics = [
+        refusing::faults(),
+        splitting::faults(),
+        running::faults(),
+        reading::faults(),
+        recovery::faults(),
+        manners::faults(),
+    ];
+    topics.into_iter().flatten().collect()
+}

@@ -1,0 +1,144 @@
+//! Faults in the recovery.
+
+use super::{fault, Fault};
+use crate::simulator::flash::Flash;
+use crate::simulator::recovery::{find, Recovery};
+use crate::simulator::request::{Answer, Call, Request};
+use crate::simulator::rules::Rules;
+use crate::simulator::sizes::UNWRITTEN;
+
+pub fn faults() -> Vec<Fault> {
+    vec![
+        fault::<GoesOn>("mend goes on at the next page of an unfinished block"),
+        fault::<SkipsBlankErase>("mend does not erase a blank block"),
+        fault::<SkipsUnmarkedErase>("mend does not erase a block without marks"),
+        fault::<PlaceOffByOne>("mend's place is one too high"),
+        fault::<PlaceBeforeErase>("mend reports the place and leaves the block"),
+        fault::<SecondMove>("mend gives place 0 after the finish"),
+        fault::<OddMarks>("a mark of 3 in an unfinished block is taken"),
+        fault::<AllCoded>("all blocks full of s + 1 are taken for a moment"),
+        fault::<JudgesUnfinished>("what an unfinished block holds is judged"),
+        fault::<ConstantPlace>("mend always gives the same place"),
+    ]
+}
+
+struct GoesOn;
+
+impl Rules for GoesOn {
+    fn recovery(flash: &Flash) -> Option<Recovery> {
+        let mut recovery = find(flash)?;
+        if let Some(block) = recovery.erase {
+            let mut slots = flash.block_slots(block);
+            let written = slots
+                .clone()
+                .take_while(|&slot| flash.is_whole(slot))
+                .count();
+            if written > 0 && slots.all(|slot| flash.marks[slot] <= 2 || flash.is_blank(slot)) {
+                recovery.place += written as u32;
+                recovery.erase = None;
+            }
+        }
+        Some(recovery)
+    }
+}
+
+struct SkipsBlankErase;
+
+impl Rules for SkipsBlankErase {
+    fn recovery(flash: &Flash) -> Option<Recovery> {
+        let mut recovery = find(flash)?;
+        recovery.erase = recovery.erase.filter(|&block| !flash.block_is_blank(block));
+        Some(recovery)
+    }
+}
+
+/// It still reports an erase, so that only the bytes tell.
+struct SkipsUnmarkedErase;
+
+impl Rules for SkipsUnmarkedErase {
+    fn amend(request: &Request, answer: &mut Answer) {
+        if request.call != Call::Mend || answer.numbers.erases == 0 {
+            return;
+        }
+        if request.parts.marks == answer.parts.marks {
+            answer.parts.store = request.parts.store.clone();
+        }
+    }
+}
+
+struct PlaceOffByOne;
+
+impl Rules for PlaceOffByOne {
+    fn recovery(flash: &Flash) -> Option<Recovery> {
+        let mut recovery = find(flash)?;
+        recovery.place += 1;
+        Some(recovery)
+    }
+}
+
+struct PlaceBeforeErase;
+
+impl Rules for PlaceBeforeErase {
+    fn amend(request: &Request, answer: &mut Answer) {
+        if request.call == Call::Mend {
+            answer.parts = request.parts.clone();
+        }
+    }
+}
+
+struct SecondMove;
+
+impl Rules for SecondMove {
+    fn recovery(flash: &Flash) -> Option<Recovery> {
+        let mut recovery = find(flash)?;
+        recovery.place %= flash.sizes.steps() as u32;
+        Some(recovery)
+    }
+}
+
+struct OddMarks;
+
+impl Rules for OddMarks {
+    fn recovery(flash: &Flash) -> Option<Recovery> {
+        let mut flash = flash.clone();
+        for mark in flash.marks.iter_mut().filter(|mark| **mark == 3) {
+            *mark = UNWRITTEN;
+        }
+        find(&flash)
+    }
+}
+
+struct AllCoded;
+
+impl Rules for AllCoded {
+    fn recovery(flash: &Flash) -> Option<Recovery> {
+        let mut marks = flash.marks.iter();
+        if marks.all(|&mark| mark == flash.sizes.letter(1)) {
+            let place = flash.sizes.steps() as u32 / 2;
+            return Some(Recovery { place, erase: None });
+        }
+        find(flash)
+    }
+}
+
+/// A page of the third tag cannot come from a cut in the forward pass.
+struct JudgesUnfinished;
+
+impl Rules for JudgesUnfinished {
+    fn recovery(flash: &Flash) -> Option<Recovery> {
+        let recovery = find(flash)?;
+        let forward = (recovery.place as usize) < flash.sizes.steps() / 2;
+        let last_tag = flash.marks.contains(&flash.sizes.letter(2));
+        (!forward || !last_tag).then_some(recovery)
+    }
+}
+
+struct ConstantPlace;
+
+impl Rules for ConstantPlace {
+    fn amend(request: &Request, answer: &mut Answer) {
+        if request.call == Call::Mend && answer.numbers.returned == 0 {
+            answer.numbers.place = 0;
+        }
+    }
+}

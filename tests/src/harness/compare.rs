@@ -1,0 +1,134 @@
+//! The comparison of a mover with the simulator.
+
+use super::drive::drive;
+use super::families::FAMILIES;
+use super::interface::Calls;
+use super::shrink::shrink;
+use crate::checks::tally::Tally;
+use crate::random::Random;
+use crate::simulator::calls::answer;
+use crate::simulator::request::{Answer, Request, ALL_PARTS, CALLS};
+use std::fmt;
+
+/// A request on which the mover and the simulator differ.
+pub struct Difference {
+    pub request: Request,
+    pub what: String,
+}
+
+/// More bytes than anyone reads; such a case is found again by its seed.
+const PRINT_LIMIT: usize = 1 << 20;
+
+impl fmt::Display for Difference {
+    fn fmt(&self, out: &mut fmt::Formatter) -> fmt::Result {
+        writeln!(out, "{}", self.what)?;
+        if self.request.parts.store.len() > PRINT_LIMIT {
+            return write!(
+                out,
+                "{:?} of {:?}, too big to print",
+                self.request.call, self.request.sizes
+            );
+        }
+        write!(out, "{}", self.request)
+    }
+}
+
+/// A mover under comparison, with the number of calls compared of each kind.
+pub struct Comparer<'a> {
+    calls: &'a Calls,
+    compared: [u64; 4],
+    /// Print each request before the call, to see the one that a crash ends in.
+    trace: bool,
+}
+
+impl<'a> Comparer<'a> {
+    pub fn new(calls: &'a Calls) -> Comparer<'a> {
+        Comparer {
+            calls,
+            compared: [0; 4],
+            trace: std::env::var_os("MOVER_TRACE").is_some(),
+        }
+    }
+
+    /// Compares one call; the simulator's answer is handed back, so that a
+    /// chain of calls can go on from it.
+    pub fn compare(&mut self, request: &Request) -> Result<Answer, Box<Difference>> {
+        let due = answer(request);
+        if self.trace {
+            println!("{request}");
+        }
+        if let Some(given) = drive(self.calls, request) {
+            if let Some(what) = difference(given, &due) {
+                return Err(Box::new(shrink(self.calls, request.clone(), what)));
+            }
+            self.compared[request.call as usize] += 1;
+        }
+        Ok(due)
+    }
+
+    fn all_compared(&self) -> u64 {
+        self.compared.iter().sum()
+    }
+
+    fn print_counts(&self) {
+        for (call, count) in CALLS.iter().zip(self.compared) {
+            println!("{call:?}: {count} calls compared");
+        }
+    }
+}
+
+/// In which number or byte an answer differs from the one due.
+pub fn difference(given: Result<Answer, String>, due: &Answer) -> Option<String> {
+    let given = match given {
+        Ok(given) => given,
+        Err(damage) => return Some(damage),
+    };
+    if given.numbers != due.numbers {
+        return Some(format!(
+            "returned {:?}\n     due {:?}",
+            given.numbers, due.numbers
+        ));
+    }
+    for part in ALL_PARTS {
+        let mut bytes = given.parts.get(part).iter().zip(due.parts.get(part));
+        if let Some(at) = bytes.position(|(given, due)| given != due) {
+            let (given, due) = (given.parts.get(part)[at], due.parts.get(part)[at]);
+            return Some(format!(
+                "byte {at} of the part {part:?} is {given}, due is {due}"
+            ));
+        }
+    }
+    None
+}
+
+/// Each family has its own random numbers from the seed.
+fn random_of(seed: u64, family: usize) -> Random {
+    Random::new(seed.wrapping_mul(1000).wrapping_add(family as u64))
+}
+
+/// Compares with all families; each in which a call was compared is a check.
+pub fn check_mover(tally: &mut Tally, name: &str, calls: &Calls, seed: u64) {
+    let mut comparer = Comparer::new(calls);
+    for (index, family) in FAMILIES.iter().enumerate() {
+        let before = comparer.all_compared();
+        let outcome = (family.cases)(&mut comparer, &mut random_of(seed, index));
+        if outcome.is_ok() && comparer.all_compared() == before {
+            println!("nothing to compare: {}", family.name);
+            continue;
+        }
+        let outcome = outcome.map_err(|difference| difference.to_string());
+        tally.check(&format!("{name}, {}", family.name), outcome);
+    }
+    comparer.print_counts();
+}
+
+/// Compares up to the first difference.
+pub fn first_difference(calls: &Calls, seed: u64) -> Option<(&'static str, Box<Difference>)> {
+    let mut comparer = Comparer::new(calls);
+    for (index, family) in FAMILIES.iter().enumerate() {
+        if let Err(difference) = (family.cases)(&mut comparer, &mut random_of(seed, index)) {
+            return Some((family.name, difference));
+        }
+    }
+    None
+}

@@ -1,0 +1,189 @@
+//! One request through the C interface.
+
+use super::interface::Calls;
+use super::lent::{Lent, Outs};
+use crate::simulator::request::{Answer, Call, Numbers, Parts, Request};
+
+/// The lent parts of one call.
+struct Loan {
+    list: Lent,
+    sets: Lent,
+    store: Lent,
+    marks: Lent,
+    work: Lent,
+}
+
+impl Loan {
+    fn new(parts: &Parts) -> Loan {
+        Loan {
+            list: Lent::new(&parts.list),
+            sets: Lent::new(&parts.sets),
+            store: Lent::new(&parts.store),
+            marks: Lent::new(&parts.marks),
+            work: Lent::new(&parts.work),
+        }
+    }
+
+    fn take(self) -> Result<Parts, String> {
+        Ok(Parts {
+            list: self.list.take("list")?,
+            sets: self.sets.take("sets")?,
+            store: self.store.take("store")?,
+            marks: self.marks.take("marks")?,
+            work: self.work.take("work")?,
+        })
+    }
+}
+
+/// The mover's answer, or what it damaged; `None` if it lacks the call.
+pub fn drive(calls: &Calls, request: &Request) -> Option<Result<Answer, String>> {
+    let mut loan = Loan::new(&request.parts);
+    let mut outs = Outs::junk();
+    let returned = match request.call {
+        Call::Split => drive_split(calls, request, &mut loan),
+        Call::Run => drive_run(calls, request, &mut loan, outs.pointers()),
+        Call::Mend => drive_mend(calls, request, &mut loan, outs.pointers()),
+        Call::Read => drive_read(calls, request, &mut loan, outs.pointers()),
+    }?;
+    Some(collect(request.call, returned, loan, outs))
+}
+
+fn collect(call: Call, returned: u32, loan: Loan, outs: Outs) -> Result<Answer, String> {
+    let outs = outs.take()?;
+    let mut numbers = Numbers {
+        returned,
+        ..Numbers::default()
+    };
+    match call {
+        Call::Split => {}
+        Call::Run => {
+            let [place, steps, writes, erases, finished] = outs;
+            numbers = Numbers {
+                place,
+                steps,
+                writes,
+                erases,
+                finished,
+                ..numbers
+            };
+        }
+        Call::Mend => [numbers.place, numbers.erases] = [outs[0], outs[1]],
+        Call::Read => numbers.count = outs[0],
+    }
+    let parts = loan.take()?;
+    Ok(Answer { numbers, parts })
+}
+
+fn drive_split(calls: &Calls, request: &Request, loan: &mut Loan) -> Option<u32> {
+    let split = calls.split?;
+    let sizes = &request.sizes;
+    // All parts are live buffers of the lengths given.
+    let returned = unsafe {
+        split(
+            sizes.n,
+            sizes.m,
+            sizes.page_bytes,
+            sizes.s,
+            loan.list.pointer(),
+            loan.list.length(),
+            loan.sets.pointer(),
+            loan.sets.length(),
+        )
+    };
+    Some(returned)
+}
+
+fn drive_run(
+    calls: &Calls,
+    request: &Request,
+    loan: &mut Loan,
+    outs: [*mut u32; 5],
+) -> Option<u32> {
+    let run = calls.run?;
+    let sizes = &request.sizes;
+    // All parts are live buffers of the lengths given.
+    let returned = unsafe {
+        run(
+            sizes.n,
+            sizes.m,
+            sizes.page_bytes,
+            sizes.s,
+            loan.list.pointer(),
+            loan.list.length(),
+            loan.sets.pointer(),
+            loan.sets.length(),
+            loan.store.pointer(),
+            loan.store.length(),
+            loan.marks.pointer(),
+            loan.marks.length(),
+            loan.work.pointer(),
+            loan.work.length(),
+            request.place,
+            request.budget,
+            outs[0],
+            outs[1],
+            outs[2],
+            outs[3],
+            outs[4],
+        )
+    };
+    Some(returned)
+}
+
+fn drive_mend(
+    calls: &Calls,
+    request: &Request,
+    loan: &mut Loan,
+    outs: [*mut u32; 5],
+) -> Option<u32> {
+    let mend = calls.mend?;
+    let sizes = &request.sizes;
+    // All parts are live buffers of the lengths given.
+    let returned = unsafe {
+        mend(
+            sizes.n,
+            sizes.m,
+            sizes.page_bytes,
+            sizes.s,
+            loan.store.pointer(),
+            loan.store.length(),
+            loan.marks.pointer(),
+            loan.marks.length(),
+            outs[0],
+            outs[1],
+        )
+    };
+    Some(returned)
+}
+
+fn drive_read(
+    calls: &Calls,
+    request: &Request,
+    loan: &mut Loan,
+    outs: [*mut u32; 5],
+) -> Option<u32> {
+    let read = calls.read?;
+    let sizes = &request.sizes;
+    // All parts are live buffers of the lengths given.
+    let returned = unsafe {
+        read(
+            sizes.n,
+            sizes.m,
+            sizes.page_bytes,
+            sizes.s,
+            loan.list.pointer(),
+            loan.list.length(),
+            loan.sets.pointer(),
+            loan.sets.length(),
+            loan.store.pointer(),
+            loan.store.length(),
+            loan.marks.pointer(),
+            loan.marks.length(),
+            loan.work.pointer(),
+            loan.work.length(),
+            request.original,
+            outs[0],
+        )
+    };
+    Some(returned)
+}

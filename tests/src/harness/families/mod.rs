@@ -1,0 +1,59 @@
+//! The families of cases, in the order of the comparison.
+
+mod limits;
+mod nonsense;
+mod other_splits;
+mod random_moves;
+mod refusals;
+mod small_moves;
+mod torn;
+mod walk;
+
+use super::compare::{Comparer, Difference};
+use crate::random::Random;
+
+pub type Outcome = Result<(), Box<Difference>>;
+
+pub struct Family {
+    pub name: &'static str,
+    pub cases: fn(&mut Comparer, &mut Random) -> Outcome,
+}
+
+pub const FAMILIES: [Family; 9] = [
+    Family {
+        name: "refusals, one and two at once",
+        cases: refusals::cases,
+    },
+    Family {
+        name: "all lists of n x m up to 6",
+        cases: small_moves::cases,
+    },
+    Family {
+        name: "all marks of up to 4 slots",
+        cases: nonsense::all_marks,
+    },
+    Family {
+        name: "nonsense bytes and marks",
+        cases: nonsense::cases,
+    },
+    Family {
+        name: "torn pages",
+        cases: torn::cases,
+    },
+    Family {
+        name: "splits made by another rule",
+        cases: other_splits::cases,
+    },
+    Family {
+        name: "random moves",
+        cases: random_moves::cases,
+    },
+    Family {
+        name: "moves at the limits of the sizes",
+        cases: limits::cases,
+    },
+    Family {
+        name: "the biggest store",
+        cases: limits::biggest_store,
+    },
+];

@@ -1,0 +1,194 @@
+//! Calls with one flaw and with two, and the same calls without any.
+
+use super::walk::{random_scene, sizes};
+use super::Outcome;
+use crate::harness::compare::Comparer;
+use crate::random::Random;
+use crate::simulator::request::{Call, Part, Request, CALLS};
+
+type Flaw = Box<dyn Fn(&mut Request)>;
+
+pub fn cases(comparer: &mut Comparer, random: &mut Random) -> Outcome {
+    for (n, m, bytes) in [(1, 1, 1), (2, 1, 1), (1, 2, 2), (2, 2, 1), (3, 2, 3)] {
+        let mut scene = random_scene(sizes(n, m, bytes, random.below(3)), random);
+        let end = scene.sizes.steps() as u32;
+        // Odd and even places, so that the next step is a write or an erase.
+        let places = [0, 1, 2, end / 2, end - 1, end];
+        for place in places {
+            scene.flash = random_scene(scene.sizes, random).flash;
+            scene.run(0, place);
+            for call in CALLS {
+                let mut request = scene.request(call);
+                request.place = place;
+                request.budget = random.below(4) as u32;
+                if call == Call::Split {
+                    // Not the split itself, so that a byte laid there is seen.
+                    request.parts.sets = random.bytes(request.parts.sets.len());
+                }
+                flawed(comparer, &request)?;
+            }
+        }
+    }
+    edges_accepted(comparer, random)
+}
+
+/// The biggest number of each size is taken, alone.
+fn edges_accepted(comparer: &mut Comparer, random: &mut Random) -> Outcome {
+    for (n, m, bytes, s) in [(64, 1, 1, 0), (1, 64, 1, 1), (1, 1, 4096, 2)] {
+        let scene = random_scene(sizes(n, m, bytes, s), random);
+        for call in CALLS {
+            comparer.compare(&scene.request(call))?;
+        }
+    }
+    Ok(())
+}
+
+/// The request as it is, with each flaw, and with each pair of flaws.
+fn flawed(comparer: &mut Comparer, request: &Request) -> Outcome {
+    comparer.compare(request)?;
+    let flaws = flaws(request);
+    for (index, first) in flaws.iter().enumerate() {
+        let mut once = request.clone();
+        first(&mut once);
+        comparer.compare(&once)?;
+        for second in &flaws[index + 1..] {
+            let mut twice = once.clone();
+            second(&mut twice);
+            comparer.compare(&twice)?;
+        }
+    }
+    Ok(())
+}
+
+/// Lengths come last, so that a flaw inside a part finds it at its length.
+fn flaws(request: &Request) -> Vec<Flaw> {
+    let call = request.call;
+    let mut flaws = size_flaws();
+    if call != Call::Mend {
+        flaws.extend(list_flaws(request));
+    }
+    if call == Call::Run || call == Call::Read {
+        flaws.extend(set_flaws());
+    }
+    if call != Call::Split {
+        flaws.extend(flash_flaws());
+    }
+    flaws.extend(number_flaws(request));
+    flaws.extend(call.parts().iter().flat_map(|&part| length_flaws(part)));
+    flaws
+}
+
+fn size_flaws() -> Vec<Flaw> {
+    let mut flaws: Vec<Flaw> = vec![];
+    for wrong in [0, 65, u32::MAX] {
+        flaws.push(Box::new(move |request| request.sizes.n = wrong));
+        flaws.push(Box::new(move |request| request.sizes.m = wrong));
+    }
+    for wrong in [0, 4097, u32::MAX] {
+        flaws.push(Box::new(move |request| request.sizes.page_bytes = wrong));
+    }
+    for wrong in [3, u32::MAX] {
+        flaws.push(Box::new(move |request| request.sizes.s = wrong));
+    }
+    flaws
+}
+
+fn set_entry(request: &mut Request, index: usize, entry: u16) {
+    let low = 2 * index;
+    if let Some(bytes) = request.parts.list.get_mut(low..low + 2) {
+        bytes.copy_from_slice(&entry.to_le_bytes());
+    }
+}
+
+fn list_flaws(request: &Request) -> Vec<Flaw> {
+    let originals = request.sizes.originals();
+    let first = request.destinations()[0] as u16;
+    let mut flaws: Vec<Flaw> = vec![
+        Box::new(move |request| set_entry(request, originals - 1, originals as u16)),
+        Box::new(move |request| set_entry(request, 0, 65535)),
+        // Right in its low byte.
+        Box::new(move |request| set_entry(request, 0, first + 256)),
+    ];
+    if originals > 1 {
+        flaws.push(Box::new(move |request| {
+            set_entry(request, originals - 1, first)
+        }));
+    }
+    flaws
+}
+
+fn set_flaws() -> Vec<Flaw> {
+    vec![
+        Box::new(|request| request.parts.sets[0] = request.sizes.m as u8),
+        Box::new(|request| request.parts.sets[0] = 255),
+        // With m = 1 these change nothing, and the call must still be accepted.
+        Box::new(|request| request.parts.sets.fill(0)),
+        Box::new(|request| {
+            let last = request.parts.sets.len() - 1;
+            request.parts.sets.swap(0, last.min(1));
+        }),
+        Box::new(|request| request.parts.sets.reverse()),
+    ]
+}
+
+fn flash_flaws() -> Vec<Flaw> {
+    let mark = |slot: fn(usize) -> usize, mark: u8| -> Flaw {
+        Box::new(move |request| {
+            let last = request.parts.marks.len() - 1;
+            request.parts.marks[slot(last)] = mark;
+        })
+    };
+    vec![
+        mark(|_| 0, 255),
+        mark(|_| 0, 3),
+        mark(|_| 0, 1),
+        mark(|last| last, 255),
+        mark(|last| last, 254),
+        mark(|last| last, 2),
+        Box::new(|request| request.parts.marks.fill(255)),
+        Box::new(|request| request.parts.marks.fill(1)),
+        // Bytes under marks that say "not written".
+        Box::new(|request| request.parts.store[0] = 254),
+        Box::new(|request| request.parts.store.fill(0)),
+        Box::new(|request| request.parts.store.fill(255)),
+    ]
+}
+
+fn number_flaws(request: &Request) -> Vec<Flaw> {
+    let originals = request.sizes.originals() as u32;
+    let end = request.sizes.steps() as u32;
+    let place = request.place;
+    let mut flaws: Vec<Flaw> = vec![];
+    if request.call == Call::Read {
+        for original in [originals, originals + 1, originals + 65536, u32::MAX] {
+            flaws.push(Box::new(move |request| request.original = original));
+        }
+    }
+    if request.call == Call::Run {
+        for wrong in [
+            place.wrapping_sub(1),
+            place + 1,
+            end + 1,
+            end + 2,
+            place + 65536,
+        ] {
+            flaws.push(Box::new(move |request| request.place = wrong));
+        }
+    }
+    flaws
+}
+
+fn length_flaws(part: Part) -> Vec<Flaw> {
+    vec![
+        Box::new(move |request| request.parts.get_mut(part).push(0)),
+        Box::new(move |request| {
+            request.parts.get_mut(part).pop();
+        }),
+        Box::new(move |request| {
+            request.parts.get_mut(part).pop();
+            request.parts.get_mut(part).pop();
+        }),
+        Box::new(move |request| request.parts.get_mut(part).extend([0, 0])),
+        Box::new(move |request| request.parts.get_mut(part).clear()),
+    ]
+}

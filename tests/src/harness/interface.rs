@@ -1,0 +1,77 @@
+//! The C interface of a mover.
+
+pub type SplitCall = unsafe extern "C" fn(
+    n: u32,
+    m: u32,
+    page_bytes: u32,
+    s: u32,
+    list: *const u8,
+    list_len: u64,
+    sets: *mut u8,
+    sets_len: u64,
+) -> u32;
+
+pub type RunCall = unsafe extern "C" fn(
+    n: u32,
+    m: u32,
+    page_bytes: u32,
+    s: u32,
+    list: *const u8,
+    list_len: u64,
+    sets: *const u8,
+    sets_len: u64,
+    store: *mut u8,
+    store_len: u64,
+    marks: *mut u8,
+    marks_len: u64,
+    work: *mut u8,
+    work_len: u64,
+    place: u32,
+    budget: u32,
+    place_reached: *mut u32,
+    steps: *mut u32,
+    writes: *mut u32,
+    erases: *mut u32,
+    finished: *mut u32,
+) -> u32;
+
+pub type MendCall = unsafe extern "C" fn(
+    n: u32,
+    m: u32,
+    page_bytes: u32,
+    s: u32,
+    store: *mut u8,
+    store_len: u64,
+    marks: *mut u8,
+    marks_len: u64,
+    place: *mut u32,
+    erases: *mut u32,
+) -> u32;
+
+pub type ReadCall = unsafe extern "C" fn(
+    n: u32,
+    m: u32,
+    page_bytes: u32,
+    s: u32,
+    list: *const u8,
+    list_len: u64,
+    sets: *const u8,
+    sets_len: u64,
+    store: *const u8,
+    store_len: u64,
+    marks: *const u8,
+    marks_len: u64,
+    work: *mut u8,
+    work_len: u64,
+    original: u32,
+    count: *mut u32,
+) -> u32;
+
+/// The calls of a mover; one that it does not have yet is `None`.
+#[derive(Clone, Copy)]
+pub struct Calls {
+    pub split: Option<SplitCall>,
+    pub run: Option<RunCall>,
+    pub mend: Option<MendCall>,
+    pub read: Option<ReadCall>,
+}

@@ -1,0 +1,69 @@
+//! Lent memory and returned numbers, with guards around them.
+
+/// Odd, so that a part does not start at an even address.
+const GUARD: usize = 61;
+const GUARD_BYTE: u8 = 0xc3;
+
+/// A lent part inside a buffer whose both ends must stay as they are.
+pub struct Lent {
+    buffer: Vec<u8>,
+}
+
+impl Lent {
+    pub fn new(part: &[u8]) -> Lent {
+        let guard = [GUARD_BYTE; GUARD];
+        Lent {
+            buffer: [&guard[..], part, &guard[..]].concat(),
+        }
+    }
+
+    pub fn length(&self) -> u64 {
+        (self.buffer.len() - 2 * GUARD) as u64
+    }
+
+    pub fn pointer(&mut self) -> *mut u8 {
+        self.buffer[GUARD..].as_mut_ptr()
+    }
+
+    /// The part after the call, or what happened to its guards.
+    pub fn take(self, name: &str) -> Result<Vec<u8>, String> {
+        let end = self.buffer.len() - GUARD;
+        let touched = |guard: &[u8]| guard.iter().any(|&byte| byte != GUARD_BYTE);
+        if touched(&self.buffer[..GUARD]) {
+            return Err(format!("a byte before the part {name} was written"));
+        }
+        if touched(&self.buffer[end..]) {
+            return Err(format!("a byte behind the part {name} was written"));
+        }
+        Ok(self.buffer[GUARD..end].to_vec())
+    }
+}
+
+/// No answer of a call that is carried out or refused.
+const JUNK: u32 = 0xdead_beef;
+
+/// Returned numbers, junk at first, with junk between them as guards.
+pub struct Outs {
+    numbers: [u32; 11],
+}
+
+impl Outs {
+    pub fn junk() -> Outs {
+        Outs {
+            numbers: [JUNK; 11],
+        }
+    }
+
+    pub fn pointers(&mut self) -> [*mut u32; 5] {
+        let start = self.numbers.as_mut_ptr();
+        [1, 3, 5, 7, 9].map(|index| start.wrapping_add(index))
+    }
+
+    pub fn take(self) -> Result<[u32; 5], String> {
+        let guards = self.numbers.iter().step_by(2);
+        if guards.into_iter().any(|&number| number != JUNK) {
+            return Err("memory beside a returned number was written".into());
+        }
+        Ok([1, 3, 5, 7, 9].map(|index| self.numbers[index]))
+    }
+}

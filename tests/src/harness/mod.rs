@@ -1,0 +1,10 @@
+//! Drives a mover through its C interface and compares all it answers with
+//! the simulator's answer.
+
+pub mod compare;
+pub mod drive;
+pub mod families;
+pub mod interface;
+pub mod lent;
+pub mod programs;
+pub mod shrink;

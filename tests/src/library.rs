@@ -1,0 +1,26 @@
+//! The proved library, through its C interface.
+
+use crate::harness::interface::Calls;
+
+extern "C" {
+    fn mover_split(
+        n: u32,
+        m: u32,
+        page_bytes: u32,
+        s: u32,
+        list: *const u8,
+        list_len: u64,
+        sets: *mut u8,
+        sets_len: u64,
+    ) -> u32;
+}
+
+/// The calls that the library has by now.
+pub fn calls() -> Calls {
+    Calls {
+        split: Some(mover_split),
+        run: None,
+        mend: None,
+        read: None,
+    }
+}

@@ -1,0 +1,78 @@
+//! Repeatable random numbers: the same seed gives the same cases.
+
+pub struct Random(u64);
+
+impl Random {
+    pub fn new(seed: u64) -> Random {
+        Random(seed)
+    }
+
+    /// SplitMix64.
+    pub fn number(&mut self) -> u64 {
+        self.0 = self.0.wrapping_add(0x9e37_79b9_7f4a_7c15);
+        let mut z = self.0;
+        z = (z ^ (z >> 30)).wrapping_mul(0xbf58_476d_1ce4_e5b9);
+        z = (z ^ (z >> 27)).wrapping_mul(0x94d0_49bb_1331_11eb);
+        z ^ (z >> 31)
+    }
+
+    pub fn below(&mut self, limit: usize) -> usize {
+        (self.number() % limit as u64) as usize
+    }
+
+    /// A number from `low` to `high`, both included.
+    pub fn between(&mut self, low: usize, high: usize) -> usize {
+        low + self.below(high - low + 1)
+    }
+
+    pub fn one_in(&mut self, n: usize) -> bool {
+        self.below(n) == 0
+    }
+
+    pub fn byte(&mut self) -> u8 {
+        self.number() as u8
+    }
+
+    pub fn bytes(&mut self, count: usize) -> Vec<u8> {
+        (0..count).map(|_| self.byte()).collect()
+    }
+
+    pub fn pick<'a, T>(&mut self, choices: &'a [T]) -> &'a T {
+        &choices[self.below(choices.len())]
+    }
+
+    pub fn permutation(&mut self, len: usize) -> Vec<u16> {
+        let mut list: Vec<u16> = (0..len as u16).collect();
+        for last in (1..len).rev() {
+            list.swap(last, self.below(last + 1));
+        }
+        list
+    }
+}
+
+/// The seed from the environment variable MOVER_SEED, else 1.
+pub fn seed_from_environment() -> u64 {
+    match std::env::var("MOVER_SEED") {
+        Ok(text) => text.parse().expect("MOVER_SEED must be a decimal number"),
+        Err(_) => 1,
+    }
+}
+
+/// All permutations of 0 to len - 1 in ascending order.
+pub fn all_permutations(len: usize) -> Vec<Vec<u16>> {
+    let mut found = vec![vec![]];
+    for _ in 0..len {
+        found = found
+            .iter()
+            .flat_map(|begun| extensions(begun, len))
+            .collect();
+    }
+    found
+}
+
+fn extensions(begun: &[u16], len: usize) -> Vec<Vec<u16>> {
+    (0..len as u16)
+        .filter(|next| !begun.contains(next))
+        .map(|next| [begun, &[next]].concat())
+        .collect()
+}

@@ -1,0 +1,107 @@
+//! A move with its flash, from which calls are asked.
+
+use crate::simulator::calls::answer;
+use crate::simulator::flash::Flash;
+use crate::simulator::request::{Answer, Call, Parts, Request};
+use crate::simulator::sizes::Sizes;
+
+#[derive(Clone)]
+pub struct Scene {
+    pub sizes: Sizes,
+    pub list: Vec<u16>,
+    pub sets: Vec<u8>,
+    pub originals: Vec<u8>,
+    pub flash: Flash,
+}
+
+/// What the work page holds before a call.
+pub const WORK_BEFORE: u8 = 0xa5;
+
+impl Scene {
+    /// At rest, with the split of the split call.
+    pub fn at_rest(sizes: Sizes, list: Vec<u16>, originals: Vec<u8>) -> Scene {
+        let mut scene = Scene {
+            sizes,
+            list,
+            sets: vec![0; sizes.originals()],
+            flash: Flash::at_rest(sizes, &originals),
+            originals,
+        };
+        scene.sets = answer(&scene.request(Call::Split)).parts.sets;
+        scene
+    }
+
+    /// A call with the parts it takes; place, budget and original are 0.
+    pub fn request(&self, call: Call) -> Request {
+        let all = Parts {
+            list: self
+                .list
+                .iter()
+                .flat_map(|entry| entry.to_le_bytes())
+                .collect(),
+            sets: self.sets.clone(),
+            store: self.flash.store.clone(),
+            marks: self.flash.marks.clone(),
+            work: vec![WORK_BEFORE; self.sizes.bytes()],
+        };
+        let mut parts = Parts::default();
+        for &part in call.parts() {
+            *parts.get_mut(part) = all.get(part).clone();
+        }
+        Request {
+            call,
+            sizes: self.sizes,
+            parts,
+            place: 0,
+            budget: 0,
+            original: 0,
+        }
+    }
+
+    pub fn run_request(&self, place: u32, budget: u32) -> Request {
+        Request {
+            place,
+            budget,
+            ..self.request(Call::Run)
+        }
+    }
+
+    pub fn read_request(&self, original: usize) -> Request {
+        Request {
+            original: original as u32,
+            ..self.request(Call::Read)
+        }
+    }
+
+    /// Takes over the store and the marks that a call left.
+    pub fn take_over(&mut self, answer: &Answer) {
+        self.flash = Flash::new(self.sizes, &answer.parts.store, &answer.parts.marks);
+    }
+
+    pub fn run(&mut self, place: u32, budget: u32) -> Answer {
+        let answer = answer(&self.run_request(place, budget));
+        self.take_over(&answer);
+        answer
+    }
+
+    pub fn mend(&mut self) -> Answer {
+        let answer = answer(&self.request(Call::Mend));
+        self.take_over(&answer);
+        answer
+    }
+
+    pub fn original(&self, k: usize) -> &[u8] {
+        let bytes = self.sizes.bytes();
+        &self.originals[k * bytes..(k + 1) * bytes]
+    }
+}
+
+/// All pairs n, m with n x m up to a limit, smallest first.
+pub fn small_shapes(limit: u32) -> Vec<(u32, u32)> {
+    let mut shapes = vec![];
+    for product in 1..=limit {
+        let divisors = (1..=product).filter(|n| product % n == 0);
+        shapes.extend(divisors.map(|n| (n, product / n)));
+    }
+    shapes
+}

@@ -1,0 +1,83 @@
+//! The refusals, and the order in which each call looks for them.
+
+use super::flash::Flash;
+use super::request::{Call, Part, Request};
+use super::rules::Rules;
+use super::running::place_fits;
+use super::sizes::Sizes;
+use super::split::is_split;
+
+#[derive(Clone, Copy, Debug, PartialEq)]
+pub enum Refusal {
+    Sizes = 1,
+    Lengths = 2,
+    List = 3,
+    Split = 4,
+    Place = 5,
+    Marks = 6,
+    Original = 7,
+}
+
+/// The column "given by" of the table, lowest number first.
+pub fn order(call: Call) -> &'static [Refusal] {
+    use Refusal::*;
+    match call {
+        Call::Split => &[Sizes, Lengths, List],
+        Call::Run => &[Sizes, Lengths, List, Split, Place],
+        Call::Mend => &[Sizes, Lengths, Marks],
+        Call::Read => &[Sizes, Lengths, List, Split, Marks, Original],
+    }
+}
+
+pub fn refusal<R: Rules>(request: &Request) -> Option<Refusal> {
+    let mut order = R::refusal_order(request.call).iter().copied();
+    order.find(|&refusal| applies::<R>(refusal, request))
+}
+
+fn applies<R: Rules>(refusal: Refusal, request: &Request) -> bool {
+    let sizes = request.sizes;
+    let flash = || Flash::new(sizes, &request.parts.store, &request.parts.marks);
+    match refusal {
+        Refusal::Sizes => !R::sizes_fit(&sizes),
+        Refusal::Lengths => !lengths_fit::<R>(request),
+        Refusal::List => !list_fits(request),
+        Refusal::Split => !is_split(&sizes, &request.destinations(), &request.parts.sets),
+        Refusal::Place => !place_fits::<R>(&flash(), request.place as usize),
+        Refusal::Marks => R::recovery(&flash()).is_none(),
+        Refusal::Original => request.original as usize >= sizes.originals(),
+    }
+}
+
+fn lengths_fit<R: Rules>(request: &Request) -> bool {
+    let mut parts = request.call.parts().iter();
+    parts.all(|&part| {
+        R::length_fits(
+            part,
+            request.parts.get(part).len(),
+            due_length(&request.sizes, part),
+        )
+    })
+}
+
+/// Wide enough for sizes out of range too.
+fn due_length(sizes: &Sizes, part: Part) -> u128 {
+    let [n, m, bytes] = [sizes.n, sizes.m, sizes.page_bytes].map(u128::from);
+    match part {
+        Part::List => 2 * n * m,
+        Part::Sets => n * m,
+        Part::Store => (n + 1) * m * bytes,
+        Part::Marks => (n + 1) * m,
+        Part::Work => bytes,
+    }
+}
+
+fn list_fits(request: &Request) -> bool {
+    let destinations = request.destinations();
+    let mut distinct = destinations.clone();
+    distinct.sort();
+    distinct.dedup();
+    distinct.len() == destinations.len()
+        && destinations
+            .iter()
+            .all(|&number| number < request.sizes.originals())
+}

@@ -1,0 +1,130 @@
+//! One call with everything it is given, and its answer with everything it
+//! returns or leaves.
+
+use super::sizes::Sizes;
+use std::fmt;
+
+/// "Mend" is the recovery after a power cut.
+#[derive(Clone, Copy, Debug, PartialEq, Eq)]
+pub enum Call {
+    Split,
+    Run,
+    Mend,
+    Read,
+}
+
+pub const CALLS: [Call; 4] = [Call::Split, Call::Run, Call::Mend, Call::Read];
+
+#[derive(Clone, Copy, Debug, PartialEq, Eq)]
+pub enum Part {
+    List,
+    Sets,
+    Store,
+    Marks,
+    Work,
+}
+
+impl Call {
+    /// The parts that the caller lends.
+    pub fn parts(self) -> &'static [Part] {
+        match self {
+            Call::Split => &[Part::List, Part::Sets],
+            Call::Mend => &[Part::Store, Part::Marks],
+            Call::Run | Call::Read => &ALL_PARTS,
+        }
+    }
+}
+
+pub const ALL_PARTS: [Part; 5] = [Part::List, Part::Sets, Part::Store, Part::Marks, Part::Work];
+
+/// The memory a caller lends; a part that a call does not take is empty.
+#[derive(Clone, Debug, Default, PartialEq)]
+pub struct Parts {
+    pub list: Vec<u8>,
+    pub sets: Vec<u8>,
+    pub store: Vec<u8>,
+    pub marks: Vec<u8>,
+    pub work: Vec<u8>,
+}
+
+impl Parts {
+    pub fn get(&self, part: Part) -> &Vec<u8> {
+        match part {
+            Part::List => &self.list,
+            Part::Sets => &self.sets,
+            Part::Store => &self.store,
+            Part::Marks => &self.marks,
+            Part::Work => &self.work,
+        }
+    }
+
+    pub fn get_mut(&mut self, part: Part) -> &mut Vec<u8> {
+        match part {
+            Part::List => &mut self.list,
+            Part::Sets => &mut self.sets,
+            Part::Store => &mut self.store,
+            Part::Marks => &mut self.marks,
+            Part::Work => &mut self.work,
+        }
+    }
+}
+
+/// "Place" is the step counter: the number of the next step of the move.
+#[derive(Clone, Debug, PartialEq)]
+pub struct Request {
+    pub call: Call,
+    pub sizes: Sizes,
+    pub parts: Parts,
+    pub place: u32,
+    pub budget: u32,
+    pub original: u32,
+}
+
+/// The numbers returned; those that a call does not return stay 0.
+#[derive(Clone, Debug, Default, PartialEq)]
+pub struct Numbers {
+    pub returned: u32,
+    pub place: u32,
+    pub steps: u32,
+    pub writes: u32,
+    pub erases: u32,
+    pub finished: u32,
+    pub count: u32,
+}
+
+#[derive(Clone, Debug, PartialEq)]
+pub struct Answer {
+    pub numbers: Numbers,
+    pub parts: Parts,
+}
+
+impl Request {
+    /// The list as numbers, low byte first.
+    pub fn destinations(&self) -> Vec<usize> {
+        let pairs = self.parts.list.chunks_exact(2);
+        pairs
+            .map(|pair| pair[0] as usize + 256 * pair[1] as usize)
+            .collect()
+    }
+}
+
+/// Printed as a Rust expression, to be pasted into a test.
+impl fmt::Display for Request {
+    fn fmt(&self, out: &mut fmt::Formatter) -> fmt::Result {
+        let parts = &self.parts;
+        writeln!(out, "Request {{")?;
+        writeln!(out, "    call: Call::{:?},", self.call)?;
+        writeln!(out, "    sizes: {:?},", self.sizes)?;
+        writeln!(out, "    parts: Parts {{")?;
+        writeln!(out, "        list: vec!{:?},", parts.list)?;
+        writeln!(out, "        sets: vec!{:?},", parts.sets)?;
+        writeln!(out, "        store: vec!{:?},", parts.store)?;
+        writeln!(out, "        marks: vec!{:?},", parts.marks)?;
+        writeln!(out, "        work: vec!{:?},", parts.work)?;
+        writeln!(out, "    }},")?;
+        writeln!(out, "    place: {},", self.place)?;
+        writeln!(out, "    budget: {},", self.budget)?;
+        writeln!(out, "    original: {},", self.original)?;
+        write!(out, "}}")
+    }
+}

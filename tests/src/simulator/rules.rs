@@ -1,0 +1,86 @@
+//! The points of the document where a mover can easily differ.
+//!
+//! `Correct` takes them all as written. A seeded fault overrides one of them,
+//! which keeps it a single difference from the simulator.
+
+use super::flash::{add, Flash};
+use super::permutation::Move;
+use super::recovery::{self, Recovery};
+use super::refusals::{order, Refusal};
+use super::request::{Answer, Call, Part, Request};
+use super::sizes::{Sizes, UNWRITTEN};
+use super::split::Partial;
+
+pub trait Rules {
+    fn sizes_fit(sizes: &Sizes) -> bool {
+        (1..=64).contains(&sizes.n)
+            && (1..=64).contains(&sizes.m)
+            && (1..=4096).contains(&sizes.page_bytes)
+            && sizes.s <= 2
+    }
+
+    fn length_fits(_part: Part, given: usize, due: u128) -> bool {
+        given as u128 == due
+    }
+
+    /// The refusals a call looks for, lowest number first.
+    fn refusal_order(call: Call) -> &'static [Refusal] {
+        order(call)
+    }
+
+    /// The pages on which the split exchanges sets a and b.
+    fn exchanged(partial: &Partial, ends: (usize, usize), a: usize, b: usize) -> Vec<usize> {
+        let (_source, destination) = ends;
+        partial.path_from_destination(destination, a, b)
+    }
+
+    fn set_after_exchange(a: usize, _b: usize) -> usize {
+        a
+    }
+
+    /// The "top" of a cycle is what the paper calls the tail: its highest block.
+    fn top(cycle: &[usize]) -> usize {
+        *cycle.iter().max().expect("a cycle has a block")
+    }
+
+    /// c(i) from D(i) and, unless i is the top, D(pred(i)).
+    fn coded_page(own: Vec<u8>, from_pred: Option<Vec<u8>>) -> Vec<u8> {
+        let mut page = own;
+        if let Some(other) = from_pred {
+            add(&mut page, &other);
+        }
+        page
+    }
+
+    /// Read's second rule: is the page rebuilt against the direction of moves?
+    fn goes_back(flash: &Flash, top: usize) -> bool {
+        let sizes = &flash.sizes;
+        let rest_left = (0..=sizes.data_blocks()).any(|b| flash.full_of(b, sizes.letter(0)));
+        flash.full_of(top - 1, sizes.letter(1)) || rest_left
+    }
+
+    /// Read's third rule: does the way forward end with block `v`?
+    fn forward_ends(moves: &Move, flash: &Flash, set: usize, v: usize) -> bool {
+        flash.full_of(moves.next(set, v), flash.sizes.letter(2))
+    }
+
+    /// Does a page fit the mark that the place has there?
+    fn page_fits(flash: &Flash, slot: usize, due: u8) -> bool {
+        flash.marks[slot] == due && (due != UNWRITTEN || flash.is_blank(slot))
+    }
+
+    fn steps_to_take(place: u32, budget: u32, all: u32) -> u32 {
+        budget.min(all - place)
+    }
+
+    fn recovery(flash: &Flash) -> Option<Recovery> {
+        recovery::find(flash)
+    }
+
+    /// The last word on an answer; nothing to add when all is right.
+    fn amend(_request: &Request, _answer: &mut Answer) {}
+}
+
+pub struct Correct;
+
+impl Rules for Correct {}

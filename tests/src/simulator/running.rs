@@ -1,0 +1,75 @@
+//! The run: one step after the other.
+
+use super::flash::Flash;
+use super::permutation::Move;
+use super::reading::slots_to_sum;
+use super::rules::Rules;
+use super::steps::{all_steps, marks_at, Step};
+
+/// Does the flash look as at this place?
+pub fn place_fits<R: Rules>(flash: &Flash, place: usize) -> bool {
+    let due = marks_at(&flash.sizes, place);
+    let mut slots = 0..flash.sizes.slots();
+    place <= flash.sizes.steps() && slots.all(|slot| R::page_fits(flash, slot, due[slot]))
+}
+
+/// Takes one step; a written page is handed back.
+pub fn take_step<R: Rules>(moves: &Move, flash: &mut Flash, step: Step) -> Option<Vec<u8>> {
+    let sizes = moves.sizes;
+    let (slot, mark, bytes) = match step {
+        Step::Erase { block } => {
+            flash.erase(block);
+            return None;
+        }
+        Step::WriteCoded { block, page } => {
+            let bytes = coded_page::<R>(moves, flash, page, block + 1);
+            (sizes.slot(block, page), sizes.letter(1), bytes)
+        }
+        Step::WriteFinal { block, page } => {
+            let original = moves.original_to(block, page);
+            let bytes = flash.sum(&slots_to_sum::<R>(moves, flash, original));
+            (sizes.slot(block, page), sizes.letter(2), bytes)
+        }
+    };
+    flash.put_page(slot, mark, &bytes);
+    Some(bytes)
+}
+
+/// c(i) of a set, from the page that lies in block i and, unless i is the top
+/// of its cycle, the page that goes there.
+fn coded_page<R: Rules>(moves: &Move, flash: &Flash, set: usize, i: usize) -> Vec<u8> {
+    let own_slot = moves.sizes.slot_of(moves.original_from(set, i));
+    let own = flash.page(own_slot).to_vec();
+    if R::top(&moves.cycle(set, i)) == i {
+        return R::coded_page(own, None);
+    }
+    let coming = moves.original_from(set, moves.pred(set, i));
+    let rebuilt = flash.sum(&slots_to_sum::<R>(moves, flash, coming));
+    R::coded_page(own, Some(rebuilt))
+}
+
+/// What a run did.
+pub struct Progress {
+    pub writes: u32,
+    pub erases: u32,
+    pub last_page: Option<Vec<u8>>,
+}
+
+pub fn take_steps<R: Rules>(moves: &Move, flash: &mut Flash, place: u32, count: u32) -> Progress {
+    let mut progress = Progress {
+        writes: 0,
+        erases: 0,
+        last_page: None,
+    };
+    let steps = all_steps(&moves.sizes).into_iter();
+    for step in steps.skip(place as usize).take(count as usize) {
+        match take_step::<R>(moves, flash, step) {
+            Some(page) => {
+                progress.writes += 1;
+                progress.last_page = Some(page);
+            }
+            None => progress.erases += 1,
+        }
+    }
+    progress
+}
