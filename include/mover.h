@@ -11,6 +11,8 @@
  * list         where each page goes: n * m entries of two bytes, low byte first; entry k is the page number, 0 to n * m - 1,
  *              where original page k goes, which is page k % m of block k / m + 1
  * sets         n * m bytes, the set of each page
+ * store        (n + 1) * m pages of page_bytes bytes, block after block, the spare first
+ * marks        (n + 1) * m bytes, one a page: 0, 1 or 2, or 255 where nothing is written
  */
 #ifndef MOVER_H
 #define MOVER_H
@@ -25,13 +27,20 @@ enum mover_refusal {
     MOVER_DONE = 0,          /* carried out */
     MOVER_BAD_SIZES = 1,     /* n, m, page_bytes or s out of its range */
     MOVER_BAD_LENGTH = 2,    /* a lent part not of its exact length */
-    MOVER_BAD_LIST = 3       /* a list entry at or above n * m, or met twice */
+    MOVER_BAD_LIST = 3,      /* a list entry at or above n * m, or met twice */
+    MOVER_BAD_MARKS = 6      /* marks fit no moment of the move */
 };
 
 /* Splits a list into m sets, each with one page from each data block and one page to each, and fills `sets` with the set of each
  * page. Returns 0, or 1, 2 or 3; then `sets` is as it was. */
 uint32_t mover_split(uint32_t n, uint32_t m, uint32_t page_bytes, uint32_t s,
                      const uint8_t *list, uint64_t list_len, uint8_t *sets, uint64_t sets_len);
+
+/* Recovery after a power cut. Reads the marks, erases the block that is unfinished, if there is one, and sets *place to where the
+ * move goes on and *erases to 0 or 1. Returns 0, or 1, 2 or 6; then both numbers are 0, and store and marks are as they were. */
+uint32_t mover_mend(uint32_t n, uint32_t m, uint32_t page_bytes, uint32_t s,
+                    uint8_t *store, uint64_t store_len, uint8_t *marks, uint64_t marks_len,
+                    uint32_t *place, uint32_t *erases);
 
 #ifdef __cplusplus
 }

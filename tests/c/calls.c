@@ -1,4 +1,4 @@
-/* The library from C: document 01's cases of the split call, and its refusals. */
+/* The library from C: document 01's cases of the split and the mend call, and their refusals. */
 #include "mover.h"
 
 #include <stdio.h>
@@ -30,7 +30,24 @@ static void splits(const char *what, uint32_t n, uint32_t m, uint32_t page_bytes
     check(what, got == number && memcmp(sets, before, sizeof sets) == 0);
 }
 
-int main(void)
+/* The call recovers a store of 3 blocks of one page of one byte, or refuses and leaves it. */
+static void mends(const char *what, const uint8_t *store, const uint8_t *marks, uint64_t marks_len, uint32_t s, uint32_t number,
+                  uint32_t place, uint32_t erases, int block)
+{
+    uint8_t chip[4], tags[4], due_chip[4], due_tags[4];
+    uint32_t got, got_place = 77, got_erases = 77;
+    memcpy(chip, store, 4);
+    memcpy(tags, marks, 4);
+    memcpy(due_chip, store, 4);
+    memcpy(due_tags, marks, 4);
+    if (block >= 0)
+        due_chip[block] = due_tags[block] = 255;
+    got = mover_mend(3, 1, 1, s, chip, 4, tags, marks_len, &got_place, &got_erases);
+    check(what, got == number && got_place == place && got_erases == erases && memcmp(chip, due_chip, 4) == 0
+                    && memcmp(tags, due_tags, 4) == 0);
+}
+
+static void splits_checked(void)
 {
     static const uint8_t p1[] = {0, 0, 2, 0, 1, 0, 3, 0}, p1_sets[] = {1, 0, 0, 1};
     static const uint8_t p2[] = {0, 0, 3, 0, 2, 0, 1, 0}, p2_sets[] = {0, 1, 0, 1};
@@ -53,7 +70,27 @@ int main(void)
     splits("nothing lent", 2, 2, 1, 0, NULL, 0, 0, MOVER_BAD_LENGTH, NULL);
     splits("1 before 2", 0, 2, 1, 0, p1, 7, 3, MOVER_BAD_SIZES, NULL);
     splits("2 before 3", 2, 1, 1, 0, twice, 4, 3, MOVER_BAD_LENGTH, NULL);
+}
 
+static void mends_checked(void)
+{
+    static const uint8_t torn[] = {5, 3, 77, 4}, torn_marks[] = {1, 1, 255, 0};
+    static const uint8_t whole_marks[] = {1, 1, 0, 0}, end[] = {255, 4, 1, 2}, end_marks[] = {255, 2, 2, 2};
+    static const uint8_t odd_marks[] = {1, 1, 3, 0}, two_marks[] = {1, 255, 255, 0};
+
+    mends("P9", torn, torn_marks, 4, 0, MOVER_DONE, 4, 1, 2);
+    mends("P10", end, end_marks, 4, 0, MOVER_DONE, 12, 1, 0);
+    mends("nothing unfinished", torn, whole_marks, 4, 0, MOVER_DONE, 3, 0, -1);
+    mends("an odd mark", torn, odd_marks, 4, 0, MOVER_BAD_MARKS, 0, 0, -1);
+    mends("two unfinished", torn, two_marks, 4, 0, MOVER_BAD_MARKS, 0, 0, -1);
+    mends("marks too short", torn, torn_marks, 3, 0, MOVER_BAD_LENGTH, 0, 0, -1);
+    mends("s = 3", torn, torn_marks, 4, 3, MOVER_BAD_SIZES, 0, 0, -1);
+}
+
+int main(void)
+{
+    splits_checked();
+    mends_checked();
     printf("%u passed, %u failed\n", passed, failed);
     return failed != 0 || passed == 0;
 }

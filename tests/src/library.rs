@@ -13,6 +13,18 @@ extern "C" {
         sets: *mut u8,
         sets_len: u64,
     ) -> u32;
+    fn mover_mend(
+        n: u32,
+        m: u32,
+        page_bytes: u32,
+        s: u32,
+        store: *mut u8,
+        store_len: u64,
+        marks: *mut u8,
+        marks_len: u64,
+        place: *mut u32,
+        erases: *mut u32,
+    ) -> u32;
 }
 
 /// The calls that the library has by now.
@@ -20,7 +32,7 @@ pub fn calls() -> Calls {
     Calls {
         split: Some(mover_split),
         run: None,
-        mend: None,
+        mend: Some(mover_mend),
         read: None,
     }
 }

@@ -1,2 +1,3 @@
 pub mod BytesLaws
 pub mod SplitLaws
+pub mod MendLaws

@@ -27,11 +27,11 @@ above (top ∷ rows) from r row m =
     (λ (t : List·Memᴰ row rows). let up = above rows (top .gives) (h .1) row t in omega arith)
     (List·Memᴰ·cases-cons m)
 
-refusal-hit : (row : Row ℕ) (rows : List (Row ℕ)) → row .fits ≡ true → refusal (row ∷ rows) ≡ row .gives
+pub refusal-hit : (row : Row ℕ) (rows : List (Row ℕ)) → row .fits ≡ true → refusal (row ∷ rows) ≡ row .gives
 unfolding refusal firstFit numberOr0
 refusal-hit row rows e = rw e
 
-refusal-miss : (row : Row ℕ) (rows : List (Row ℕ)) → row .fits ≡ false → refusal (row ∷ rows) ≡ refusal rows
+pub refusal-miss : (row : Row ℕ) (rows : List (Row ℕ)) → row .fits ≡ false → refusal (row ∷ rows) ≡ refusal rows
 unfolding refusal firstFit
 refusal-miss row rows e = rw e
 

@@ -44,3 +44,4 @@ pub mod RunEvents
 pub mod MendEvents
 pub mod Demand
 pub mod Example
+pub mod AnswerBounds
