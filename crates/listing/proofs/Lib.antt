@@ -1,0 +1,6 @@
+pub mod DigitLaws
+pub mod PrintLaws
+pub mod WordLaws
+pub mod NumberLaws
+pub mod TakeLaws
+pub mod RequestLaws

@@ -1,0 +1,5 @@
+pub mod Numbers
+pub mod Request
+pub mod Digits
+pub mod Lines
+pub mod Found
