@@ -4,3 +4,5 @@ pub mod WordLaws
 pub mod NumberLaws
 pub mod TakeLaws
 pub mod RequestLaws
+pub mod ReadBack
+pub mod Exampled

@@ -3,3 +3,4 @@ pub mod Request
 pub mod Digits
 pub mod Lines
 pub mod Found
+pub mod Examples
