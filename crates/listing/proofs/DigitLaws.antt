@@ -11,7 +11,7 @@ use Rattle.listing.specs.Digits.{digitOf, digits, placesUpTo}
 pub length-digits : (base count n : ℕ) → length (digits base count n) ≡ count
 unfolding digits
 length-digits base zero n = refl
-length-digits base (suc count) n = length-append (digits base count (n / base)) _ ∙ rw (length-digits base count (n / base)) (omega arith)
+length-digits base (suc count) n = rw (length-append, length-digits base count) (omega arith)
 
 -- A number below 10 has one digit; any other has one more than a tenth of it.
 pub one-place : (most n : ℕ) → n < 10 → placesUpTo most n ≡ 1
