@@ -1,0 +1,29 @@
+use Rattle.listing.specs.Digits.{places, decimal}
+use Rattle.listing.proofs.DigitLaws.{length-digits}
+use native.Mathlib.Omega.{arith}
+use borrow.Author.Needs.{needs}
+use Rattle.listing.proofs.digits.put_decimal.Statement.{statement}
+use Rattle.listing.proofs.digits.put_decimal.Tie as tie
+
+count-places-requires : tie.Need-count-places-requires
+count-places-requires c κs = search needs
+
+put-digits-requires : tie.Need-put-digits-requires
+unfolding decimal
+put-digits-requires c κs =
+    let n = c .before .before .before .args .n in
+    omega (arith, length-digits 10 (places n) n)
+
+same-length : tie.Need-same-length
+same-length c = search needs
+
+returns : tie.Need-returns
+unfolding decimal
+returns c =
+    let a = c .before .before .before .before .before .before .args in
+    let d = c .before .before in
+    rw (d .before .count-places .ensures) at (d .put-digits .ensures)
+
+pub put-decimal-spec : {M : Type 1} → statement M
+put-decimal-spec =
+    tie.close (tie.spec count-places-requires put-digits-requires same-length returns)

@@ -1,0 +1,11 @@
+use Rattle.listing.specs.Numbers.{isDigit}
+use borrow.Author.Needs.{needs}
+use Rattle.listing.proofs.number.is_digit.Statement.{statement}
+use Rattle.listing.proofs.number.is_digit.Tie as tie
+
+returns : tie.Need-returns
+unfolding isDigit
+returns c = search needs
+
+pub is-digit-spec : {M : Type 1} → statement M
+is-digit-spec = tie.close (tie.spec returns)

@@ -1,0 +1,11 @@
+use Rattle.listing.specs.Numbers.{isSeparator}
+use borrow.Author.Needs.{needs}
+use Rattle.listing.proofs.number.is_separator.Statement.{statement}
+use Rattle.listing.proofs.number.is_separator.Tie as tie
+
+returns : tie.Need-returns
+unfolding isSeparator
+returns c = search needs
+
+pub is-separator-spec : {M : Type 1} → statement M
+is-separator-spec = tie.close (tie.spec returns)

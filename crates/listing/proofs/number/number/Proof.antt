@@ -1,0 +1,17 @@
+use mathlib.Core.Path.{ap, _∙_}
+use Rattle.listing.specs.Numbers.{next}
+use borrow.Author.Needs.{needs}
+use Rattle.listing.proofs.number.number.Statement.{statement}
+use Rattle.listing.proofs.number.number.Tie as tie
+
+skip-requires : tie.Need-skip-requires
+skip-requires c κs = search needs
+
+spelled-requires : tie.Need-spelled-requires
+spelled-requires c κs = c .skip .ensures .1
+
+returns : tie.Need-returns
+returns c = c .spelled .ensures ∙ ap next (c .before .skip .ensures .0)
+
+pub number-spec : {M : Type 1} → statement M
+number-spec = tie.close (tie.spec skip-requires spelled-requires returns)

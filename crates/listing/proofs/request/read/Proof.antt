@@ -1,0 +1,63 @@
+use native.Mathlib.Omega.{arith}
+use mathlib.Core.Path.{sym, ap, _∙_}
+use mathlib.Core.Bool.{true, false}
+use borrow.Author.Tests.{not-true, not-false}
+use Rattle.listing.specs.Found.{sizesAs}
+use Rattle.listing.proofs.RequestLaws.{bounded, few-originals, no-sizes, not-allowed, as-asked}
+use borrow.Author.Needs.{needs}
+use Rattle.listing.proofs.request.read.Statement.{statement}
+use Rattle.listing.proofs.request.read.Tie as tie
+
+read-sizes-requires : tie.Need-read-sizes-requires
+read-sizes-requires c κs = search needs
+
+enum-known-n : tie.Need-enum-known-n
+enum-known-n c = search needs
+
+enum-told : tie.Need-enum-told
+enum-told c = search needs
+
+returns : tie.Need-returns
+returns c = no-sizes (c .before .before .before .before .before .args .text .now) (ap (sizesAs (c .before .before .before .before .before .args .text .now)) (sym (c .enum-told .given .1)) ∙ c .before .before .read-sizes .ensures)
+
+is-allowed-requires : tie.Need-is-allowed-requires
+is-allowed-requires c κs = search needs
+
+returns-2 : tie.Need-returns-2
+returns-2 c =
+    let text = c .before .before .before .before .before .before .before .before .args .text .now in
+    let v = c .before .before .before .n .given in
+    not-allowed text _ _ _ _ (v .0 .1 .1 .1 .1 .0) (ap (sizesAs text) (sym (v .1)) ∙ c .before .before .before .before .before .read-sizes .ensures) (sym (c .before .is-allowed .ensures) ∙ not-true _ (c .if1 .taken))
+
+original-count-requires : tie.Need-original-count-requires
+original-count-requires c κs =
+    let l = bounded _ _ _ _ (sym (c .before .is-allowed .ensures) ∙ not-false _ (c .if1 .left)) in
+    omega arith
+
+read-numbers-requires : tie.Need-read-numbers-requires
+read-numbers-requires c κs =
+    let l = bounded _ _ _ _ (sym (c .before .before .before .is-allowed .ensures) ∙ not-false _ (c .before .before .if1 .left)) in
+    omega (arith, few-originals _ _ (l .few-blocks) (l .few-pages))
+
+same-length : tie.Need-same-length
+same-length c = search needs
+
+returns-3 : tie.Need-returns-3
+returns-3 c =
+    let text = c .before .before .before .before .before .before .before .before .before .before .before .before .before .before .args .text .now in
+    let sizes = ap (sizesAs text) (sym (c .before .before .before .before .before .before .before .before .before .n .given .1)) ∙ c .before .before .before .before .before .before .before .before .before .before .before .read-sizes .ensures in
+    let allowed = sym (c .before .before .before .before .before .before .before .is-allowed .ensures) ∙ not-false _ (c .before .before .before .before .before .before .if1 .left) in
+    as-asked text _ _ _ _ (c .before .before .before .before .before .before .before .before .before .n .given .0 .1 .1 .1 .1 .0) sizes (c .before .before .before .before .before .original-count .result) true (c .before .before .before .read-numbers .last .1 .1 .1 .1 .0) allowed (c .before .before .before .before .before .original-count .ensures) (rw (c .if2 .taken) at (c .before .before .before .read-numbers .ensures))
+
+same-length-2 : tie.Need-same-length-2
+same-length-2 c = search needs
+
+returns-4 : tie.Need-returns-4
+returns-4 c =
+    let text = c .before .before .before .before .before .before .before .before .before .before .before .before .before .before .args .text .now in
+    let sizes = ap (sizesAs text) (sym (c .before .before .before .before .before .before .before .before .before .n .given .1)) ∙ c .before .before .before .before .before .before .before .before .before .before .before .read-sizes .ensures in
+    let allowed = sym (c .before .before .before .before .before .before .before .is-allowed .ensures) ∙ not-false _ (c .before .before .before .before .before .before .if1 .left) in
+    as-asked text _ _ _ _ (c .before .before .before .before .before .before .before .before .before .n .given .0 .1 .1 .1 .1 .0) sizes (c .before .before .before .before .before .original-count .result) false (c .before .before .before .read-numbers .last .1 .1 .1 .1 .0) allowed (c .before .before .before .before .before .original-count .ensures) (rw (c .if2 .left) at (c .before .before .before .read-numbers .ensures))
+
+pub read-spec : {M : Type 1} → statement M
+read-spec = tie.close (tie.spec read-sizes-requires enum-known-n enum-told returns is-allowed-requires returns-2 original-count-requires read-numbers-requires same-length returns-3 same-length-2 returns-4)

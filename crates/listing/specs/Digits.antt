@@ -1,0 +1,30 @@
+-- Numbers as text: "the page and its bytes in lowercase hexadecimal, two digits each", all other numbers in decimal.
+use mathlib.Core.Bool.{cond}
+use mathlib.Core.List.{List, [], _∷_, _++_}
+use Prim.Native.Nat.{ℕ, zero, suc, _+_, _/_, _%_}
+use lib.Dec.{ltb}
+
+-- the digit of a number below 16: `0` to `9`, then `a` to `f`
+unfoldable pub digitOf : ℕ → ℕ
+digitOf d = cond (ltb d 10) (48 + d) (87 + d)
+
+-- the last `count` digits of n in a base, the highest first
+unfoldable pub digits : (base count n : ℕ) → List ℕ
+digits base zero n = []
+digits base (suc count) n = digits base count (n / base) ++ (digitOf (n % base) ∷ [])
+
+-- How many decimal digits n has, `most` + 1 at most.
+unfoldable pub placesUpTo : (most n : ℕ) → ℕ
+placesUpTo zero n = 1
+placesUpTo (suc most) n = cond (ltb n 10) 1 (suc (placesUpTo most (n / 10)))
+
+-- n has no more than n + 1 digits
+unfoldable pub places : (n : ℕ) → ℕ
+places n = placesUpTo n n
+
+-- without leading zeros
+unfoldable pub decimal : (n : ℕ) → List ℕ
+decimal n = digits 10 (places n) n
+
+unfoldable pub hex : (byte : ℕ) → List ℕ
+hex byte = digits 16 2 byte

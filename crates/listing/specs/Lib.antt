@@ -1,0 +1,6 @@
+pub mod Numbers
+pub mod Request
+pub mod Digits
+pub mod Lines
+pub mod Found
+pub mod Examples

@@ -1,0 +1,33 @@
+-- Document 01, "The step program": the lines that it writes, each ended by a line feed.
+use mathlib.Core.Path.{_≡_}
+use mathlib.Core.List.{List, [], _∷_, _++_}
+use Prim.Native.Nat.{ℕ, _+_}
+use lib.ListN.{length, take}
+use Rattle.flash.specs.Lists.{concatMap}
+use Rattle.listing.specs.Digits.{decimal, hex}
+
+-- "A line is the step, W or E, the block, and for W the page and its bytes in lowercase hexadecimal, two digits each, unparted."
+-- 32 is a space, 10 the line feed, 87 `W`, 69 `E`.
+unfoldable pub writeLine : (step block page : ℕ) → (bytes : List ℕ) → List ℕ
+writeLine step block page bytes =
+    decimal step ++ (32 ∷ 87 ∷ 32 ∷ decimal block) ++ (32 ∷ decimal page) ++ (32 ∷ concatMap hex bytes) ++ (10 ∷ [])
+
+unfoldable pub eraseLine : (step block : ℕ) → List ℕ
+eraseLine step block = decimal step ++ (32 ∷ 69 ∷ 32 ∷ decimal block) ++ (10 ∷ [])
+
+-- "The last line has writes, then erases.": behind `end `
+unfoldable pub endLine : (writes erases : ℕ) → List ℕ
+endLine writes erases = (101 ∷ 110 ∷ 100 ∷ 32 ∷ decimal writes) ++ (32 ∷ decimal erases) ++ (10 ∷ [])
+
+-- `refused ` and the number
+unfoldable pub refusedLine : (number : ℕ) → List ℕ
+refusedLine number = (114 ∷ 101 ∷ 102 ∷ 117 ∷ 115 ∷ 101 ∷ 100 ∷ 32 ∷ decimal number) ++ (10 ∷ [])
+
+-- `unreadable`
+unfoldable pub unreadableLine : List ℕ
+unreadableLine = 117 ∷ 110 ∷ 114 ∷ 101 ∷ 97 ∷ 100 ∷ 97 ∷ 98 ∷ 108 ∷ 101 ∷ 10 ∷ []
+
+-- A text was printed into a lent part at a position: it stands behind what was printed before, and the next position is behind it.
+pub record Printed (text before : List ℕ) (at : ℕ) (after : List ℕ) (next : ℕ) : Type 0 where
+  pub next-is : next ≡ at + length text
+  pub text-is : take next after ≡ take at before ++ text
