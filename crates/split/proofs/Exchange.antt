@@ -60,11 +60,11 @@ module _ (m : ℕ) (list given : List ℕ) (C : Coloured m list given) (a b : �
   abbrev In : ℕ → Type 0
   In x = any (eqb x) met ≡ true
 
-  in-at : (i : ℕ) → i < length met → In (getD met i 0)
+  pub in-at : (i : ℕ) → i < length met → In (getD met i 0)
   in-at i h = any-at (eqb (getD met i 0)) met i 0 h (eq-eqb (getD met i 0) (getD met i 0) refl)
 
   -- where the page stands in the walk
-  place : (x : ℕ) → In x → (i : ℕ) × (i < length met) × (getD met i 0 ≡ x)
+  pub place : (x : ℕ) → In x → (i : ℕ) × (i < length met) × (getD met i 0 ≡ x)
   place x e = let r = any-find (eqb x) met 0 e in (r .0, r .1, sym (eqb-true x (getD met (r .0) 0) (r .2)))
 
   -- a page met is the first one, or another page met leads to it
@@ -94,7 +94,7 @@ module _ (m : ℕ) (list given : List ℕ) (C : Coloured m list given) (a b : �
   first-is h = path-head m list given C a b differ block unused (length given) h
 
   -- the pages met have one of the two sets
-  two : (x : ℕ) → In x → (setOf given x ≡ a) ⊎ (setOf given x ≡ b)
+  pub two : (x : ℕ) → In x → (setOf given x ≡ a) ⊎ (setOf given x ≡ b)
   unfolding metAs
   two x e = ⊎-elim
       (λ (q : (0 < length met) × (getD met 0 0 ≡ x)). inl (ap (setOf given) (sym (q .1)) ∙ first-is (q .0) .in-set))
@@ -105,11 +105,11 @@ module _ (m : ℕ) (list given : List ℕ) (C : Coloured m list given) (a b : �
       one-of source q = inr q
       one-of destination q = inl q
 
-  swapped-in : (x : ℕ) → In x → (end : End) → setOf given x ≡ metAs m list given C a b differ end
+  pub swapped-met : (x : ℕ) (end : End) → setOf given x ≡ metAs m list given C a b differ end
       → swapped a b (setOf given x) ≡ metAs m list given C a b differ (otherEnd end)
   unfolding metAs otherEnd
-  swapped-in x e source q = ap (swapped a b) q ∙ swapped-b a b differ
-  swapped-in x e destination q = ap (swapped a b) q ∙ swapped-a a b
+  swapped-met x source q = ap (swapped a b) q ∙ swapped-b a b differ
+  swapped-met x destination q = ap (swapped a b) q ∙ swapped-a a b
 
   -- swapping twice
   swapped-twice : (x : ℕ) → In x → swapped a b (swapped a b (setOf given x)) ≡ setOf given x
@@ -139,14 +139,14 @@ module _ (m : ℕ) (list given : List ℕ) (C : Coloured m list given) (a b : �
       → setOf given y ≡ swapped a b (setOf given x) → In y
   neighbour-in end x y h l e v c = ⊎-elim
       (λ (r : setOf given x ≡ metAs m list given C a b differ end). previous-in y x end l e (record {
-        was = c ∙ swapped-in x e end r;
+        was = c ∙ swapped-met x end r;
         to = record { inside = h; in-set = r; at-block = v };
       }))
       (λ (r : setOf given x ≡ metAs m list given C a b differ (otherEnd end)). next-in x y end e (record {
         was = r;
         to = record {
           inside = l;
-          in-set = c ∙ swapped-in x e (otherEnd end) r ∙ ap (metAs m list given C a b differ) (other-twice end);
+          in-set = c ∙ swapped-met x (otherEnd end) r ∙ ap (metAs m list given C a b differ) (other-twice end);
           at-block = sym v;
         };
       }))

@@ -5,5 +5,9 @@ pub mod SplitLaws
 pub mod Walk
 pub mod Exchange
 pub mod RuleLaws
+pub mod Turns
 pub mod Claimed
 pub mod MaskLaws
+pub mod CheckLaws
+pub mod MaskedLaws
+pub mod SetsLaws

@@ -8,7 +8,7 @@ use native.Mathlib.Nat.{pow-suc, div-eq-of-lt, div-self, div-one, mod-lt, div-ze
 use native.Mathlib.Numerals.{one-add}
 use native.Mathlib.Omega.{arith}
 use lib.Dec.{eqb}
-use lib.ListN.{length, getD, set}
+use lib.ListN.{length, getD, set, replicate}
 use lib.Seq.{getD-set-same, getD-set-other}
 use lib.Count.{trailingZeros, under}
 use lib.Pow.{pow-pos, pow-lt, pow-add, shr-shr, shl-shr}
@@ -23,6 +23,11 @@ bit-lt mask bit = mod-lt (mask / 2 ^ bit) {m = 2} (omega arith)
 
 pub no-bits : (bit : ℕ) → bitAt 0 bit ≡ 0
 no-bits bit = rw zero-div
+
+pub zeros-at : (n i : ℕ) → _≡_ {A = ℕ} (getD (replicate n 0) i 0) 0
+zeros-at zero i = refl
+zeros-at (suc n) zero = refl
+zeros-at (suc n) (suc i) = zeros-at n i
 
 -- bit k + 1 of a mask is bit k of its half
 bit-suc : (mask bit : ℕ) → bitAt mask (suc bit) ≡ bitAt (mask / 2) bit

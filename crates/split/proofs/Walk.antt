@@ -107,7 +107,7 @@ module _ (m : ℕ) (list given : List ℕ) (C : Coloured m list given) (a b : �
   metAs destination = a
   metAs source = b
 
-  metAs-same : (e f : End) → metAs e ≡ metAs f → e ≡ f
+  pub metAs-same : (e f : End) → metAs e ≡ metAs f → e ≡ f
   unfolding metAs
   metAs-same source source q = refl
   metAs-same source destination q = absurd (differ (sym q))

@@ -4,3 +4,4 @@ pub mod Rule
 pub mod Answer
 pub mod Claims
 pub mod Mask
+pub mod Ends

@@ -1,5 +1,9 @@
 // A list of destinations and its split into sets. The definitions are in specs/.
-pub mod mask;
+mod ends;
+pub mod list;
+mod mask;
+pub mod sets;
+mod wide;
 
 ghost use Rattle.split.specs.Claims.{SplitEnds, WalkEnds, WalkIsShort, FilledFits, RowsAscend};
 

@@ -3,40 +3,28 @@ use native.Mathlib.Omega.{arith}
 use Rattle.split.proofs.MaskLaws.{flipped-at}
 use Rattle.split.proofs.mask.flip.Statement.{statement}
 use Rattle.split.proofs.mask.flip.Tie as tie
-use Rattle.split.proofs.mask.flip.Reads as reads
-use Rattle.split.proofs.mask.flip.Lts as lts
-use Rattle.split.proofs.mask.flipped.Reads as flipped-reads
-use Rattle.split.proofs.mask.has.Reads as has-reads
 
--- src/mask.rt:34:16
 mul-mask : tie.Need-mul-mask
 mul-mask c = search needs
 
--- src/mask.rt:34:16
 slice-read-mask : tie.Need-slice-read-mask
 slice-read-mask c = search needs
 
--- src/mask.rt:35:17
 flipped-requires : tie.Need-flipped-requires
 flipped-requires c κs = search needs
 
--- src/mask.rt:35:5
 mul-masks : tie.Need-mul-masks
 mul-masks c = search needs
 
--- src/mask.rt:35:5
 slice-write-masks : tie.Need-slice-write-masks
 slice-write-masks c = search needs
 
--- src/mask.rt:36:5
 has-requires : tie.Need-has-requires
 has-requires c κs = search needs
 
--- src/mask.rt:30:1
 same-length : tie.Need-same-length
 same-length c = search needs
 
--- src/mask.rt:30:1
 returns : tie.Need-returns
 returns c =
     let a = c .before .before .before .before .args in

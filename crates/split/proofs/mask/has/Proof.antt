@@ -5,8 +5,6 @@ use lib.Bits.{and-mask}
 use lib.Dec.{eqb}
 use Rattle.split.proofs.mask.has.Statement.{statement}
 use Rattle.split.proofs.mask.has.Tie as tie
-use Rattle.split.proofs.mask.has.Reads as reads
-use Rattle.split.proofs.mask.has.Lts as lts
 
 shr-result : tie.Need-shr-result
 shr-result c = search needs

@@ -5,8 +5,6 @@ use Rattle.split.specs.Mask.{lowestZero}
 use Rattle.split.proofs.MaskLaws.{lowest-zero}
 use Rattle.split.proofs.mask.lowest_free.Statement.{statement}
 use Rattle.split.proofs.mask.lowest_free.Tie as tie
-use Rattle.split.proofs.mask.lowest_free.Reads as reads
-use Rattle.split.proofs.mask.lowest_free.Lts as lts
 
 cast-result : tie.Need-cast-result
 cast-result c = record { fits = omega (arith, trailing-le 64 ((2 ^ 64 - 1) - c .args .mask)) }

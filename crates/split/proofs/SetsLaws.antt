@@ -1,0 +1,102 @@
+-- The check of set bytes: pages with different sets at each block, so far.
+use mathlib.Core.Path.{_≡_, refl, sym, ap, _∙_, subst}
+use mathlib.Core.Logic.{_⊎_, inl, inr, _≢_, ⊎-elim}
+use mathlib.Core.Bool.{Bool, true, false}
+use mathlib.Core.List.{List}
+use Prim.Native.Nat.{ℕ, zero, suc, _+_, _*_, _≤_, _<_}
+use native.Mathlib.Nat.{not-suc-le-zero}
+use native.Mathlib.Omega.{arith}
+use lib.Dec.{eqb}
+use lib.ListN.{length, getD, replicate}
+use borrow.Author.Tests.{eqb-true, eqb-false}
+use Rattle.split.specs.Split.{setOf, isSplit}
+use Rattle.split.specs.Rule.{End, source, destination, blockAt, isPageOf}
+use Rattle.split.specs.Mask.{bitAt, FlippedAt}
+use Rattle.split.specs.Ends.{Accepted, Masks}
+use Rattle.split.proofs.Lists.{false-of, lt-cases}
+use Rattle.split.proofs.SplitLaws.{Proper, set-lt, same-from, same-to, split-of}
+use Rattle.split.proofs.RuleLaws.{blocks}
+use Rattle.split.proofs.MaskedLaws.{is-page, page-is, no-masks, mask-more, bit-page, page-bit}
+
+-- the first k pages of the set bytes
+pub record SoFar (n m : ℕ) (list sets from to : List ℕ) (k : ℕ) : Type 0 where
+  pub within : k ≤ n * m
+  pub small : (x : ℕ) → x < k → setOf sets x < m
+  pub proper : (end : End) → Proper k sets (blockAt m list end)
+  pub from-masks : Masks m list sets k source from
+  pub to-masks : Masks m list sets k destination to
+
+pub none-yet : (n m blocks : ℕ) (list sets : List ℕ) → SoFar n m list sets (replicate blocks 0) (replicate blocks 0) 0
+none-yet n m blocks list sets = record {
+  within = omega arith;
+  small = λ x h. absurd (not-suc-le-zero h);
+  proper = λ end x y h. absurd (not-suc-le-zero h);
+  from-masks = no-masks m list sets source blocks;
+  to-masks = no-masks m list sets destination blocks;
+}
+
+-- what a flip of page k's bit tells and leaves, with the block and the set as the code has them
+abbrev pub Flips : (at set : ℕ) → (masks after : List ℕ) → (was : Bool) → Type 0
+Flips at set masks after was = (was ≡ eqb (bitAt (getD masks at 0) set) 1) × FlippedAt masks at set after
+
+pub flips-at : {at at′ set set′ : ℕ} {masks after : List ℕ} {was : Bool} → at ≡ at′ → set ≡ set′ → Flips at set masks after was → Flips at′ set′ masks after was
+flips-at {at} {at′} {set} {set′} {masks} {after} {was} p q f =
+    subst (λ (b : ℕ). Flips b set′ masks after was) p (subst (λ (s : ℕ). Flips at s masks after was) q f)
+
+module _ (n m : ℕ) (list sets : List ℕ) (A : Accepted n m list) (len : length sets ≡ n * m) where
+  split-proper : isSplit n m list sets ≡ true → (end : End) → Proper (n * m) sets (blockAt m list end)
+  unfolding blockAt
+  split-proper split source = same-from n m list sets split len
+  split-proper split destination = same-to n m list sets split len (A .listed) (A .one-to-one)
+
+  pub block-lt : (end : End) (k : ℕ) → k < n * m → blockAt m list end k < 65
+  block-lt end k h = let b = blocks n m list (A .listed) (A .one-to-one) end k h in let f = A .n-fits in omega arith
+
+  pub no-such-set : (k : ℕ) → k < n * m → m ≤ setOf sets k → isSplit n m list sets ≡ false
+  no-such-set k h l = false-of _ (λ split. let s = set-lt n m list sets split k (omega arith) in omega arith)
+
+  -- the bit of page k's set is there already
+  pub met-twice : (end : End) (masks after : List ℕ) (k : ℕ) → k < n * m → Masks m list sets k end masks
+      → (was : Bool) → Flips (blockAt m list end k) (setOf sets k) masks after was → was ≡ true → isSplit n m list sets ≡ false
+  met-twice end masks after k h M was f set = false-of _ (λ split.
+      let r = bit-page m list sets end k masks M (blockAt m list end k) (setOf sets k) (eqb-true _ 1 (sym (f .0) ∙ set)) in
+      let l = r .1 in
+      let p = page-is m list sets end (blockAt m list end k) (setOf sets k) (r .0) (r .2) in
+      let s : r .0 ≡ k = split-proper split end (r .0) k (omega arith) h (p .0) (p .1) in
+      omega arith)
+
+  module _ (from to : List ℕ) (k : ℕ) (S : SoFar n m list sets from to k) where
+    pub all-met : n * m ≤ k → isSplit n m list sets ≡ true
+    unfolding blockAt
+    all-met h =
+        split-of n m list sets (A .listed) (A .one-to-one) len (λ x l. S .small x (omega arith))
+        (λ x y a b v c. S .proper source x y (omega arith) (omega arith) v c)
+        (λ x y a b v c. S .proper destination x y (omega arith) (omega arith) v c)
+
+    pub one-more : k < n * m → setOf sets k < m
+        → (from′ to′ : List ℕ) (was-from was-to : Bool)
+        → Flips (blockAt m list source k) (setOf sets k) from from′ was-from → Flips (blockAt m list destination k) (setOf sets k) to to′ was-to
+        → was-from ≡ false → was-to ≡ false → SoFar n m list sets from′ to′ (k + 1)
+    one-more h l from′ to′ was-from was-to f t no-from no-to = record {
+      within = omega arith;
+      small = λ x a. ⊎-elim (λ (b : x < k). S .small x b) (λ (b : k ≤ x). let e : k ≡ x = omega arith in subst (λ (y : ℕ). setOf sets y < m) e l) (lt-cases x k);
+      proper = proper;
+      from-masks = mask-more m list sets source k from from′ (S .from-masks) (f .1);
+      to-masks = mask-more m list sets destination k to to′ (S .to-masks) (t .1);
+    }
+      where
+        -- no page before k shares a block and the set with it
+        fresh : (end : End) (x : ℕ) → x < k → blockAt m list end x ≡ blockAt m list end k → setOf sets x ≢ setOf sets k
+        fresh source x a v c =
+            eqb-false _ 1 (sym (f .0) ∙ no-from) (page-bit m list sets source k from (S .from-masks) (S .proper source) _ _ x a (is-page m list sets source _ _ x v c))
+        fresh destination x a v c =
+            eqb-false _ 1 (sym (t .0) ∙ no-to) (page-bit m list sets destination k to (S .to-masks) (S .proper destination) _ _ x a (is-page m list sets destination _ _ x v c))
+
+        proper : (end : End) → Proper (k + 1) sets (blockAt m list end)
+        proper end x y a b v c = go (lt-cases x k) (lt-cases y k)
+          where
+            go : (x < k) ⊎ (k ≤ x) → (y < k) ⊎ (k ≤ y) → x ≡ y
+            go (inl p) (inl q) = S .proper end x y p q v c
+            go (inl p) (inr q) = let e : y ≡ k = omega arith in absurd (fresh end x p (v ∙ ap (blockAt m list end) e) (c ∙ ap (setOf sets) e))
+            go (inr p) (inl q) = let e : x ≡ k = omega arith in absurd (fresh end y q (sym v ∙ ap (blockAt m list end) e) (sym c ∙ ap (setOf sets) e))
+            go (inr p) (inr q) = omega arith
