@@ -1,3 +1,6 @@
 // The mover: the calls of document 01 as code, each proved equal to its definition in crate `method`.
+mod cycles;
 mod letters;
 pub mod place;
+pub mod sizes;
+mod wide;
