@@ -134,7 +134,7 @@ module _ (M : Move) (G : Given M) where
         let same : j ≡ k = same-to n m list sets (A .split) (A .sets-length) (A .list-length) (A .one-to-one) j k (omega arith) k-in (ap (λ (x : ℕ). x + 1) (both .0)) (both .1) in
         omega arith
 
-    source-in : k / m < n
+    pub source-in : k / m < n
     source-in = div-lt-iff-lt-mul (G .m-low) .1 k-in
 
     target-in : getD list k 0 / m < n

@@ -1,2 +1,3 @@
 pub mod OperationLaws
 pub mod CycleLaws
+pub mod WalkLaws

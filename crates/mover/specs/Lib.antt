@@ -1,2 +1,3 @@
 pub mod Place
 pub mod Moving
+pub mod Slots

@@ -1,6 +1,8 @@
 // The mover: the calls of document 01 as code, each proved equal to its definition in crate `method`.
 mod cycles;
 mod letters;
+mod pages;
 pub mod place;
 pub mod sizes;
+mod walk;
 mod wide;
