@@ -1,3 +1,5 @@
 pub mod OperationLaws
 pub mod CycleLaws
 pub mod WalkLaws
+pub mod StepLaws
+pub mod SlotLaws

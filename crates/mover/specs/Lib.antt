@@ -1,3 +1,4 @@
 pub mod Place
 pub mod Moving
 pub mod Slots
+pub mod Steps

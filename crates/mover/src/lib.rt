@@ -4,5 +4,6 @@ mod letters;
 mod pages;
 pub mod place;
 pub mod sizes;
+mod step;
 mod walk;
 mod wide;
