@@ -3,3 +3,4 @@ pub mod CycleLaws
 pub mod WalkLaws
 pub mod StepLaws
 pub mod SlotLaws
+pub mod RunLaws

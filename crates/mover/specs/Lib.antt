@@ -2,3 +2,4 @@ pub mod Place
 pub mod Moving
 pub mod Slots
 pub mod Steps
+pub mod Answers

@@ -3,6 +3,7 @@ mod cycles;
 mod letters;
 mod pages;
 pub mod place;
+pub mod run;
 pub mod sizes;
 mod step;
 mod walk;
