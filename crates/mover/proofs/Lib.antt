@@ -3,3 +3,8 @@ pub mod Reading
 pub mod Search
 pub mod Tells
 pub mod Answer
+pub mod CycleLaws
+pub mod WalkLaws
+pub mod StepLaws
+pub mod SlotLaws
+pub mod RunLaws

@@ -1,0 +1,63 @@
+-- A run step by step: what one step more leaves and counts.
+use mathlib.Core.Path.{_≡_, refl, sym, ap, ap₂, _∙_}
+use mathlib.Core.List.{List, [], _∷_}
+use Prim.Native.Nat.{ℕ, zero, suc, _+_, _*_, _≤_, _<_}
+use native.Mathlib.Nat.{add-zero}
+use native.Mathlib.Omega.{arith}
+use lib.ListN.{length}
+use Rattle.flash.specs.Geometry.{Sizes}
+use Rattle.flash.specs.Chip.{Chip}
+use Rattle.flash.proofs.Bounds.{product-le}
+use Rattle.method.specs.Move.{Move}
+use Rattle.method.specs.Place.{Operation, write, erase, done, operationAt, lastPlace}
+use Rattle.method.specs.Step.{Running, step, steps, Tally, tallied, tally, operationsFrom}
+use Rattle.method.proofs.Runs.{steps-add}
+use Rattle.method.proofs.Tallies.{Added, tally-split, operationsFrom-suc}
+use Rattle.mover.specs.Moving.{Given}
+use Rattle.mover.specs.Steps.{Lent, runningOf, Leaves, Counted}
+
+-- what is lent makes up the run
+left-is : (after : Running) (store marks work : List ℕ) → Leaves after store marks work → runningOf store marks work ≡ after
+left-is after store marks work L =
+    ap₂ {C = Running} (λ (c : Chip) (w : List ℕ). record { chip = c; work = w })
+    (ap₂ {C = Chip} (λ (s t : List ℕ). record { store = s; marks = t }) (L .store-is) (L .marks-is)) (L .work-is)
+
+pub none-taken : (M : Move) (place : ℕ) (store marks work : List ℕ) → Leaves (steps M 0 place (runningOf store marks work)) store marks work
+unfolding steps
+none-taken M place store marks work = record { store-is = refl; marks-is = refl; work-is = refl }
+
+pub none-counted : (M : Move) (place : ℕ) → Counted (tally (operationsFrom M place 0)) 0 0 0
+unfolding tally operationsFrom
+none-counted M place = record { steps-is = refl; writes-is = refl; erases-is = refl }
+
+module _ (M : Move) (place i : ℕ) where
+  pub one-taken : (run : Running) (store marks work store′ marks′ work′ : List ℕ) → Leaves (steps M i place run) store marks work
+      → Leaves (step M (place + i) (runningOf store marks work)) store′ marks′ work′ → Leaves (steps M (i + 1) place run) store′ marks′ work′
+  unfolding steps
+  one-taken run store marks work store′ marks′ work′ L S =
+      rw (steps-add M i 1 place run, ← left-is (steps M i place run) store marks work L) S
+
+  pub one-counted : (a b c x y z : ℕ) → place + i < lastPlace (M .sizes) → Counted (tally (operationsFrom M place i)) a b c
+      → Counted (tally (operationAt (M .sizes) (place + i) ∷ [])) x y z → Counted (tally (operationsFrom M place (i + 1))) (a + x) (b + y) (c + z)
+  unfolding operationsFrom
+  one-counted a b c x y z h C D =
+      let A = tally-split M place i 1 in
+      let e : operationsFrom M (place + i) 1 ≡ operationAt (M .sizes) (place + i) ∷ [] = operationsFrom-suc M (place + i) 0 h in
+      let S = rw e at A in
+      record {
+        steps-is = omega (arith, S .steps, C .steps-is, D .steps-is);
+        writes-is = omega (arith, S .writes, C .writes-is, D .writes-is);
+        erases-is = omega (arith, S .erases, C .erases-is, D .erases-is);
+      }
+
+-- a step counts at most one of each
+pub at-most-one : (op : Operation) (x y z : ℕ) → Counted (tally (op ∷ [])) x y z → (x ≤ 1) × (y ≤ 1) × (z ≤ 1)
+unfolding tally tallied
+at-most-one (write pass b q) x y z C = (omega (arith, C .steps-is), omega (arith, C .writes-is), omega (arith, C .erases-is))
+at-most-one (erase b) x y z C = (omega (arith, C .steps-is), omega (arith, C .writes-is), omega (arith, C .erases-is))
+at-most-one done x y z C = (omega (arith, C .steps-is), omega (arith, C .writes-is), omega (arith, C .erases-is))
+
+-- a move has few steps
+pub last-small : (M : Move) → Given M → lastPlace (M .sizes) ≤ 8320
+unfolding lastPlace
+last-small M G = omega (arith, product-le (2 * M .sizes .n) (M .sizes .m + 1) {c = 128} {d = 65} (omega (arith, G .n-high)) (omega (arith, G .m-high)))

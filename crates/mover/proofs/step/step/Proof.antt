@@ -1,0 +1,110 @@
+use mathlib.Core.Path.{sym, _∙_}
+use native.Mathlib.Omega.{arith}
+use borrow.Author.Needs.{needs}
+use Rattle.flash.proofs.Bounds.{block-in-marks, block-in-store}
+use Rattle.method.specs.Place.{write, erase, done, operationAt}
+use Rattle.mover.specs.Moving.{sizesOf, moveOf}
+use Rattle.mover.specs.Steps.{runningOf, passOf}
+use Rattle.mover.proofs.StepLaws.{op-any, IsWrite, is-write, IsErase, is-erase, told-done, stepped, counted, one-write, one-erase, no-step, erased, nothing}
+use Rattle.mover.proofs.step.step.Statement.{statement}
+use Rattle.mover.proofs.step.step.Tie as tie
+
+operation-requires : tie.Need-operation-requires
+operation-requires c κs = search needs
+
+enum-known-backward : tie.Need-enum-known-backward
+enum-known-backward c = search needs
+
+-- the step at the place is this write
+writes : (c : tie.After-write-arg3)
+    → (let a = c .before .before .before .before .before .before .before .before .before .before .before .before .args in
+    let v = c .before .before .before .before .backward .given .0 in
+    IsWrite (sizesOf (a .z)) (a .place .at) (v .0) (v .1 .0) (v .1 .1 .0) (v .1 .1 .1 .0))
+writes c =
+    let a = c .before .before .before .before .before .before .before .before .before .before .before .before .args in
+    is-write (sizesOf (a .z)) (a .place .at) _ _ _ _ (sym (c .before .before .before .before .backward .given .1) ∙ c .before .before .before .before .before .before .operation .ensures ∙ op-any (a .z .n) (a .z .m) 0 (a .z .p) (a .z .s) (a .place .at))
+
+write-requires : tie.Need-write-requires
+write-requires c κs =
+    let W = writes c in
+    (c .before .before .before .before .before .before .before .before .before .before .before .before .pre, (W .page-in, W .block-in, W .low, W .high, W .mark-is))
+
+enum-known-block : tie.Need-enum-known-block
+enum-known-block c = search needs
+
+-- the step at the place is this erase
+erases : (c : tie.After-erase-block-arg2)
+    → (let a = c .before .before .before .before .before .before .before .before .before .before .before .args in
+    IsErase (sizesOf (a .z)) (a .place .at) (c .before .before .before .block .given .0 .0))
+erases c =
+    let a = c .before .before .before .before .before .before .before .before .before .before .before .args in
+    is-erase (sizesOf (a .z)) (a .place .at) _ (sym (c .before .before .before .block .given .1) ∙ c .before .before .before .before .before .operation .ensures ∙ op-any (a .z .n) (a .z .m) 0 (a .z .p) (a .z .s) (a .place .at))
+
+erase-block-requires : tie.Need-erase-block-requires
+erase-block-requires c κs =
+    let start = c .before .before .before .before .before .before .before .before .before .before .before in
+    let Z = sizesOf (start .args .z) in
+    let E = erases c in
+    (rw (start .pre .1 .store-length) (block-in-store Z (c .before .before .before .block .given .0 .0) (E .block-in)), rw (start .pre .1 .marks-length) (block-in-marks Z (c .before .before .before .block .given .0 .0) (E .block-in)))
+
+enum-told : tie.Need-enum-told
+enum-told c = search needs
+
+same-length : tie.Need-same-length
+same-length c = search needs
+
+same-length-2 : tie.Need-same-length-2
+same-length-2 c = search needs
+
+same-length-3 : tie.Need-same-length-3
+same-length-3 c = search needs
+
+returns : tie.Need-returns
+returns c =
+    let a = c .before .before .before .before .before .before .before .before .before .before .before .before .before .before .before .before .before .before .before .args in
+    let M = moveOf (a .z) (a .list .now) (a .sets .now) in
+    let v = c .before .before .before .before .before .before .before .before .before .before .before .backward .given .0 in
+    let op = write (passOf (v .0)) (v .1 .0) (v .1 .1 .0) in
+    let is = writes (c .before .before .before .before .before .before .before) .is in
+    (stepped M (a .place .at) op is _ _ _ _ (c .before .before .before .before .before .before .write .ensures), counted M (a .place .at) op is 1 1 0 (one-write (passOf (v .0)) (v .1 .0) (v .1 .1 .0)))
+
+same-length-4 : tie.Need-same-length-4
+same-length-4 c = search needs
+
+same-length-5 : tie.Need-same-length-5
+same-length-5 c = search needs
+
+returns-2 : tie.Need-returns-2
+returns-2 c =
+    let a = c .before .before .before .before .before .before .before .before .before .before .before .before .before .before .before .before .args in
+    let M = moveOf (a .z) (a .list .now) (a .sets .now) in
+    let b = c .before .before .before .before .before .before .before .before .block .given .0 .0 in
+    let is = erases (c .before .before .before .before .before) .is in
+    (stepped M (a .place .at) (erase b) is _ _ _ _ (erased M b (a .store .now) (a .marks .now) (a .work .now) _ _ (c .before .before .before .before .erase-block .ensures)), counted M (a .place .at) (erase b) is 1 0 1 (one-erase b))
+
+returns-3 : tie.Need-returns-3
+returns-3 c =
+    let a = c .before .before .before .before .before .before .before .before .args in
+    let M = moveOf (a .z) (a .list .now) (a .sets .now) in
+    let Z = sizesOf (a .z) in
+    let is = told-done Z (operationAt Z (a .place .at)) (sym (c .enum-told .given .1) ∙ c .before .before .operation .ensures ∙ op-any (a .z .n) (a .z .m) 0 (a .z .p) (a .z .s) (a .place .at)) in
+    (stepped M (a .place .at) done is _ _ _ _ (nothing M (a .store .now) (a .marks .now) (a .work .now)), counted M (a .place .at) done is 0 0 0 no-step)
+
+pub step-spec : {M : Type 1} → statement M
+step-spec =
+    tie.close
+    (tie.spec
+    operation-requires
+    enum-known-backward
+    write-requires
+    enum-known-block
+    erase-block-requires
+    enum-told
+    same-length
+    same-length-2
+    same-length-3
+    returns
+    same-length-4
+    same-length-5
+    returns-2
+    returns-3)

@@ -1,0 +1,98 @@
+use mathlib.Core.Path.{_≡_, sym, _∙_}
+use Prim.Native.Nat.{_+_, _-_, _*_, _≤_, _<_}
+use native.Mathlib.Omega.{arith}
+use borrow.Author.Needs.{needs}
+use Rattle.flash.specs.Geometry.{slotCount}
+use Rattle.flash.proofs.Bounds.{slot-in-marks, slot-in-store, product-le}
+use Rattle.mover.specs.Moving.{sizesOf, moveOf}
+use Rattle.mover.specs.Steps.{passOf}
+use Rattle.mover.proofs.SlotLaws.{write-in, among}
+use Rattle.mover.proofs.StepLaws.{written-is, wrote}
+use Rattle.mover.proofs.step.write.Statement.{statement}
+use Rattle.mover.proofs.step.write.Tie as tie
+
+slice-aggregate-write-slots : tie.Need-slice-aggregate-write-slots
+slice-aggregate-write-slots c = search needs
+
+write-slots-requires : tie.Need-write-slots-requires
+write-slots-requires c κs =
+    let start = c .before .before .before .before .before .before .before in
+    let a = start .args in
+    let M = moveOf (a .z) (a .list .now) (a .sets .now) in
+    let R = start .pre .0 .0 in
+    let L = start .pre .0 .1 in
+    ((R, L .marks-length, omega arith), (omega arith, omega arith, start .pre .1 .2, start .pre .1 .3))
+
+slice-aggregate-sum-pages : tie.Need-slice-aggregate-sum-pages
+slice-aggregate-sum-pages c = search needs
+
+sum-pages-requires : tie.Need-sum-pages-requires
+sum-pages-requires c κs =
+    let start = c .before .before .before .before .before .before .before .before .before .before .before .before in
+    let a = start .args in
+    let M = moveOf (a .z) (a .list .now) (a .sets .now) in
+    let R = start .pre .0 .0 in
+    let L = start .pre .0 .1 in
+    let w = c .before .before .before .before .write-slots in
+    let inside = among (λ t. t < slotCount (sizesOf (a .z))) _ _ (w .result) (omega (arith, w .kept .1 .1 .1 .1 .1 .1 .1 .1 .1 .0, w .ensures .2)) (w .ensures .0)
+    (write-in M (R .given) (a .marks .now) (a .block) (a .page) (omega arith) (a .backward) (start .pre .1 .2) (start .pre .1 .3) (omega arith)) in
+    ((w .ensures .1, omega (arith, w .kept .1 .1 .1 .1 .1 .1 .1 .1 .1 .0, w .ensures .2), L .work-length), (λ j h. rw (L .store-length) (slot-in-store (sizesOf (a .z)) _ (inside j h))))
+
+-- the slot is one of the store
+inside : (c : tie.Start) → c .args .block * c .args .z .m + c .args .page < 4225
+inside c =
+    let a = c .args in
+    omega (arith, slot-in-marks (sizesOf (a .z)) (a .block) (a .page) (omega arith) (omega arith), product-le (a .z .n + 1) (a .z .m) {c = 65} {d = 64} (omega arith) (omega arith))
+
+mul-write-page : tie.Need-mul-write-page
+mul-write-page c = omega (arith, inside (c .before .before .before .before .before .before .before .before .before .before .before .before .before .before .before .before .before .before))
+
+add-write-page : tie.Need-add-write-page
+add-write-page c = omega (arith, inside (c .before .before .before .before .before .before .before .before .before .before .before .before .before .before .before .before .before .before))
+
+write-page-requires : tie.Need-write-page-requires
+write-page-requires c κs =
+    let start = c .before .before .before .before .before .before .before .before .before .before .before .before .before .before .before .before .before .before .before in
+    let a = start .args in
+    let M = moveOf (a .z) (a .list .now) (a .sets .now) in
+    let R = start .pre .0 .0 in
+    let L = start .pre .0 .1 in
+    let i = slot-in-marks (sizesOf (a .z)) (a .block) (a .page) (omega arith) (omega arith) in
+    (rw (L .store-length) (slot-in-store (sizesOf (a .z)) _ i), (rw (L .marks-length) i, omega (arith, c .before .before .before .before .before .before .sum-pages .kept .1 .1 .1 .1 .0, L .work-length)))
+
+same-length : tie.Need-same-length
+same-length c = search needs
+
+same-length-2 : tie.Need-same-length-2
+same-length-2 c = search needs
+
+same-length-3 : tie.Need-same-length-3
+same-length-3 c = omega (arith, c .before .before .before .before .before .before .before .before .before .before .before .sum-pages .kept .1 .1 .1 .1 .0)
+
+returns : tie.Need-returns
+returns c =
+    let start = c .before .before .before .before .before .before .before .before .before .before .before .before .before .before .before .before .before .before .before .before .before .before .before .before in
+    let a = start .args in
+    let M = moveOf (a .z) (a .list .now) (a .sets .now) in
+    let R = start .pre .0 .0 in
+    let L = start .pre .0 .1 in
+    let w = c .before .before .before .before .before .before .before .before .before .before .before .before .before .before .before .before .write-slots in
+    let s = c .before .before .before .before .before .before .before .before .before .before .before .sum-pages in
+    let new = written-is M (passOf (a .backward)) (a .block) (a .page) (a .store .now) (a .marks .now) (a .work .now) _ _ (w .result) (s .ensures) (w .ensures .0) in
+    wrote M (passOf (a .backward)) (a .block) (a .page) (a .store .now) (a .marks .now) (a .work .now) _ _ _ (a .mark) new (start .pre .1 .4) (c .before .before .before .before .write-page .ensures)
+
+pub write-spec : {M : Type 1} → statement M
+write-spec =
+    tie.close
+    (tie.spec
+    slice-aggregate-write-slots
+    write-slots-requires
+    slice-aggregate-sum-pages
+    sum-pages-requires
+    mul-write-page
+    add-write-page
+    write-page-requires
+    same-length
+    same-length-2
+    same-length-3
+    returns)

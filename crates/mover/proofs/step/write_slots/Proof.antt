@@ -1,0 +1,202 @@
+use mathlib.Core.Path.{_≡_, sym, _∙_}
+use Prim.Native.Nat.{_+_, _-_, _*_, _≤_, _<_}
+use native.Mathlib.Omega.{arith}
+use borrow.Author.Needs.{needs}
+use Rattle.method.specs.Cycle.{pred}
+use Rattle.mover.specs.Moving.{moveOf}
+use Rattle.mover.proofs.CycleLaws.{table-fits, to-leads}
+use Rattle.mover.proofs.WalkLaws.{Next, back-next, pages-in, page-in, TopIs, top-is}
+use Rattle.mover.proofs.StepLaws.{appends-twice, number-small, sent-lt, final-slots, top-slots, code-slots}
+use Rattle.mover.proofs.step.write_slots.Statement.{statement}
+use Rattle.mover.proofs.step.write_slots.Tie as tie
+
+sub-sent-to : tie.Need-sub-sent-to
+sub-sent-to c = c .before .before .before .before .before .pre .1 .2 (c .if1 .taken)
+
+-- the number of the page
+number-fits : (c : tie.Then1) → (let a = c .before .before .before .before .before .args in (a .block - 1) * a .z .m + a .page < 4096)
+number-fits c =
+    let start = c .before .before .before .before .before in
+    let a = start .args in
+    number-small (moveOf (a .z) (a .list .now) (a .sets .now)) (start .pre .0 .0 .given) (a .block) (a .page) (omega arith) (start .pre .1 .2 (c .if1 .taken)) (omega arith)
+
+mul-sent-to : tie.Need-mul-sent-to
+mul-sent-to c = omega (arith, number-fits c)
+
+add-sent-to : tie.Need-add-sent-to
+add-sent-to c = omega (arith, number-fits c)
+
+sent-to-requires : tie.Need-sent-to-requires
+sent-to-requires c κs = c .before .before .before .before .before .pre .0 .0 .given .list-length
+
+read-slots-requires : tie.Need-read-slots-requires
+read-slots-requires c κs =
+    let start = c .before .before .before .before .before .before .before in
+    let a = start .args in
+    let M = moveOf (a .z) (a .list .now) (a .sets .now) in
+    let R = start .pre .0 .0 in
+    let G = R .given in
+    (G, ((R .to-tells, R .from-tells), (omega arith, sent-lt M G (a .block) (a .page) (omega arith) (c .before .sent-to .result) (start .pre .1 .2 (c .before .before .if1 .taken)) (omega arith) (c .before .sent-to .ensures (a .sets .now)), omega arith, omega arith)))
+
+same-length : tie.Need-same-length
+same-length c = search needs
+
+returns : tie.Need-returns
+returns c =
+    let start = c .before .before .before .before .before .before .before .before .before .before in
+    let a = start .args in
+    let M = moveOf (a .z) (a .list .now) (a .sets .now) in
+    let R = start .pre .0 .0 in
+    let G = R .given in
+    let e = final-slots M G (a .block) (a .page) (omega arith) (a .marks .now) (c .before .before .before .before .sent-to .result) (c .before .before .before .before .sent-to .ensures (a .sets .now)) in
+    let A = c .before .before .read-slots .ensures in
+    (rw (c .before .before .before .before .before .if1 .taken) (A .slots-are ∙ sym e), omega (arith, A .some), omega (arith, A .few))
+
+add-i : tie.Need-add-i
+add-i c = search needs
+
+page-of-requires : tie.Need-page-of-requires
+page-of-requires c κs =
+    let start = c .before .before .before .before .before in
+    let a = start .args in
+    let M = moveOf (a .z) (a .list .now) (a .sets .now) in
+    let R = start .pre .0 .0 in
+    let G = R .given in
+    (omega arith, pages-in M G (a .page) (omega arith) (a .block + 1) (start .pre .1 .3 (c .if1 .left)))
+
+read-slots-requires-2 : tie.Need-read-slots-requires-2
+read-slots-requires-2 c κs =
+    let start = c .before .before .before .before .before .before .before in
+    let a = start .args in
+    let M = moveOf (a .z) (a .list .now) (a .sets .now) in
+    let R = start .pre .0 .0 in
+    let G = R .given in
+    let inside = page-in M G (a .page) (omega arith) (a .block + 1) (c .before .page-of .result) (omega arith) (start .pre .1 .3 (c .before .before .if1 .left)) (c .before .page-of .ensures (a .list .now)) in
+    (G, ((R .to-tells, R .from-tells), (omega arith, omega (arith, G .list-length), omega arith, omega arith)))
+
+top-of-requires : tie.Need-top-of-requires
+top-of-requires c κs =
+    let start = c .before .before .before .before .before .before .before .before .before .before in
+    let a = start .args in
+    let M = moveOf (a .z) (a .list .now) (a .sets .now) in
+    let R = start .pre .0 .0 in
+    let G = R .given in
+    (omega arith, omega arith, omega arith, omega arith, start .pre .1 .3 (c .before .before .before .before .before .if1 .left), to-leads M G (a .page) (omega arith) (a .to .now) (R .to-tells))
+
+-- the top of the cycle
+highest : (c : tie.After-top-of)
+    → (let a = c .before .before .before .before .before .before .before .before .before .before .before .args in
+    TopIs (moveOf (a .z) (a .list .now) (a .sets .now)) (a .page) (a .block + 1) (c .top-of .result))
+highest c =
+    let start = c .before .before .before .before .before .before .before .before .before .before .before in
+    let a = start .args in
+    top-is (moveOf (a .z) (a .list .now) (a .sets .now)) (start .pre .0 .0 .given) (a .to .now) (start .pre .0 .0 .to-tells) (a .page) (a .block + 1) (c .top-of .result) (omega arith)
+    (record { low = omega arith; high = start .pre .1 .3 (c .before .before .before .before .before .before .if1 .left) }) (c .top-of .ensures)
+
+same-length-2 : tie.Need-same-length-2
+same-length-2 c = search needs
+
+returns-2 : tie.Need-returns-2
+returns-2 c =
+    let start = c .before .before .before .before .before .before .before .before .before .before .before .before in
+    let a = start .args in
+    let M = moveOf (a .z) (a .list .now) (a .sets .now) in
+    let R = start .pre .0 .0 in
+    let G = R .given in
+    let e = top-slots M G (a .block) (a .page) (omega arith) (a .marks .now) (c .before .before .before .before .before .before .page-of .result) (c .before .before .before .before .before .before .page-of .ensures (a .list .now)) (sym (highest (c .before) .is) ∙ c .if2 .taken) in
+    let A = c .before .before .before .before .read-slots2 .ensures in
+    (rw (c .before .before .before .before .before .before .before .if1 .left) (A .slots-are ∙ sym e), omega (arith, A .some), omega (arith, A .few))
+
+-- the entry of block i is in the table
+inside : (c : tie.Else2) → (let a = c .before .before .before .before .before .before .before .before .before .before .before .before .args in a .block * a .z .m + a .page < 4096)
+inside c =
+    let start = c .before .before .before .before .before .before .before .before .before .before .before .before in
+    let a = start .args in
+    table-fits (a .z .n) (a .z .m) (omega arith) (omega arith) (a .block) (a .page) (omega (arith, start .pre .1 .3 (c .before .before .before .before .before .before .before .if1 .left))) (omega arith)
+
+mul-wide : tie.Need-mul-wide
+mul-wide c = omega (arith, inside c)
+
+add-wide : tie.Need-add-wide
+add-wide c = omega (arith, inside c)
+
+element-copy-out-wide : tie.Need-element-copy-out-wide
+element-copy-out-wide c = inside c
+
+wide-requires : tie.Need-wide-requires
+wide-requires c κs = search needs
+
+-- pred(i)
+next : (c : tie.After-wide)
+    → (let a = c .before .before .before .before .before .before .before .before .before .before .before .before .before .before .args in
+    Next (pred (moveOf (a .z) (a .list .now) (a .sets .now)) (a .page)) (a .z .n) (a .block + 1) (c .wide .result))
+next c =
+    let start = c .before .before .before .before .before .before .before .before .before .before .before .before .before .before in
+    let a = start .args in
+    let at : a .block + 1 - 1 ≡ a .block = omega arith in
+    back-next (moveOf (a .z) (a .list .now) (a .sets .now)) (start .pre .0 .0 .given) (a .page) (omega arith) (a .from .now) (start .pre .0 .0 .from-tells) (a .block + 1) (c .wide .result)
+    (omega arith) (start .pre .1 .3 (c .before .before .before .before .before .before .before .before .before .if1 .left)) (rw at (c .wide .ensures))
+
+page-of-requires-2 : tie.Need-page-of-requires-2
+page-of-requires-2 c κs =
+    let start = c .before .before .before .before .before .before .before .before .before .before .before .before .before .before in
+    let a = start .args in
+    let M = moveOf (a .z) (a .list .now) (a .sets .now) in
+    let R = start .pre .0 .0 in
+    let G = R .given in
+    let N = next c in
+    (N .low, pages-in M G (a .page) (omega arith) (c .wide .result) (N .high))
+
+read-slots-requires-3 : tie.Need-read-slots-requires-3
+read-slots-requires-3 c κs =
+    let start = c .before .before .before .before .before .before .before .before .before .before .before .before .before .before .before .before in
+    let a = start .args in
+    let M = moveOf (a .z) (a .list .now) (a .sets .now) in
+    let R = start .pre .0 .0 in
+    let G = R .given in
+    let N = next (c .before .before) in
+    let r = c .before .before .before .before .before .before .before .before .read-slots2 in
+    let inside = page-in M G (a .page) (omega arith) (c .before .before .wide .result) (c .before .page-of2 .result) (N .low) (N .high) (c .before .page-of2 .ensures (a .list .now)) in
+    (G, ((R .to-tells, R .from-tells), (omega arith, omega (arith, G .list-length), omega (arith, r .kept .1 .1 .1 .1 .1 .1 .1 .0), omega (arith, r .ensures .few))))
+
+same-length-3 : tie.Need-same-length-3
+same-length-3 c = search needs
+
+returns-3 : tie.Need-returns-3
+returns-3 c =
+    let start = c .before .before .before .before .before .before .before .before .before .before .before .before .before .before .before .before .before .before .before in
+    let a = start .args in
+    let M = moveOf (a .z) (a .list .now) (a .sets .now) in
+    let R = start .pre .0 .0 in
+    let G = R .given in
+    let A = c .before .before .before .before .before .before .before .before .before .before .before .read-slots2 .ensures in
+    let E = c .before .before .read-slots3 .ensures in
+    let e = code-slots M G (a .block) (a .page) (omega arith) (a .marks .now) (c .before .before .before .before .before .before .before .before .before .before .before .before .before .page-of .result) (c .before .before .before .before .before .wide .result) (c .before .before .before .before .page-of2 .result)
+    (c .before .before .before .before .before .before .before .before .before .before .before .before .before .page-of .ensures (a .list .now)) (next (c .before .before .before .before .before) .is) (c .before .before .before .before .page-of2 .ensures (a .list .now)) (λ t. c .before .before .before .before .before .before .before .if2 .left (highest (c .before .before .before .before .before .before .before .before) .is ∙ t)) in
+    (rw (c .before .before .before .before .before .before .before .before .before .before .before .before .before .before .if1 .left) (appends-twice _ _ _ _ _ _ _ A E ∙ sym e), omega (arith, E .some), omega (arith, A .few, E .few))
+
+pub write-slots-spec : {M : Type 1} → statement M
+write-slots-spec =
+    tie.close
+    (tie.spec
+    sub-sent-to
+    mul-sent-to
+    add-sent-to
+    sent-to-requires
+    read-slots-requires
+    same-length
+    returns
+    add-i
+    page-of-requires
+    read-slots-requires-2
+    top-of-requires
+    same-length-2
+    returns-2
+    mul-wide
+    add-wide
+    element-copy-out-wide
+    wide-requires
+    page-of-requires-2
+    read-slots-requires-3
+    same-length-3
+    returns-3)

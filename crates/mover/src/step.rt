@@ -1,0 +1,158 @@
+// One step of the move: a page is written or a block is erased.
+ghost use mathlib.Core.Path.{_≡_};
+ghost use mathlib.Core.Bool.{true, false};
+ghost use mathlib.Core.List.{[], _∷_};
+ghost use Prim.Native.Nat.{_+_, _*_, _≤_, _<_};
+ghost use lib.ListN.{length, take};
+ghost use Rattle.method.specs.Place.{operationAt, write as writing, markOf};
+ghost use Rattle.method.specs.Step as method;
+ghost use Rattle.method.specs.Step.{writeSlots, perform, tally};
+ghost use Rattle.mover.specs.Moving.{sizesOf, moveOf};
+ghost use Rattle.mover.specs.Steps.{Ready, Lent, runningOf, Leaves, Counted, passOf};
+use crate::cycles::page_of;
+use crate::cycles::sent_to;
+use crate::cycles::top_of;
+use crate::pages::sum_pages;
+use crate::place::Op;
+use crate::place::Place;
+use crate::sizes::Sizes;
+use crate::walk::read_slots;
+use crate::wide::wide;
+use flash::block::erase_block;
+use flash::page::write_page;
+
+// What was done: steps, and of these writes and erases.
+pub struct Tally {
+    pub steps: u32,
+    pub writes: u32,
+    pub erases: u32,
+}
+
+// The slots whose pages are summed for a write: in the backward pass those of the original that the list sends there, in the
+// forward pass those of D(i), and of D(pred(i)) unless i is the top.
+fn write_slots(
+    z: Sizes,
+    list: &[u16],
+    sets: &[u8],
+    to: &[u8; 4096],
+    from: &[u8; 4096],
+    marks: &[u8],
+    backward: bool,
+    block: usize,
+    page: usize,
+    slots: &mut [usize],
+) -> usize
+    requires { ⌜ Ready (moveOf z (now list) (now sets)) (now to) (now from) × (length (now marks) ≡ (z .n + 1) * z .m) × (length (now slots) ≡ 130) ⌝ }
+    requires { ⌜ (page < z .m) × (block ≤ z .n) × (backward ≡ true → 1 ≤ block) × (backward ≡ false → block + 1 ≤ z .n) ⌝ }
+    ensures { λ r. ⌜ (take r (now (slots .exit)) ≡ writeSlots (moveOf z (now (list .entry)) (now (sets .entry))) (passOf backward) block page (now (marks .entry))) × (1 ≤ r) × (r ≤ 130) ⌝ }
+{
+    let m = z.m;
+    if backward {
+        let k = sent_to(z, list, (block - 1) * m + page);
+        return read_slots(z, list, sets, to, from, marks, k, slots, 0);
+    }
+    let i = block + 1;
+    let k = page_of(z, sets, page, i);
+    let count = read_slots(z, list, sets, to, from, marks, k, slots, 0);
+    if top_of(z, to, page, i) == i {
+        return count;
+    }
+    let u = wide(from[block * m + page]);
+    let k = page_of(z, sets, page, u);
+    read_slots(z, list, sets, to, from, marks, k, slots, count)
+}
+
+// Writes a page with its mark, by way of the work page.
+fn write(
+    z: Sizes,
+    list: &[u16],
+    sets: &[u8],
+    to: &[u8; 4096],
+    from: &[u8; 4096],
+    store: &mut [u8],
+    marks: &mut [u8],
+    work: &mut [u8],
+    backward: bool,
+    block: usize,
+    page: usize,
+    mark: u8,
+)
+    requires { ⌜ Ready (moveOf z (now list) (now sets)) (now to) (now from) × Lent (moveOf z (now list) (now sets)) (now store) (now marks) (now work) ⌝ }
+    requires { ⌜ (page < z .m) × (block ≤ z .n) × (backward ≡ true → 1 ≤ block) × (backward ≡ false → block + 1 ≤ z .n) × (mark ≡ markOf (sizesOf z) (passOf backward)) ⌝ }
+    ensures { λ _. ⌜ Leaves (perform (moveOf z (now (list .entry)) (now (sets .entry))) (writing (passOf backward) block page) (runningOf (now (store .entry)) (now (marks .entry)) (now (work .entry)))) (now (store .exit)) (now (marks .exit)) (now (work .exit)) ⌝ }
+{
+    let mut slots = [0usize; 130];
+    let count = write_slots(
+        z,
+        list,
+        sets,
+        to,
+        from,
+        marks,
+        backward,
+        block,
+        page,
+        &mut slots,
+    );
+    sum_pages(store, z.p, &slots, count, work);
+    write_page(store, marks, z.p, block * z.m + page, work, mark);
+}
+
+// Does the step at a place.
+pub fn step(
+    z: Sizes,
+    list: &[u16],
+    sets: &[u8],
+    to: &[u8; 4096],
+    from: &[u8; 4096],
+    store: &mut [u8],
+    marks: &mut [u8],
+    work: &mut [u8],
+    place: Place,
+) -> Tally
+    requires { ⌜ Ready (moveOf z (now list) (now sets)) (now to) (now from) × Lent (moveOf z (now list) (now sets)) (now store) (now marks) (now work) ⌝ }
+    ensures { λ _. ⌜ Leaves (method.step (moveOf z (now (list .entry)) (now (sets .entry))) (place .at) (runningOf (now (store .entry)) (now (marks .entry)) (now (work .entry)))) (now (store .exit)) (now (marks .exit)) (now (work .exit)) ⌝ }
+    ensures { λ r. ⌜ Counted (tally (operationAt (sizesOf z) (place .at) ∷ [])) (r .steps) (r .writes) (r .erases) ⌝ }
+{
+    match place.operation(z.n, z.m, z.s) {
+        Op::Write {
+            backward,
+            block,
+            page,
+            mark,
+        } => {
+            write(
+                z,
+                list,
+                sets,
+                to,
+                from,
+                store,
+                marks,
+                work,
+                backward,
+                block,
+                page,
+                mark,
+            );
+            Tally {
+                steps: 1,
+                writes: 1,
+                erases: 0,
+            }
+        }
+        Op::Erase { block } => {
+            erase_block(store, marks, z.m, z.p, block);
+            Tally {
+                steps: 1,
+                writes: 0,
+                erases: 1,
+            }
+        }
+        Op::Done => Tally {
+            steps: 0,
+            writes: 0,
+            erases: 0,
+        },
+    }
+}
