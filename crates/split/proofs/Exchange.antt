@@ -1,20 +1,19 @@
 -- The exchange of two sets along the walk keeps the colouring proper, and frees set a at both ends of the next page.
 use mathlib.Core.Path.{_≡_, refl, sym, ap, _∙_, subst}
 use mathlib.Core.Logic.{_⊎_, inl, inr, _≢_, ⊎-elim}
-use mathlib.Core.Bool.{Bool, true, false, cond}
-use mathlib.Core.List.{List, [], _∷_, _++_, map}
-use Prim.Native.Nat.{ℕ, zero, suc, _+_, _≤_, _<_}
+use mathlib.Core.Bool.{true, false, cond}
+use mathlib.Core.List.{List, map}
+use Prim.Native.Nat.{ℕ, zero, suc, _+_, _<_}
 use native.Mathlib.Nat.{not-suc-le-zero, zero-add}
 use native.Mathlib.Omega.{arith}
 use lib.Dec.{eqb}
-use lib.ListN.{length, getD, length-map, length-append, List·getD-append}
-use lib.Seq.{getD-append-seam}
+use lib.ListN.{length, getD, length-map}
 use borrow.Author.Tests.{eqb-true, eq-eqb, ne-eqb}
 use Rattle.flash.specs.Lists.{range, any}
 use Rattle.split.specs.Split.{setOf}
-use Rattle.split.specs.Rule.{End, source, destination, otherEnd, swapped, blockAt, pagesMet, exchange}
-use Rattle.split.proofs.Lists.{bool-cases, not-both, any-find, any-at, length-range, lt-cases}
-use Rattle.split.proofs.SplitLaws.{PageOf, Proper}
+use Rattle.split.specs.Rule.{End, source, destination, otherEnd, swapped, blockAt, exchange}
+use Rattle.split.proofs.Lists.{bool-cases, not-both, any-find, any-at, length-range}
+use Rattle.split.proofs.SplitLaws.{Proper}
 use Rattle.split.proofs.Walk.{Coloured, PageAt, metAs, metAs-two, Leads, leads-same, other-twice, path, path-head, path-chain, path-inside, path-closed, path-first, first-page}
 
 pub map-range-at : (f : ℕ → ℕ) (start n i d : ℕ) → i < n → getD (map f (range start n)) i d ≡ f (start + i)

@@ -1,17 +1,17 @@
 -- The rule page by page: the masks give the sets that the definition gives.
 use mathlib.Core.Path.{_≡_, refl, sym, ap, ap₂, _∙_, subst}
-use mathlib.Core.Logic.{_⊎_, inl, inr, _≢_, ⊎-elim}
-use mathlib.Core.Bool.{Bool, true, false, cond, not}
+use mathlib.Core.Logic.{_⊎_, _≢_, ⊎-elim}
+use mathlib.Core.Bool.{true, false, cond, not}
 use mathlib.Core.List.{List, [], _∷_, _++_}
 use Prim.Native.Nat.{ℕ, zero, suc, _+_, _-_, _*_, _%_, _≤_, _<_}
-use native.Mathlib.Nat.{not-suc-le-zero, mul-le-mul}
+use native.Mathlib.Nat.{mul-le-mul}
 use native.Mathlib.Numerals.{add-one}
 use native.Mathlib.Omega.{arith}
 use lib.Dec.{eqb}
-use lib.ListN.{length, getD, take, set, replicate, length-take, length-set}
+use lib.ListN.{length, getD, take, set, replicate, length-set}
 use lib.Seq.{getD-take, getD-set-same, getD-set-other, take-suc-set, take-all}
 use borrow.Author.Tests.{eqb-true, eqb-false, eq-eqb, ne-eqb, not-true, not-false}
-use Rattle.flash.specs.Lists.{range, count, first}
+use Rattle.flash.specs.Lists.{range, count}
 use Rattle.split.specs.OneToOne.{isOneToOne}
 use Rattle.split.specs.Split.{setOf}
 use Rattle.split.specs.Rule.{End, source, destination, blockAt, isPageOf, isUsed, lowestUnused, pagesMet, exchange, giveNext, setsGiven, splitByRule}
@@ -19,11 +19,10 @@ use Rattle.split.specs.Claims.{walkOf}
 use Rattle.split.specs.Mask.{bitAt, lowestZero, FlippedAt}
 use Rattle.split.specs.Ends.{Accepted, Masks}
 use Rattle.split.specs.Work.{Inverse, Working, Blocked, Exchanged}
-use Rattle.split.proofs.Lists.{bool-cases, false-of, first-is, lt-cases, Hit}
-use Rattle.split.proofs.OneToOneLaws.{entry-lt, entry-same}
-use Rattle.split.proofs.SplitLaws.{PageOf, Proper}
-use Rattle.split.proofs.Walk.{Coloured, PageAt}
-use Rattle.split.proofs.RuleLaws.{given, Given, used-page, unused-none, lowest, lowest-lt}
+use Rattle.split.proofs.Lists.{bool-cases, first-is, lt-cases, Hit}
+use Rattle.split.proofs.OneToOneLaws.{entry-same}
+use Rattle.split.proofs.SplitLaws.{Proper}
+use Rattle.split.proofs.RuleLaws.{given, Given, used-page, unused-none, lowest}
 use Rattle.split.proofs.MaskLaws.{bit-lt}
 use Rattle.split.proofs.MaskedLaws.{is-page, page-is, no-masks, mask-more, bit-page, page-bit, count-same, set-here, page-else}
 

@@ -1,10 +1,10 @@
 -- Laws of the tests, searches and counts over lists and ranges.
 use mathlib.Core.Path.{_≡_, refl, sym, ap, _∙_, subst}
 use mathlib.Core.Logic.{_⊎_, inl, inr, _≢_, ⊎-elim}
-use mathlib.Core.Bool.{Bool, true, false, cond, _&&_, _||_, not, true≢false}
+use mathlib.Core.Bool.{Bool, true, false, _&&_, _||_, true≢false}
 use mathlib.Core.List.{List, [], _∷_, _++_}
 use Prim.Native.Nat.{ℕ, zero, suc, _+_, _-_, _≤_, _<_}
-use native.Mathlib.Nat.{not-suc-le-zero, add-zero, add-suc, suc-add}
+use native.Mathlib.Nat.{not-suc-le-zero, add-zero}
 use native.Mathlib.Omega.{arith}
 use lib.Dec.{eqb, ltb}
 use lib.ListN.{length, getD}
@@ -182,12 +182,6 @@ module _ (test : ℕ → Bool) where
       (λ (s : x < r). absurd (not-both e (g .before x l s)))
       (ne-lt r x ne))
       (bool-cases (eqb r x))
-
-  pub first-none : (start n otherwise : ℕ) → ((x : ℕ) → start ≤ x → x < start + n → test x ≡ false) → first test (range start n) otherwise ≡ otherwise
-  first-none start n otherwise f = ⊎-elim
-      (λ (g : Hit start n (first test (range start n) otherwise)). absurd (not-both (g .hit) (f _ (g .low) (g .high))))
-      (λ (g : Missed start n otherwise (first test (range start n) otherwise)). g .is)
-      (first-cases start n otherwise)
 
   -- ---- counts
   pub count-append : (xs ys : List ℕ) → count test (xs ++ ys) ≡ count test xs + count test ys

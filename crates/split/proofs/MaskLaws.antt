@@ -3,8 +3,8 @@ use mathlib.Core.Path.{_≡_, refl, ap, sym, _∙_}
 use mathlib.Core.Logic.{_≢_, _⊎_, inl, inr, ⊎-elim}
 use mathlib.Core.Bool.{Bool, true, false, cond}
 use mathlib.Core.List.{List}
-use Prim.Native.Nat.{ℕ, zero, suc, _+_, _*_, _-_, _/_, _%_, _^_, _≤_, _<_}
-use native.Mathlib.Nat.{pow-suc, div-eq-of-lt, div-self, div-one, mod-lt, div-zero, zero-div, zero-mod}
+use Prim.Native.Nat.{ℕ, zero, suc, _+_, _-_, _/_, _%_, _^_, _≤_, _<_}
+use native.Mathlib.Nat.{pow-suc, div-eq-of-lt, div-self, div-one, mod-lt, zero-div}
 use native.Mathlib.Numerals.{one-add}
 use native.Mathlib.Omega.{arith}
 use lib.Dec.{eqb}
@@ -13,9 +13,8 @@ use lib.Seq.{getD-set-same, getD-set-other}
 use lib.Count.{trailingZeros, under}
 use lib.Pow.{pow-pos, pow-lt, pow-add, shr-shr, shl-shr}
 use lib.Bits.{bitXor, xor-step, xor-shr, differ}
-use borrow.Author.Tests.{eq-eqb, ne-eqb}
 use Rattle.flash.specs.Lists.{range, first}
-use Rattle.split.specs.Mask.{bitAt, lowestZero, Flipped, FlippedAt, FlippedBoth}
+use Rattle.split.specs.Mask.{bitAt, Flipped, FlippedAt, FlippedBoth}
 use Rattle.split.proofs.Lists.{bool-cases, lt-cases, eq-cases}
 
 pub bit-lt : (mask bit : ℕ) → bitAt mask bit < 2

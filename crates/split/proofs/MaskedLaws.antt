@@ -1,16 +1,16 @@
 -- What the masks of the blocks tell of the pages, and how a flipped bit follows one page more.
-use mathlib.Core.Path.{_≡_, refl, sym, ap, ap₂, _∙_, subst}
+use mathlib.Core.Path.{_≡_, refl, sym, ap, _∙_, subst}
 use mathlib.Core.Logic.{_⊎_, inl, inr, _≢_, ⊎-elim}
-use mathlib.Core.Bool.{Bool, true, false, cond, _&&_, toNat}
-use mathlib.Core.List.{List, [], _∷_, _++_}
-use Prim.Native.Nat.{ℕ, zero, suc, _+_, _-_, _%_, _≤_, _<_}
+use mathlib.Core.Bool.{Bool, true, false, cond, _&&_}
+use mathlib.Core.List.{List, [], _∷_}
+use Prim.Native.Nat.{ℕ, zero, suc, _+_, _-_, _≤_, _<_}
 use native.Mathlib.Nat.{zero-add}
 use native.Mathlib.Numerals.{add-one}
 use native.Mathlib.Omega.{arith}
 use lib.Dec.{eqb}
 use lib.ListN.{length, getD, set, replicate}
 use lib.Seq.{getD-set-same, getD-set-other}
-use borrow.Author.Tests.{eqb-true, eqb-false, eq-eqb, ne-eqb}
+use borrow.Author.Tests.{eqb-true, eq-eqb}
 use Rattle.flash.specs.Lists.{range, count}
 use Rattle.split.specs.Split.{setOf}
 use Rattle.split.specs.Rule.{End, blockAt, isPageOf}
@@ -18,7 +18,7 @@ use Rattle.split.specs.Mask.{bitAt, FlippedAt, FlippedBoth}
 use Rattle.split.specs.Ends.{Masks}
 use Rattle.split.proofs.Lists.{bool-cases, not-both, false-of, and-left, and-right, and-both, range-snoc, count-append, count-none, count-one, eq-cases}
 use Rattle.split.proofs.Pigeon.{seek}
-use Rattle.split.proofs.MaskLaws.{bit-lt, zeros-at, no-bits}
+use Rattle.split.proofs.MaskLaws.{zeros-at, no-bits}
 use Rattle.split.proofs.SplitLaws.{Proper}
 
 -- a test as a number

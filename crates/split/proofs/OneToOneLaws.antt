@@ -1,17 +1,16 @@
 -- What the check of a list says: each entry is in range and none is met twice, so that a list of its length is a permutation.
-use mathlib.Core.Path.{_≡_, refl, sym, ap, _∙_}
-use mathlib.Core.Logic.{⊎-elim}
-use mathlib.Core.Bool.{Bool, true, false, _||_, not}
+use mathlib.Core.Path.{_≡_, refl, sym, ap}
+use mathlib.Core.Bool.{true, false}
 use mathlib.Core.List.{List, [], _∷_}
-use Prim.Native.Nat.{ℕ, zero, suc, _≤_, _<_}
+use Prim.Native.Nat.{ℕ, zero, suc, _<_}
 use native.Mathlib.Nat.{not-suc-le-zero}
 use native.Mathlib.Omega.{arith}
 use lib.Dec.{eqb, leb}
 use lib.ListN.{length, getD}
-use borrow.Author.Tests.{eqb-true, eq-eqb, le-leb, lt-leb, leb-true, leb-false, not-true}
+use borrow.Author.Tests.{eqb-true, eq-eqb, leb-true, leb-false, not-true}
 use Rattle.flash.specs.Lists.{any}
 use Rattle.split.specs.OneToOne.{metTwice, badList, isOneToOne}
-use Rattle.split.proofs.Lists.{bool-cases, not-both, false-of, or-left, or-right, any-none, any-find}
+use Rattle.split.proofs.Lists.{not-both, false-of, or-left, or-right, any-none, any-find}
 use Rattle.split.proofs.Pigeon.{onto}
 
 abbrev pub Distinct : List ℕ → Type 0

@@ -1,18 +1,18 @@
 -- The search for a page of the walk, place by place, and what it finds.
-use mathlib.Core.Path.{_≡_, refl, sym, ap, ap₂, _∙_, subst}
-use mathlib.Core.Logic.{_⊎_, inl, inr, _≢_, ⊎-elim}
+use mathlib.Core.Path.{_≡_, refl, sym, ap, _∙_, subst}
+use mathlib.Core.Logic.{_⊎_, _≢_, ⊎-elim}
 use mathlib.Core.List.{List}
-use Prim.Native.Nat.{ℕ, zero, suc, _+_, _-_, _*_, _/_, _%_, _≤_, _<_}
+use Prim.Native.Nat.{ℕ, suc, _+_, _-_, _*_, _/_, _%_, _≤_, _<_}
 use native.Mathlib.Nat.{suc-mul, div-add-mod', mod-lt, mul-le-mul, mul-le-mul-right}
 use native.Mathlib.Omega.{arith}
-use lib.ListN.{length, getD}
+use lib.ListN.{getD}
 use Rattle.flash.specs.Geometry.{blockOf}
-use Rattle.split.specs.Split.{sourceBlock, destBlock, setOf}
+use Rattle.split.specs.Split.{setOf}
 use Rattle.split.specs.Rule.{End, source, destination, blockAt}
 use Rattle.split.specs.Ends.{Accepted}
 use Rattle.split.specs.Work.{Inverse, pageIn, Found}
 use Rattle.split.proofs.Lists.{lt-cases}
-use Rattle.split.proofs.OneToOneLaws.{entry-lt, entry-onto}
+use Rattle.split.proofs.OneToOneLaws.{entry-onto}
 use Rattle.split.proofs.SplitLaws.{place-block}
 use Rattle.split.proofs.RuleLaws.{placeAt, at-place, blocks}
 use Rattle.split.proofs.Turns.{FoundPage}

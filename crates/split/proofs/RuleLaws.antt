@@ -1,7 +1,7 @@
 -- The split rule ends in a split: each page in turn finds a set that is unused at its source, and at its destination after the exchange.
 use mathlib.Core.Path.{_≡_, refl, sym, ap, ap₂, _∙_, subst}
 use mathlib.Core.Logic.{_⊎_, inl, inr, _≢_, ⊎-elim}
-use mathlib.Core.Bool.{Bool, true, false, cond, not}
+use mathlib.Core.Bool.{true, false, not}
 use mathlib.Core.List.{List, [], _∷_, _++_}
 use Prim.Native.Nat.{ℕ, zero, suc, _+_, _-_, _*_, _/_, _%_, _≤_, _<_}
 use native.Mathlib.Nat.{not-suc-le-zero, div-add-mod', mod-lt}
@@ -9,15 +9,15 @@ use native.Mathlib.Omega.{arith}
 use lib.ListN.{length, getD, length-append, List·getD-append}
 use lib.Seq.{getD-at}
 use borrow.Author.Tests.{not-true, not-false}
-use Rattle.flash.specs.Lists.{range, any, first}
+use Rattle.flash.specs.Lists.{first}
 use Rattle.flash.specs.Geometry.{blockOf}
 use Rattle.split.specs.OneToOne.{isOneToOne}
 use Rattle.split.specs.Split.{sourceBlock, destBlock, setOf, isSplit}
-use Rattle.split.specs.Rule.{End, source, destination, otherEnd, blockAt, isPageOf, isUsed, lowestUnused, pagesMet, exchange, giveNext, setsGiven, splitByRule}
-use Rattle.split.proofs.Lists.{bool-cases, not-both, false-of, any-range-at, any-range-find, first-cases, Hit, Missed, lt-cases}
+use Rattle.split.specs.Rule.{End, source, destination, blockAt, isPageOf, isUsed, lowestUnused, pagesMet, exchange, giveNext, setsGiven, splitByRule}
+use Rattle.split.proofs.Lists.{bool-cases, not-both, any-range-at, any-range-find, first-cases, Hit, Missed, lt-cases}
 use Rattle.split.proofs.Pigeon.{crowded}
 use Rattle.split.proofs.OneToOneLaws.{entry-lt, entry-same}
-use Rattle.split.proofs.SplitLaws.{PageOf, Proper, some-page, block-range, split-of}
+use Rattle.split.proofs.SplitLaws.{some-page, block-range, split-of}
 use Rattle.split.proofs.Walk.{Coloured, PageAt, page-test, test-page, pageAt, page-found, walk-ends, path-bound, path-length}
 use Rattle.split.proofs.Exchange.{exchange-length, after-coloured, free-source, free-destination}
 

@@ -1,16 +1,16 @@
 -- The check of set bytes: pages with different sets at each block, so far.
-use mathlib.Core.Path.{_≡_, refl, sym, ap, _∙_, subst}
+use mathlib.Core.Path.{_≡_, sym, ap, _∙_, subst}
 use mathlib.Core.Logic.{_⊎_, inl, inr, _≢_, ⊎-elim}
 use mathlib.Core.Bool.{Bool, true, false}
 use mathlib.Core.List.{List}
-use Prim.Native.Nat.{ℕ, zero, suc, _+_, _*_, _≤_, _<_}
+use Prim.Native.Nat.{ℕ, _+_, _*_, _≤_, _<_}
 use native.Mathlib.Nat.{not-suc-le-zero}
 use native.Mathlib.Omega.{arith}
 use lib.Dec.{eqb}
 use lib.ListN.{length, getD, replicate}
 use borrow.Author.Tests.{eqb-true, eqb-false}
 use Rattle.split.specs.Split.{setOf, isSplit}
-use Rattle.split.specs.Rule.{End, source, destination, blockAt, isPageOf}
+use Rattle.split.specs.Rule.{End, source, destination, blockAt}
 use Rattle.split.specs.Mask.{bitAt, FlippedAt}
 use Rattle.split.specs.Ends.{Accepted, Masks}
 use Rattle.split.proofs.Lists.{false-of, lt-cases}

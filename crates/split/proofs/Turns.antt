@@ -1,20 +1,19 @@
 -- The exchange page by page: what holds after i pages of the walk got their other set, and one turn more.
 use mathlib.Core.Path.{_≡_, refl, sym, ap, _∙_, subst}
-use mathlib.Core.Logic.{_⊎_, inl, inr, _≢_, ⊎-elim}
+use mathlib.Core.Logic.{_⊎_, _≢_, ⊎-elim}
 use mathlib.Core.Bool.{Bool, true, false, cond, _||_, or-false, or-true}
 use mathlib.Core.List.{List, [], _∷_, _++_}
-use Prim.Native.Nat.{ℕ, zero, suc, _+_, _≤_, _<_}
+use Prim.Native.Nat.{ℕ, suc, _+_, _≤_, _<_}
 use native.Mathlib.Omega.{arith}
 use lib.Dec.{eqb}
-use lib.ListN.{length, getD, take, set, length-take, length-set}
+use lib.ListN.{length, getD, take, set, length-take}
 use lib.Seq.{getD-take, getD-set-same, getD-set-other, take-suc, take-all, ext-getD}
 use borrow.Author.Tests.{eqb-true, eq-eqb, ne-eqb}
 use Rattle.flash.specs.Lists.{any}
 use Rattle.split.specs.Split.{setOf}
-use Rattle.split.specs.Rule.{End, source, destination, otherEnd, swapped, blockAt, pagesMet, exchange}
-use Rattle.split.proofs.Lists.{bool-cases, not-both, false-of, any-find, lt-cases, eq-cases}
-use Rattle.split.proofs.SplitLaws.{PageOf}
-use Rattle.split.proofs.Walk.{Coloured, PageAt, metAs, metAs-same, metAs-two, Leads, other-twice, path, path-head, path-chain, path-inside, path-closed, path-first, path-distinct}
+use Rattle.split.specs.Rule.{End, source, destination, otherEnd, swapped, blockAt, exchange}
+use Rattle.split.proofs.Lists.{bool-cases, false-of, any-find, lt-cases, eq-cases}
+use Rattle.split.proofs.Walk.{Coloured, PageAt, metAs, metAs-same, metAs-two, other-twice, path, path-head, path-chain, path-inside, path-closed, path-first, path-distinct}
 use Rattle.split.proofs.Exchange.{exchange-length, exchange-at, swapped-met, in-at, two}
 
 any-append : (test : ℕ → Bool) (xs ys : List ℕ) → any test (xs ++ ys) ≡ (any test xs || any test ys)

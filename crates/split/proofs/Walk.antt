@@ -1,21 +1,21 @@
 -- The exchange walk: an alternating path in the colouring of the pages, whose edges are the moves and whose colours are the sets.
 use mathlib.Core.Path.{_≡_, refl, sym, ap, _∙_, subst}
 use mathlib.Core.Logic.{_⊎_, inl, inr, _≢_, ⊎-elim}
-use mathlib.Core.Bool.{Bool, true, false, cond, _&&_, true≢false}
+use mathlib.Core.Bool.{true}
 use mathlib.Core.List.{List, [], _∷_}
 use Prim.Native.Nat.{ℕ, zero, suc, _+_, _-_, _*_, _≤_, _<_}
 use native.Mathlib.Nat.{not-suc-le-zero, suc-add}
 use native.Mathlib.Omega.{arith}
 use native.Mathlib.Numerals.{add-one}
-use lib.Dec.{eqb, ltb}
+use lib.Dec.{eqb}
 use lib.ListN.{length, getD, take}
 use lib.Seq.{take-all}
 use borrow.Author.Tests.{eqb-true, eq-eqb, lt-ltb, le-ltb}
-use Rattle.flash.specs.Lists.{range, any, first}
+use Rattle.flash.specs.Lists.{range, first}
 use Rattle.split.specs.Split.{setOf}
-use Rattle.split.specs.Rule.{End, source, destination, otherEnd, blockAt, isPageOf, isUsed, pagesMet}
-use Rattle.split.proofs.Lists.{bool-cases, not-both, false-of, and-left, and-right, and-both, first-cases, Hit, Missed, any-find, any-at, lt-cases, eq-cases, ne-lt}
-use Rattle.split.proofs.Pigeon.{pigeon, Twice, crowded}
+use Rattle.split.specs.Rule.{End, source, destination, otherEnd, blockAt, isPageOf, pagesMet}
+use Rattle.split.proofs.Lists.{not-both, and-left, and-right, and-both, first-cases, Hit, Missed, lt-cases, eq-cases, ne-lt}
+use Rattle.split.proofs.Pigeon.{pigeon, crowded}
 use Rattle.split.proofs.OneToOneLaws.{Distinct}
 use Rattle.split.proofs.SplitLaws.{PageOf, Proper}
 

@@ -1,24 +1,24 @@
 -- The loop of the exchange: what holds at each turn, in the words of its code.
 use mathlib.Core.Path.{_≡_, refl, sym, ap, ap₂, _∙_, subst}
-use mathlib.Core.Logic.{_⊎_, inl, inr, _≢_, ⊎-elim}
+use mathlib.Core.Logic.{_⊎_, inl, inr, _≢_}
 use mathlib.Core.Bool.{Bool, true, false, cond, not}
 use mathlib.Core.List.{List}
-use Prim.Native.Nat.{ℕ, zero, suc, _+_, _-_, _*_, _≤_, _<_}
+use Prim.Native.Nat.{ℕ, suc, _-_, _*_, _≤_, _<_}
 use native.Mathlib.Omega.{arith}
 use lib.Dec.{eqb}
-use lib.ListN.{length, getD, take, set, length-take, length-set}
-use lib.Seq.{getD-take, getD-set-same, getD-set-other}
+use lib.ListN.{length, getD, take, set, length-set}
+use lib.Seq.{getD-take}
 use borrow.Author.Tests.{eq-eqb, ne-eqb}
 use Rattle.flash.specs.Lists.{range, count}
 use Rattle.split.specs.Split.{setOf}
 use Rattle.split.specs.Rule.{End, source, destination, otherEnd, blockAt, lowestUnused, pagesMet, exchange, setsGiven}
 use Rattle.split.specs.Claims.{walkOf}
 use Rattle.split.specs.Mask.{FlippedBoth}
-use Rattle.split.specs.Ends.{Accepted, endOf, Masks}
-use Rattle.split.specs.Work.{Found, Working, Blocked, Exchanged}
+use Rattle.split.specs.Ends.{endOf, Masks}
+use Rattle.split.specs.Work.{Working, Blocked, Exchanged}
 use Rattle.split.proofs.RuleLaws.{given, used-page, lowest-none, lowest-lt}
 use Rattle.split.proofs.Walk.{Coloured, PageAt, metAs}
-use Rattle.split.proofs.Turns.{FoundPage, Turn, first-turn, on-path, page-now, page-as, next-turn, turns-done}
+use Rattle.split.proofs.Turns.{FoundPage, Turn, first-turn, page-now, page-as, next-turn, turns-done}
 use Rattle.split.proofs.MaskedLaws.{mask-change, count-change, set-here, set-else}
 
 end-not : (s : Bool) → otherEnd (endOf s) ≡ endOf (not s)

@@ -2,11 +2,11 @@
 use mathlib.Core.Path.{_≡_}
 use mathlib.Core.Bool.{Bool, true, false}
 use mathlib.Core.List.{List}
-use Prim.Native.Nat.{ℕ, _*_, _%_, _≤_, _<_}
-use lib.ListN.{length, getD, take}
+use Prim.Native.Nat.{ℕ, _*_, _%_, _≤_}
+use lib.ListN.{length, getD}
 use Rattle.flash.specs.Lists.{range, count}
 use Rattle.split.specs.OneToOne.{isOneToOne}
-use Rattle.split.specs.Rule.{End, source, destination, isPageOf, setsGiven}
+use Rattle.split.specs.Rule.{End, source, destination, isPageOf}
 use Rattle.split.specs.Mask.{bitAt}
 
 -- A list that the call does not refuse, for its sizes.

@@ -1,13 +1,10 @@
-use mathlib.Core.Path.{_≡_, refl, sym, ap, _∙_, subst}
-use mathlib.Core.Bool.{Bool}
-use Prim.Native.Nat.{ℕ, _-_, _*_, _<_}
+use mathlib.Core.Path.{_≡_, refl, sym}
+use Prim.Native.Nat.{_-_, _<_}
 use native.Mathlib.Omega.{arith}
 use borrow.Author.Needs.{needs}
-use borrow.Author.Tests.{eqb-true, eqb-false}
-use lib.ListN.{length, getD}
+use lib.ListN.{length}
 use Rattle.split.specs.Split.{setOf}
 use Rattle.split.specs.Rule.{End, source, destination, blockAt}
-use Rattle.split.specs.Mask.{bitAt, FlippedAt}
 use Rattle.split.proofs.SetsLaws.{Flips, flips-at, SoFar, none-yet, block-lt, no-such-set, met-twice, all-met, one-more}
 use Rattle.split.proofs.sets.is_split.Statement.{statement}
 use Rattle.split.proofs.sets.is_split.Tie as tie
