@@ -39,7 +39,8 @@ nothing-seen originals n list = record {
 
 module _ (originals : ℕ) (list seen : List ℕ) (k : ℕ) (S : Seen originals list seen k) where
   pub all-good : length list ≤ k → isOneToOne originals list ≡ true
-  all-good h = one-to-one-of originals list (λ j l. S .below j (omega arith)) (λ i j l o e. S .distinct i j (omega arith) (omega arith) e)
+  all-good h = one-to-one-of originals list (λ j l. S .below j (omega arith))
+      (λ i j l o e. S .distinct i j (omega arith) (omega arith) e)
 
   module _ (more : k < length list) where
     pub too-large : originals ≤ getD list k 0 → isOneToOne originals list ≡ false

@@ -23,7 +23,8 @@ distinct-at (x ∷ xs) e zero zero h l q = refl
 distinct-at (x ∷ xs) e zero (suc j) h l q =
     absurd (not-both (eq-eqb x (getD xs j 0) q) (any-none (eqb x) xs (or-left (any (eqb x) xs) (metTwice xs) e) j 0 (omega arith)))
 distinct-at (x ∷ xs) e (suc i) zero h l q =
-    absurd (not-both (eq-eqb x (getD xs i 0) (sym q)) (any-none (eqb x) xs (or-left (any (eqb x) xs) (metTwice xs) e) i 0 (omega arith)))
+    absurd (not-both (eq-eqb x (getD xs i 0) (sym q))
+    (any-none (eqb x) xs (or-left (any (eqb x) xs) (metTwice xs) e) i 0 (omega arith)))
 distinct-at (x ∷ xs) e (suc i) (suc j) h l q =
     ap suc (distinct-at xs (or-right (any (eqb x) xs) (metTwice xs) e) i j (omega arith) (omega arith) q)
 
@@ -60,11 +61,13 @@ module _ (originals : ℕ) (list : List ℕ) where
 
     pub entry-lt : (k : ℕ) → k < length list → getD list k 0 < originals
     unfolding badList
-    entry-lt k h = leb-false originals (getD list k 0) (any-none (leb originals) list (or-left (any (leb originals) list) (metTwice list) good) k 0 h)
+    entry-lt k h = leb-false originals (getD list k 0)
+        (any-none (leb originals) list (or-left (any (leb originals) list) (metTwice list) good) k 0 h)
 
     pub entry-same : Distinct list
     unfolding badList
     entry-same = distinct-at list (or-right (any (leb originals) list) (metTwice list) good)
 
     pub entry-onto : length list ≡ originals → (x : ℕ) → x < originals → (k : ℕ) × (k < originals) × (getD list k 0 ≡ x)
-    entry-onto e = onto originals (λ k. getD list k 0) (λ k h. entry-lt k (omega arith)) (λ i j h l q. entry-same i j (omega arith) (omega arith) q)
+    entry-onto e = onto originals (λ k. getD list k 0) (λ k h. entry-lt k (omega arith))
+        (λ i j h l q. entry-same i j (omega arith) (omega arith) q)

@@ -64,7 +64,14 @@ pigeon (suc n) g h = go (seek (λ i. eqb (g i) (g (suc n))) (suc n)) (pigeon n (
 
         done : Twice n (squeezed n g) → Twice (suc n) g
         done t =
-            record { one = t .one; two = t .two; order = t .order; bound = omega arith; same = same (eq-cases (g (t .one)) n) (eq-cases (g (t .two)) n) }
+            record {
+              one = t .one;
+              two = t .two;
+              order = t .order;
+              bound = omega arith;
+              same = same (eq-cases (g (t .one)) n)
+                  (eq-cases (g (t .two)) n);
+            }
           where
             low : t .one ≤ n
             low = omega arith
