@@ -22,8 +22,10 @@ pageIn from destination place = getD from place 0
 -- r is a page of the set among the first k, at one of the places of a block; or k, where there is none
 pub record Found (from sets : List ℕ) (m k : ℕ) (end : End) (block set r : ℕ) : Type 0 where
   pub within : r ≤ k
-  pub hit : r < k → (place : ℕ) × ((block - 1) * m ≤ place) × (place < block * m) × (pageIn from end place ≡ r) × (setOf sets r ≡ set)
-  pub none : r ≡ k → (place : ℕ) → (block - 1) * m ≤ place → place < block * m → pageIn from end place < k → setOf sets (pageIn from end place) ≢ set
+  pub hit : r < k
+      → (place : ℕ) × ((block - 1) * m ≤ place) × (place < block * m) × (pageIn from end place ≡ r) × (setOf sets r ≡ set)
+  pub none : r ≡ k
+      → (place : ℕ) → (block - 1) * m ≤ place → place < block * m → pageIn from end place < k → setOf sets (pageIn from end place) ≢ set
 
 -- The first k pages have the sets of the rule, and the masks tell them.
 pub record Working (m : ℕ) (list from : List ℕ) (k : ℕ) (sets sources destinations : List ℕ) : Type 0 where
