@@ -14,7 +14,7 @@ use Rattle.flash.specs.Geometry.{Sizes, isLetter, inRange, originalCount, listL
 use Rattle.split.specs.OneToOne.{badList, isOneToOne}
 use Rattle.split.specs.Rule.{splitByRule}
 use Rattle.split.specs.Answer.{splitRows, splitAnswer, SplitAnswered}
-use Rattle.split.specs.Ends.{Accepted}
+use Rattle.split.specs.Accepted.{Accepted}
 use Rattle.split.proofs.Lists.{and-left, and-right, or-left, or-right}
 
 -- ---- the sizes

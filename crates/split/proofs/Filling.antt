@@ -17,7 +17,8 @@ use Rattle.split.specs.Split.{setOf}
 use Rattle.split.specs.Rule.{End, source, destination, blockAt, isPageOf, isUsed, lowestUnused, pagesMet, exchange, giveNext, setsGiven, splitByRule}
 use Rattle.split.specs.Claims.{walkOf}
 use Rattle.split.specs.Mask.{bitAt, lowestZero, FlippedAt}
-use Rattle.split.specs.Ends.{Accepted, Masks}
+use Rattle.split.specs.Accepted.{Accepted}
+use Rattle.split.specs.Ends.{Masks}
 use Rattle.split.specs.Work.{Inverse, Working, Blocked, Exchanged}
 use Rattle.split.proofs.Lists.{bool-cases, first-is, lt-cases, Hit}
 use Rattle.split.proofs.OneToOneLaws.{entry-same}

@@ -9,7 +9,7 @@ use lib.ListN.{getD}
 use Rattle.flash.specs.Geometry.{blockOf}
 use Rattle.split.specs.Split.{setOf}
 use Rattle.split.specs.Rule.{End, source, destination, blockAt}
-use Rattle.split.specs.Ends.{Accepted}
+use Rattle.split.specs.Accepted.{Accepted}
 use Rattle.split.specs.Work.{Inverse, pageIn, Found}
 use Rattle.split.proofs.Lists.{lt-cases}
 use Rattle.split.proofs.OneToOneLaws.{entry-onto}

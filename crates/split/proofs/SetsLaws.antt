@@ -12,7 +12,8 @@ use borrow.Author.Tests.{eqb-true, eqb-false}
 use Rattle.split.specs.Split.{setOf, isSplit}
 use Rattle.split.specs.Rule.{End, source, destination, blockAt}
 use Rattle.split.specs.Mask.{bitAt, FlippedAt}
-use Rattle.split.specs.Ends.{Accepted, Masks}
+use Rattle.split.specs.Accepted.{Accepted}
+use Rattle.split.specs.Ends.{Masks}
 use Rattle.split.proofs.Lists.{false-of, lt-cases}
 use Rattle.split.proofs.SplitLaws.{Proper, set-lt, same-from, same-to, split-of}
 use Rattle.split.proofs.RuleLaws.{blocks}

@@ -8,7 +8,8 @@ use lib.ListN.{length, getD, take}
 use Rattle.split.specs.Split.{setOf}
 use Rattle.split.specs.Rule.{End, source, destination, blockAt, isUsed, lowestUnused, exchange, setsGiven}
 use Rattle.split.specs.Claims.{walkOf}
-use Rattle.split.specs.Ends.{Accepted, Masks}
+use Rattle.split.specs.Accepted.{Accepted}
+use Rattle.split.specs.Ends.{Masks}
 
 -- `from` is the list turned round: the original that goes to each place.
 abbrev pub Inverse : (list from : List ℕ) → Type 0

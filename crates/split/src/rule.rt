@@ -5,7 +5,7 @@ ghost use Prim.Native.Nat.{_+_, _*_, _≤_, _<_};
 ghost use lib.ListN.{length};
 ghost use Rattle.split.specs.OneToOne.{isOneToOne};
 ghost use Rattle.split.specs.Rule.{splitByRule};
-ghost use Rattle.split.specs.Ends.{Accepted};
+ghost use Rattle.split.specs.Accepted.{Accepted};
 ghost use Rattle.split.specs.Work.{Inverse, Working};
 use crate::ends::block_at;
 use crate::mask::flip;
