@@ -1,20 +1,20 @@
 -- The refusals of the split call, row by row.
-use mathlib.Core.Path.{_≡_, refl, sym, ap, _∙_}
+use mathlib.Core.Path.{_≡_, refl, sym, _∙_}
 use mathlib.Core.Logic.{_≢_}
-use mathlib.Core.Bool.{Bool, true, false, cond, not, _||_, _&&_}
-use mathlib.Core.List.{List, [], _∷_}
-use Prim.Native.Nat.{ℕ, zero, suc, _*_, _≤_, _<_}
+use mathlib.Core.Bool.{Bool, true, false, not, _&&_}
+use mathlib.Core.List.{List, _∷_}
+use Prim.Native.Nat.{ℕ, suc, _≤_}
 use native.Mathlib.Nat.{mul-le-mul}
 use native.Mathlib.Omega.{arith}
 use lib.Dec.{eqb, leb, ltb}
 use lib.ListN.{length}
-use borrow.Author.Tests.{eqb-true, eq-eqb, ne-eqb, le-leb, leb-true, ltb-true, not-true, not-false}
+use borrow.Author.Tests.{eqb-true, eq-eqb, ne-eqb, le-leb, leb-true, not-true, not-false}
 use Rattle.flash.specs.Tables.{Row, firstFit, numberOr0, refusal}
 use Rattle.flash.specs.Geometry.{Sizes, isLetter, inRange, originalCount, listLength, setsLength}
 use Rattle.split.specs.OneToOne.{badList, isOneToOne}
 use Rattle.split.specs.Rule.{splitByRule}
 use Rattle.split.specs.Answer.{splitRows, splitAnswer, SplitAnswered}
-use Rattle.split.specs.Ends.{Accepted}
+use Rattle.split.specs.Accepted.{Accepted}
 use Rattle.split.proofs.Lists.{and-left, and-right, or-left, or-right}
 
 -- ---- the sizes
@@ -46,7 +46,15 @@ ranges Z e =
 pub by-letter : (Z : Sizes) → Ranges Z → ltb (Z .s) 3 ≡ inRange Z
 unfolding inRange isLetter
 by-letter Z R =
-    rw (le-leb 1 (Z .n) (R .n-low), le-leb (Z .n) 64 (R .n-high), le-leb 1 (Z .m) (R .m-low), le-leb (Z .m) 64 (R .m-high), le-leb 1 (Z .P) (R .P-low), le-leb (Z .P) 4096 (R .P-high))
+    rw (
+      le-leb 1 (Z .n) (R .n-low),
+      le-leb (Z .n) 64 (R .n-high),
+      le-leb 1 (Z .m) (R .m-low),
+      le-leb (Z .m) 64
+          (R .m-high),
+      le-leb 1 (Z .P) (R .P-low),
+      le-leb (Z .P) 4096 (R .P-high),
+    )
 
 pub small : (Z : Sizes) → inRange Z ≡ true → originalCount Z ≤ 4096
 small Z e = let R = ranges Z e in mul-le-mul {n₁ = Z .n} {m₁ = Z .m} {n₂ = 64} {m₂ = 64} (R .n-high) (R .m-high)
@@ -71,12 +79,24 @@ module _ (Z : Sizes) (list sets : List ℕ) where
         pub gives-3 : isOneToOne (originalCount Z) list ≡ false → refusal (splitRows Z list sets) ≡ 3
         unfolding refusal firstFit numberOr0 splitRows isOneToOne
         gives-3 e =
-            rw (in-range, eq-eqb (length list) (originalCount Z) listed, eq-eqb (length sets) (originalCount Z) sized, not-false (badList (originalCount Z) list) e)
+            rw (
+              in-range,
+              eq-eqb (length list) (originalCount Z) listed,
+              eq-eqb (length sets) (originalCount Z) sized,
+              not-false
+                  (badList (originalCount Z) list) e,
+            )
 
         pub gives-0 : isOneToOne (originalCount Z) list ≡ true → refusal (splitRows Z list sets) ≡ 0
         unfolding refusal firstFit numberOr0 splitRows isOneToOne
         gives-0 e =
-            rw (in-range, eq-eqb (length list) (originalCount Z) listed, eq-eqb (length sets) (originalCount Z) sized, not-true (badList (originalCount Z) list) e)
+            rw (
+              in-range,
+              eq-eqb (length list) (originalCount Z) listed,
+              eq-eqb (length sets) (originalCount Z) sized,
+              not-true
+                  (badList (originalCount Z) list) e,
+            )
 
 pub accept : (originals : ℕ) (list : List ℕ) → badList originals list ≡ false → isOneToOne originals list ≡ true
 unfolding isOneToOne
@@ -90,7 +110,8 @@ pub record Passed (Z : Sizes) (list sets : List ℕ) : Type 0 where
   pub good : badList (originalCount Z) list ≡ false
 
 -- a row that does not give 0 does not fit
-not-fit : (fits : Bool) (number : ℕ) (rows : List (Row ℕ)) → refusal (record { fits = fits; gives = suc number } ∷ rows) ≡ 0 → (fits ≡ false) × (refusal rows ≡ 0)
+not-fit : (fits : Bool) (number : ℕ) (rows : List (Row ℕ)) → refusal (record { fits = fits; gives = suc number } ∷ rows) ≡ 0
+    → (fits ≡ false) × (refusal rows ≡ 0)
 unfolding refusal firstFit numberOr0
 not-fit true number rows e = absurd (omega arith)
 not-fit false number rows e = (refl, e)
@@ -114,10 +135,20 @@ module _ (Z : Sizes) (list sets : List ℕ) where
   pub accepted : refusal (splitRows Z list sets) ≡ 0 → Accepted (Z .n) (Z .m) list × (length sets ≡ originalCount Z)
   accepted e =
       let p = passed Z list sets e in
-      let r = ranges Z (p .in-range) in
-      (record { some-pages = r .m-low; n-fits = r .n-high; m-fits = r .m-high; listed = p .listed; one-to-one = accept (originalCount Z) list (p .good) }, p .sized)
+      let r = ranges Z (p .in-range) in (
+        record {
+          some-pages = r .m-low;
+          n-fits = r .n-high;
+          m-fits = r .m-high;
+          listed = p .listed;
+          one-to-one = accept
+              (originalCount Z) list (p .good);
+        },
+        p .sized,
+      )
 
-  pub answered-0 : (number : ℕ) (sets′ : List ℕ) → number ≡ refusal (splitRows Z list sets) → number ≡ 0 → sets′ ≡ splitByRule (Z .n) (Z .m) list
+  pub answered-0 : (number : ℕ) (sets′ : List ℕ) → number ≡ refusal (splitRows Z list sets) → number ≡ 0
+      → sets′ ≡ splitByRule (Z .n) (Z .m) list
       → SplitAnswered Z list sets number sets′
   unfolding splitAnswer
   answered-0 number sets′ e z s = record { number-is = e; sets-are = s ∙ sym filled }

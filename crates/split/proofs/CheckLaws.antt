@@ -1,9 +1,9 @@
 -- The check of a list: a table of bits tells which entries were met.
-use mathlib.Core.Path.{_≡_, refl, sym, ap, _∙_, subst}
+use mathlib.Core.Path.{_≡_, sym, ap, _∙_, subst}
 use mathlib.Core.Logic.{_⊎_, inl, inr, _≢_, ⊎-elim}
-use mathlib.Core.Bool.{Bool, true, false}
+use mathlib.Core.Bool.{true, false}
 use mathlib.Core.List.{List}
-use Prim.Native.Nat.{ℕ, zero, suc, _+_, _-_, _/_, _%_, _≤_, _<_}
+use Prim.Native.Nat.{ℕ, _+_, _-_, _/_, _%_, _≤_, _<_}
 use native.Mathlib.Omega.{arith}
 use native.Mathlib.Nat.{not-suc-le-zero}
 use lib.ListN.{length, getD, replicate}
@@ -39,7 +39,8 @@ nothing-seen originals n list = record {
 
 module _ (originals : ℕ) (list seen : List ℕ) (k : ℕ) (S : Seen originals list seen k) where
   pub all-good : length list ≤ k → isOneToOne originals list ≡ true
-  all-good h = one-to-one-of originals list (λ j l. S .below j (omega arith)) (λ i j l o e. S .distinct i j (omega arith) (omega arith) e)
+  all-good h = one-to-one-of originals list (λ j l. S .below j (omega arith))
+      (λ i j l o e. S .distinct i j (omega arith) (omega arith) e)
 
   module _ (more : k < length list) where
     pub too-large : originals ≤ getD list k 0 → isOneToOne originals list ≡ false

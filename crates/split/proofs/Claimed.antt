@@ -1,17 +1,12 @@
 -- The proofs of what specs/Claims.antt claims.
-use mathlib.Core.Path.{_≡_, refl, sym, ap, _∙_, subst}
-use mathlib.Core.Bool.{Bool, true, false, cond, not, _||_}
-use mathlib.Core.List.{List, [], _∷_}
-use Prim.Native.Nat.{ℕ, zero, suc, _+_, _-_, _*_, _≤_, _<_}
+use mathlib.Core.Path.{_≡_, refl}
+use mathlib.Core.Bool.{true}
+use Prim.Native.Nat.{_-_}
 use native.Mathlib.Omega.{arith}
-use lib.Dec.{eqb}
-use lib.ListN.{length}
-use borrow.Author.Tests.{eqb-true, eq-eqb, not-false}
-use Rattle.flash.specs.Tables.{Row, firstFit, numberOr0, refusal}
-use Rattle.flash.specs.Geometry.{Sizes, inRange, originalCount, listLength, setsLength}
-use Rattle.split.specs.OneToOne.{badList, isOneToOne}
-use Rattle.split.specs.Split.{isSplit}
-use Rattle.split.specs.Rule.{source, destination, blockAt, lowestUnused, pagesMet, setsGiven, splitByRule}
+use borrow.Author.Tests.{eq-eqb}
+use Rattle.flash.specs.Geometry.{originalCount}
+use Rattle.split.specs.OneToOne.{isOneToOne}
+use Rattle.split.specs.Rule.{setsGiven, splitByRule}
 use Rattle.split.specs.Answer.{splitRows, splitAnswer}
 use Rattle.split.specs.Claims.{SplitEnds, walkOf, WalkEnds, WalkIsShort, FilledFits, RowsAscend}
 use Rattle.split.proofs.Answers.{accept, passed}

@@ -1,20 +1,19 @@
 -- The exchange of two sets along the walk keeps the colouring proper, and frees set a at both ends of the next page.
 use mathlib.Core.Path.{_≡_, refl, sym, ap, _∙_, subst}
 use mathlib.Core.Logic.{_⊎_, inl, inr, _≢_, ⊎-elim}
-use mathlib.Core.Bool.{Bool, true, false, cond}
-use mathlib.Core.List.{List, [], _∷_, _++_, map}
-use Prim.Native.Nat.{ℕ, zero, suc, _+_, _≤_, _<_}
+use mathlib.Core.Bool.{true, false, cond}
+use mathlib.Core.List.{List, map}
+use Prim.Native.Nat.{ℕ, zero, suc, _+_, _<_}
 use native.Mathlib.Nat.{not-suc-le-zero, zero-add}
 use native.Mathlib.Omega.{arith}
 use lib.Dec.{eqb}
-use lib.ListN.{length, getD, length-map, length-append, List·getD-append}
-use lib.Seq.{getD-append-seam}
+use lib.ListN.{length, getD, length-map}
 use borrow.Author.Tests.{eqb-true, eq-eqb, ne-eqb}
 use Rattle.flash.specs.Lists.{range, any}
 use Rattle.split.specs.Split.{setOf}
-use Rattle.split.specs.Rule.{End, source, destination, otherEnd, swapped, blockAt, pagesMet, exchange}
-use Rattle.split.proofs.Lists.{bool-cases, not-both, any-find, any-at, length-range, lt-cases}
-use Rattle.split.proofs.SplitLaws.{PageOf, Proper}
+use Rattle.split.specs.Rule.{End, source, destination, otherEnd, swapped, blockAt, exchange}
+use Rattle.split.proofs.Lists.{bool-cases, not-both, any-find, any-at, length-range}
+use Rattle.split.proofs.SplitLaws.{Proper}
 use Rattle.split.proofs.Walk.{Coloured, PageAt, metAs, metAs-two, Leads, leads-same, other-twice, path, path-head, path-chain, path-inside, path-closed, path-first, first-page}
 
 pub map-range-at : (f : ℕ → ℕ) (start n i d : ℕ) → i < n → getD (map f (range start n)) i d ≡ f (start + i)
@@ -43,7 +42,8 @@ module _ (m : ℕ) (list given : List ℕ) (a b : ℕ) (met : List ℕ) where
       map-range-at (λ k. cond (any (eqb k) met) (swapped a b (getD given k 0)) (getD given k 0)) 0 (length given) x 0 h
       ∙ ap (λ (k : ℕ). cond (any (eqb k) met) (swapped a b (getD given k 0)) (getD given k 0)) (zero-add x)
 
-  pub exchange-in : (x : ℕ) → x < length given → any (eqb x) met ≡ true → setOf (exchange m list given a b met) x ≡ swapped a b (setOf given x)
+  pub exchange-in : (x : ℕ) → x < length given → any (eqb x) met ≡ true
+      → setOf (exchange m list given a b met) x ≡ swapped a b (setOf given x)
   exchange-in x h e = rw e at (exchange-at x h)
 
   pub exchange-out : (x : ℕ) → x < length given → any (eqb x) met ≡ false → setOf (exchange m list given a b met) x ≡ setOf given x
@@ -114,8 +114,10 @@ module _ (m : ℕ) (list given : List ℕ) (C : Coloured m list given) (a b : �
   -- swapping twice
   swapped-twice : (x : ℕ) → In x → swapped a b (swapped a b (setOf given x)) ≡ setOf given x
   swapped-twice x e = ⊎-elim
-      (λ (r : setOf given x ≡ a). ap (λ (s : ℕ). swapped a b (swapped a b s)) r ∙ ap (swapped a b) (swapped-a a b) ∙ swapped-b a b differ ∙ sym r)
-      (λ (r : setOf given x ≡ b). ap (λ (s : ℕ). swapped a b (swapped a b s)) r ∙ ap (swapped a b) (swapped-b a b differ) ∙ swapped-a a b ∙ sym r)
+      (λ (r : setOf given x ≡ a). ap (λ (s : ℕ). swapped a b (swapped a b s)) r ∙ ap (swapped a b) (swapped-a a b)
+      ∙ swapped-b a b differ ∙ sym r)
+      (λ (r : setOf given x ≡ b). ap (λ (s : ℕ). swapped a b (swapped a b s)) r ∙ ap (swapped a b) (swapped-b a b differ)
+      ∙ swapped-a a b ∙ sym r)
       (two x e)
 
   -- what a page met leads to is met, and so is what leads to it
@@ -157,12 +159,16 @@ module _ (m : ℕ) (list given : List ℕ) (C : Coloured m list given) (a b : �
     where
       go : (any (eqb x) met ≡ true) ⊎ (any (eqb x) met ≡ false) → (any (eqb y) met ≡ true) ⊎ (any (eqb y) met ≡ false) → x ≡ y
       go (inl e) (inl f) = C .proper end x y h l v
-          (sym (swapped-twice x e) ∙ ap (swapped a b) (sym (exchange-in m list given a b met x h e) ∙ c ∙ exchange-in m list given a b met y l f) ∙ swapped-twice y f)
-      go (inr e) (inr f) = C .proper end x y h l v (sym (exchange-out m list given a b met x h e) ∙ c ∙ exchange-out m list given a b met y l f)
+          (sym (swapped-twice x e) ∙ ap (swapped a b) (sym (exchange-in m list given a b met x h e) ∙ c
+          ∙ exchange-in m list given a b met y l f) ∙ swapped-twice y f)
+      go (inr e) (inr f) = C .proper end x y h l v
+          (sym (exchange-out m list given a b met x h e) ∙ c ∙ exchange-out m list given a b met y l f)
       go (inl e) (inr f) =
-          absurd (not-both (neighbour-in end x y h l e v (sym (exchange-out m list given a b met y l f) ∙ sym c ∙ exchange-in m list given a b met x h e)) f)
+          absurd (not-both (neighbour-in end x y h l e v
+          (sym (exchange-out m list given a b met y l f) ∙ sym c ∙ exchange-in m list given a b met x h e)) f)
       go (inr e) (inl f) =
-          absurd (not-both (neighbour-in end y x l h f (sym v) (sym (exchange-out m list given a b met x h e) ∙ c ∙ exchange-in m list given a b met y l f)) e)
+          absurd (not-both (neighbour-in end y x l h f (sym v)
+          (sym (exchange-out m list given a b met x h e) ∙ c ∙ exchange-in m list given a b met y l f)) e)
 
   pub after-coloured : a < m → b < m → Coloured m list after
   after-coloured la lb = record {
@@ -190,7 +196,8 @@ module _ (m : ℕ) (list given : List ℕ) (C : Coloured m list given) (a b : �
   free-destination first p x h v c = ⊎-elim
       (λ (e : any (eqb x) met ≡ true). unused x (record { inside = h; in-set = had-b x h e c; at-block = v }))
       (λ (e : any (eqb x) met ≡ false).
-      let s = C .proper destination first x (p .inside) h (p .at-block ∙ sym v) (p .in-set ∙ sym (sym (exchange-out m list given a b met x h e) ∙ c)) in
+      let s = C .proper destination first x (p .inside) h (p .at-block ∙ sym v)
+      (p .in-set ∙ sym (sym (exchange-out m list given a b met x h e) ∙ c)) in
       let f = path-first m list given C a b differ block unused first p in
       not-both (subst In (f .1 ∙ s) (in-at 0 (f .0))) e)
       (bool-cases (any (eqb x) met))
@@ -206,7 +213,12 @@ module _ (m : ℕ) (list given : List ℕ) (C : Coloured m list given) (a b : �
       (λ (q : (0 < length met) × (getD met 0 0 ≡ x)). differ (sym (first-is (q .0) .in-set) ∙ ap (setOf given) (q .1) ∙ r))
       (λ (q : Led x). from (q .by) (q .by-lt) (q .end) (q .leads) r)
       (led x e))
-      (λ (e : any (eqb x) met ≡ false). free x (record { inside = h; in-set = sym (exchange-out m list given a b met x h e) ∙ c; at-block = v }))
+      (λ (e : any (eqb x) met ≡ false). free x (record {
+        inside = h;
+        in-set = sym (exchange-out m list given a b met x h e)
+            ∙ c;
+        at-block = v;
+      }))
       (bool-cases (any (eqb x) met))
     where
       from : (y : ℕ) → y < length given → (end : End) → Leads m list given C a b differ end y x → setOf given x ≡ b → ⊥

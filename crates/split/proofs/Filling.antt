@@ -1,46 +1,50 @@
 -- The rule page by page: the masks give the sets that the definition gives.
 use mathlib.Core.Path.{_≡_, refl, sym, ap, ap₂, _∙_, subst}
-use mathlib.Core.Logic.{_⊎_, inl, inr, _≢_, ⊎-elim}
-use mathlib.Core.Bool.{Bool, true, false, cond, not}
+use mathlib.Core.Logic.{_⊎_, _≢_, ⊎-elim}
+use mathlib.Core.Bool.{true, false, cond, not}
 use mathlib.Core.List.{List, [], _∷_, _++_}
 use Prim.Native.Nat.{ℕ, zero, suc, _+_, _-_, _*_, _%_, _≤_, _<_}
-use native.Mathlib.Nat.{not-suc-le-zero, mul-le-mul}
+use native.Mathlib.Nat.{mul-le-mul}
 use native.Mathlib.Numerals.{add-one}
 use native.Mathlib.Omega.{arith}
 use lib.Dec.{eqb}
-use lib.ListN.{length, getD, take, set, replicate, length-take, length-set}
+use lib.ListN.{length, getD, take, set, replicate, length-set}
 use lib.Seq.{getD-take, getD-set-same, getD-set-other, take-suc-set, take-all}
 use borrow.Author.Tests.{eqb-true, eqb-false, eq-eqb, ne-eqb, not-true, not-false}
-use Rattle.flash.specs.Lists.{range, count, first}
+use Rattle.flash.specs.Lists.{range, count}
 use Rattle.split.specs.OneToOne.{isOneToOne}
 use Rattle.split.specs.Split.{setOf}
 use Rattle.split.specs.Rule.{End, source, destination, blockAt, isPageOf, isUsed, lowestUnused, pagesMet, exchange, giveNext, setsGiven, splitByRule}
 use Rattle.split.specs.Claims.{walkOf}
 use Rattle.split.specs.Mask.{bitAt, lowestZero, FlippedAt}
-use Rattle.split.specs.Ends.{Accepted, Masks}
+use Rattle.split.specs.Accepted.{Accepted}
+use Rattle.split.specs.Ends.{Masks}
 use Rattle.split.specs.Work.{Inverse, Working, Blocked, Exchanged}
-use Rattle.split.proofs.Lists.{bool-cases, false-of, first-is, lt-cases, Hit}
-use Rattle.split.proofs.OneToOneLaws.{entry-lt, entry-same}
-use Rattle.split.proofs.SplitLaws.{PageOf, Proper}
-use Rattle.split.proofs.Walk.{Coloured, PageAt}
-use Rattle.split.proofs.RuleLaws.{given, Given, used-page, unused-none, lowest, lowest-lt}
+use Rattle.split.proofs.Lists.{bool-cases, first-is, lt-cases, Hit}
+use Rattle.split.proofs.OneToOneLaws.{entry-same}
+use Rattle.split.proofs.SplitLaws.{Proper}
+use Rattle.split.proofs.RuleLaws.{given, Given, used-page, unused-none, lowest}
 use Rattle.split.proofs.MaskLaws.{bit-lt}
 use Rattle.split.proofs.MaskedLaws.{is-page, page-is, no-masks, mask-more, bit-page, page-bit, count-same, set-here, page-else}
 
 -- ---- the list turned round
 module _ (list : List ℕ) (one : isOneToOne (length list) list ≡ true) where
-  pub invert-more : (from : List ℕ) (k place : ℕ) → ((x : ℕ) → x < k → getD from (getD list x 0) 0 ≡ x) → k < length list → place ≡ getD list k 0 → place < length from
+  pub invert-more : (from : List ℕ) (k place : ℕ) → ((x : ℕ) → x < k → getD from (getD list x 0) 0 ≡ x) → k < length list
+      → place ≡ getD list k 0 → place < length from
       → (x : ℕ) → x < k + 1 → getD (set from place k) (getD list x 0) 0 ≡ x
   invert-more from k place old more is room x h = ⊎-elim
       (λ (l : x < k).
-      getD-set-other from place (getD list x 0) k 0 (λ e. (let s : x ≡ k = entry-same (length list) list one x k (omega arith) more (e ∙ is) in absurd (omega arith))) ∙ old x l)
+      getD-set-other from place (getD list x 0) k 0
+      (λ e. (let s : x ≡ k = entry-same (length list) list one x k (omega arith) more (e ∙ is) in absurd (omega arith))) ∙ old x l)
       (λ (l : k ≤ x).
       let e : x ≡ k = omega arith in
-      ap (λ (y : ℕ). getD (set from place k) (getD list y 0) 0) e ∙ ap (λ (y : ℕ). getD (set from place k) y 0) (sym is) ∙ getD-set-same from place k 0 room ∙ sym e)
+      ap (λ (y : ℕ). getD (set from place k) (getD list y 0) 0) e ∙ ap (λ (y : ℕ). getD (set from place k) y 0) (sym is)
+      ∙ getD-set-same from place k 0 room ∙ sym e)
       (lt-cases x k)
 
 -- ---- page k
-module _ (m : ℕ) (list from : List ℕ) (k : ℕ) (sets sources destinations : List ℕ) (W : Working m list from k sets sources destinations) where
+module _ (m : ℕ) (list from : List ℕ) (k : ℕ) (sets sources destinations : List ℕ)
+    (W : Working m list from k sets sources destinations) where
   abbrev sofar : List ℕ
   sofar = setsGiven m list k
 
@@ -59,7 +63,8 @@ module _ (m : ℕ) (list from : List ℕ) (k : ℕ) (sets sources destinations :
       so-far .coloured .proper end x y (rw (so-far .counted) h) (rw (so-far .counted) l) v (sym (same-set x h) ∙ c ∙ same-set y l)
 
   -- the bit of a set tells whether it is used
-  used-bit : (end : End) (masks : List ℕ) → Masks m list sets k end masks → (block s : ℕ) → eqb (bitAt (getD masks block 0) s) 1 ≡ isUsed m list sofar end block s
+  used-bit : (end : End) (masks : List ℕ) → Masks m list sets k end masks → (block s : ℕ)
+      → eqb (bitAt (getD masks block 0) s) 1 ≡ isUsed m list sofar end block s
   used-bit end masks M block s = ⊎-elim
       (λ (u : isUsed m list sofar end block s ≡ true).
       let p = used-page m list sofar end block s u in
@@ -79,11 +84,13 @@ module _ (m : ℕ) (list from : List ℕ) (k : ℕ) (sets sources destinations :
     low end = lowestUnused m list sofar end (blockAt m list end k)
 
     lowest-hit : (end : End) → Hit (λ s. not (isUsed m list sofar end (blockAt m list end k) s)) 0 m (low end)
-    lowest-hit end = subst (λ (x : ℕ). Hit (λ s. not (isUsed m list sofar end (blockAt m list end x) s)) 0 m (lowestUnused m list sofar end (blockAt m list end x))) (so-far .counted)
+    lowest-hit end = subst (λ (x : ℕ). Hit (λ s. not (isUsed m list sofar end (blockAt m list end x) s)) 0 m
+        (lowestUnused m list sofar end (blockAt m list end x))) (so-far .counted)
         (lowest n m list (W .accepted .listed) (W .accepted .one-to-one) sofar (so-far .coloured) (omega (arith, so-far .counted)) end)
 
     -- the lowest zero of a block's mask is the lowest set unused there
-    pub lowest-free : (end : End) (masks : List ℕ) → Masks m list sets k end masks → (block : ℕ) → block ≡ blockAt m list end k → lowestZero (getD masks block 0) ≡ low end
+    pub lowest-free : (end : End) (masks : List ℕ) → Masks m list sets k end masks → (block : ℕ) → block ≡ blockAt m list end k
+        → lowestZero (getD masks block 0) ≡ low end
     unfolding lowestZero
     lowest-free end masks M block e = rw e (
         let h = lowest-hit end in
@@ -94,23 +101,30 @@ module _ (m : ℕ) (list from : List ℕ) (k : ℕ) (sets sources destinations :
         (eq-eqb _ 0 (zero-bit (low end) (used-bit end masks M (blockAt m list end k) (low end) ∙ not-true _ (h .hit))))
         (λ s a b. ne-eqb _ 0 (one-bit s (used-bit end masks M (blockAt m list end k) s ∙ not-false _ (h .before s a b)))))
       where
-        zero-bit : (s : ℕ) → eqb (bitAt (getD masks (blockAt m list end k) 0) s) 1 ≡ false → bitAt (getD masks (blockAt m list end k) 0) s ≡ 0
-        zero-bit s q = let f : bitAt (getD masks (blockAt m list end k) 0) s ≢ 1 = eqb-false _ 1 q in let l = bit-lt (getD masks (blockAt m list end k) 0) s in omega arith
+        zero-bit : (s : ℕ) → eqb (bitAt (getD masks (blockAt m list end k) 0) s) 1 ≡ false
+            → bitAt (getD masks (blockAt m list end k) 0) s ≡ 0
+        zero-bit s q = let f : bitAt (getD masks (blockAt m list end k) 0) s ≢ 1 = eqb-false _ 1 q in let l = bit-lt
+            (getD masks (blockAt m list end k) 0) s in omega arith
 
-        one-bit : (s : ℕ) → eqb (bitAt (getD masks (blockAt m list end k) 0) s) 1 ≡ true → bitAt (getD masks (blockAt m list end k) 0) s ≢ 0
+        one-bit : (s : ℕ) → eqb (bitAt (getD masks (blockAt m list end k) 0) s) 1 ≡ true
+            → bitAt (getD masks (blockAt m list end k) 0) s ≢ 0
         one-bit s q z = let f : bitAt (getD masks (blockAt m list end k) 0) s ≡ 1 = eqb-true _ 1 q in omega arith
 
     pub lowest-fits : (end : End) → low end < 64
     lowest-fits end = let h = lowest-hit end .high in let fits = W .accepted .m-fits in omega arith
 
     -- whether a is used at the destination
-    pub blocked : (block a : ℕ) → block ≡ blockAt m list destination k → eqb (bitAt (getD destinations block 0) a) 1 ≡ isUsed m list sofar destination (blockAt m list destination k) a
-    blocked block a e = ap (λ (at : ℕ). eqb (bitAt (getD destinations at 0) a) 1) e ∙ used-bit destination destinations (W .destination-masks) (blockAt m list destination k) a
+    pub blocked : (block a : ℕ) → block ≡ blockAt m list destination k
+        → eqb (bitAt (getD destinations block 0) a) 1 ≡ isUsed m list sofar destination (blockAt m list destination k) a
+    blocked block a e = ap (λ (at : ℕ). eqb (bitAt (getD destinations at 0) a) 1) e
+        ∙ used-bit destination destinations (W .destination-masks) (blockAt m list destination k) a
 
     -- page k gets its set
     pub given-more : (a : ℕ) (sets′ sources′ destinations′ sources″ destinations″ : List ℕ) → length sets′ ≡ length sets
-        → take k sets′ ++ (a ∷ []) ≡ setsGiven m list (suc k) → Masks m list sets′ k source sources′ → Masks m list sets′ k destination destinations′
-        → FlippedAt sources′ (blockAt m list source k) a sources″ → FlippedAt destinations′ (blockAt m list destination k) a destinations″
+        → take k sets′ ++ (a ∷ []) ≡ setsGiven m list (suc k) → Masks m list sets′ k source sources′
+        → Masks m list sets′ k destination destinations′
+        → FlippedAt sources′ (blockAt m list source k) a sources″
+        → FlippedAt destinations′ (blockAt m list destination k) a destinations″
         → Working m list from (k + 1) (set sets′ k a) sources″ destinations″
     given-more a sets′ sources′ destinations′ sources″ destinations″ len g S D s d = record {
       blocks = n;
@@ -118,7 +132,8 @@ module _ (m : ℕ) (list from : List ℕ) (k : ℕ) (sets sources destinations :
       within = omega arith;
       sized = length-set sets′ k a ∙ len ∙ W .sized;
       inverse = W .inverse;
-      given = ap (λ (j : ℕ). take j (set sets′ k a)) (add-one k) ∙ take-suc-set sets′ k a inside ∙ g ∙ ap (setsGiven m list) (sym (add-one k));
+      given = ap (λ (j : ℕ). take j (set sets′ k a)) (add-one k) ∙ take-suc-set sets′ k a inside ∙ g
+          ∙ ap (setsGiven m list) (sym (add-one k));
       source-masks = masks source sources′ sources″ S s;
       destination-masks = masks destination destinations′ destinations″ D d;
     }
@@ -129,12 +144,14 @@ module _ (m : ℕ) (list from : List ℕ) (k : ℕ) (sets sources destinations :
         its-set : setOf (set sets′ k a) k ≡ a
         its-set = set-here sets′ k a inside
 
-        masks : (end : End) (old new : List ℕ) → Masks m list sets′ k end old → FlippedAt old (blockAt m list end k) a new → Masks m list (set sets′ k a) (k + 1) end new
+        masks : (end : End) (old new : List ℕ) → Masks m list sets′ k end old → FlippedAt old (blockAt m list end k) a new
+            → Masks m list (set sets′ k a) (k + 1) end new
         masks end old new M f = mask-more m list (set sets′ k a) end k old new
             (λ block x. M block x ∙ ap (λ (c : ℕ). c % 2) (count-below end block x))
             (subst (λ (x : ℕ). FlippedAt old (blockAt m list end k) x new) (sym its-set) f)
           where
-            count-below : (end : End) (block x : ℕ) → count (isPageOf m list sets′ end block x) (range 0 k) ≡ count (isPageOf m list (set sets′ k a) end block x) (range 0 k)
+            count-below : (end : End) (block x : ℕ) → count (isPageOf m list sets′ end block x) (range 0 k) ≡ count
+                (isPageOf m list (set sets′ k a) end block x) (range 0 k)
             count-below end block x = count-same _ _ 0 k (λ y _ h. page-else m list sets′ end k a block x y (λ e. absurd (omega arith)))
 
   -- the next sets, by the two ways of the rule
@@ -144,12 +161,14 @@ module _ (m : ℕ) (list from : List ℕ) (k : ℕ) (sets sources destinations :
       (exchange m list sofar a b (pagesMet m list sofar j destination (blockAt m list destination j) a b) ++ (a ∷ []))
       (sofar ++ (a ∷ []))
 
-  next-is : (a b : ℕ) → a ≡ lowestUnused m list sofar source (blockAt m list source k) → b ≡ lowestUnused m list sofar destination (blockAt m list destination k)
+  next-is : (a b : ℕ) → a ≡ lowestUnused m list sofar source (blockAt m list source k)
+      → b ≡ lowestUnused m list sofar destination (blockAt m list destination k)
       → next-sets a b k ≡ setsGiven m list (suc k)
   unfolding next-sets setsGiven giveNext
   next-is a b a-is b-is =
       ap₂ (λ (x y : ℕ). next-sets x y k) a-is b-is
-      ∙ ap (λ (j : ℕ). next-sets (lowestUnused m list sofar source (blockAt m list source j)) (lowestUnused m list sofar destination (blockAt m list destination j)) j) (sym (so-far .counted))
+      ∙ ap (λ (j : ℕ). next-sets (lowestUnused m list sofar source (blockAt m list source j))
+      (lowestUnused m list sofar destination (blockAt m list destination j)) j) (sym (so-far .counted))
 
   pub gives-plain : (a : ℕ) → a ≡ lowestUnused m list sofar source (blockAt m list source k)
       → isUsed m list sofar destination (blockAt m list destination k) a ≡ false → take k sets ++ (a ∷ []) ≡ setsGiven m list (suc k)
@@ -163,8 +182,10 @@ module _ (m : ℕ) (list from : List ℕ) (k : ℕ) (sets sources destinations :
   unfolding next-sets walkOf
   gives-exchanged a b sets′ sources′ destinations′ B E =
       let walk = ap₂ (pagesMet m list sofar k destination (blockAt m list destination k)) (B .a-is) (B .b-is) in
-      let e : next-sets a b k ≡ exchange m list sofar a b (pagesMet m list sofar k destination (blockAt m list destination k) a b) ++ (a ∷ []) = rw (B .used) in
-      ap (λ (xs : List ℕ). xs ++ (a ∷ [])) (E .exchanged ∙ ap (exchange m list sofar a b) (sym walk)) ∙ sym e ∙ next-is a b (B .a-is) (B .b-is)
+      let e : next-sets a b k ≡ exchange m list sofar a b
+      (pagesMet m list sofar k destination (blockAt m list destination k) a b) ++ (a ∷ []) = rw (B .used) in
+      ap (λ (xs : List ℕ). xs ++ (a ∷ [])) (E .exchanged ∙ ap (exchange m list sofar a b) (sym walk)) ∙ sym e
+      ∙ next-is a b (B .a-is) (B .b-is)
 
 -- page k's set a is free at both of its blocks: the exchange is done, or there was none to do
 pub record Fresh (m : ℕ) (list : List ℕ) (k a : ℕ) (before sets sources destinations : List ℕ) : Type 0 where
@@ -175,8 +196,11 @@ pub record Fresh (m : ℕ) (list : List ℕ) (k a : ℕ) (before sets sources de
 
 -- what turning an accepted list round asks
 pub invertible : (n m : ℕ) (list : List ℕ) → Accepted n m list → (length list ≤ 4096) × (isOneToOne (length list) list ≡ true)
-invertible n m list A =
-    (rw (A .listed) (mul-le-mul {n₁ = n} {m₁ = m} {n₂ = 64} {m₂ = 64} (A .n-fits) (A .m-fits)), subst (λ (x : ℕ). isOneToOne x list ≡ true) (sym (A .listed)) (A .one-to-one))
+invertible n m list A = (
+  rw (A .listed) (mul-le-mul {n₁ = n} {m₁ = m} {n₂ = 64} {m₂ = 64} (A .n-fits) (A .m-fits)),
+  subst
+      (λ (x : ℕ). isOneToOne x list ≡ true) (sym (A .listed)) (A .one-to-one),
+)
 
 pub work-starts : (n m : ℕ) (list from sets : List ℕ) → Accepted n m list → length sets ≡ n * m → Inverse list from
     → Working m list from 0 sets (replicate 65 0) (replicate 65 0)

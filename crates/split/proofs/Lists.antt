@@ -1,10 +1,10 @@
 -- Laws of the tests, searches and counts over lists and ranges.
 use mathlib.Core.Path.{_≡_, refl, sym, ap, _∙_, subst}
 use mathlib.Core.Logic.{_⊎_, inl, inr, _≢_, ⊎-elim}
-use mathlib.Core.Bool.{Bool, true, false, cond, _&&_, _||_, not, true≢false}
+use mathlib.Core.Bool.{Bool, true, false, _&&_, _||_, true≢false}
 use mathlib.Core.List.{List, [], _∷_, _++_}
 use Prim.Native.Nat.{ℕ, zero, suc, _+_, _-_, _≤_, _<_}
-use native.Mathlib.Nat.{not-suc-le-zero, add-zero, add-suc, suc-add}
+use native.Mathlib.Nat.{not-suc-le-zero, add-zero}
 use native.Mathlib.Omega.{arith}
 use lib.Dec.{eqb, ltb}
 use lib.ListN.{length, getD}
@@ -49,10 +49,12 @@ ne-lt (suc x) (suc y) ne =
     ⊎-elim (λ (h : x < y). inl (omega arith)) (λ (h : y < x). inr (omega arith)) (ne-lt x y (λ e. ne (ap suc e)))
 
 pub eq-cases : (x y : ℕ) → (x ≡ y) ⊎ (x ≢ y)
-eq-cases x y = ⊎-elim (λ (q : eqb x y ≡ true). inl (eqb-true x y q)) (λ (q : eqb x y ≡ false). inr (eqb-false x y q)) (bool-cases (eqb x y))
+eq-cases x y = ⊎-elim (λ (q : eqb x y ≡ true). inl (eqb-true x y q)) (λ (q : eqb x y ≡ false). inr (eqb-false x y q))
+    (bool-cases (eqb x y))
 
 pub lt-cases : (x y : ℕ) → (x < y) ⊎ (y ≤ x)
-lt-cases x y = ⊎-elim (λ (q : ltb x y ≡ true). inl (ltb-true x y q)) (λ (q : ltb x y ≡ false). inr (ltb-false x y q)) (bool-cases (ltb x y))
+lt-cases x y = ⊎-elim (λ (q : ltb x y ≡ true). inl (ltb-true x y q)) (λ (q : ltb x y ≡ false). inr (ltb-false x y q))
+    (bool-cases (ltb x y))
 
 pub length-range : (start n : ℕ) → length (range start n) ≡ n
 unfolding range
@@ -87,7 +89,8 @@ module _ (test : ℕ → Bool) where
   unfolding all range
   all-range-at start zero e x l h = absurd (omega arith)
   all-range-at start (suc n) e x l h = ⊎-elim
-      (λ (q : eqb start x ≡ true). subst (λ (y : ℕ). test y ≡ true) (eqb-true start x q) (and-left (test start) (all test (range (suc start) n)) e))
+      (λ (q : eqb start x ≡ true). subst (λ (y : ℕ). test y ≡ true) (eqb-true start x q)
+      (and-left (test start) (all test (range (suc start) n)) e))
       (λ (q : eqb start x ≡ false).
       let ne : start ≢ x = eqb-false start x q in
       all-range-at (suc start) n (and-right (test start) (all test (range (suc start) n)) e) x (omega arith) (omega arith))
@@ -97,7 +100,8 @@ module _ (test : ℕ → Bool) where
   unfolding all range
   all-range-of start zero f = refl
   all-range-of start (suc n) f =
-      and-both (test start) (all test (range (suc start) n)) (f start (omega arith) (omega arith)) (all-range-of (suc start) n (λ x l h. f x (omega arith) (omega arith)))
+      and-both (test start) (all test (range (suc start) n)) (f start (omega arith) (omega arith))
+      (all-range-of (suc start) n (λ x l h. f x (omega arith) (omega arith)))
 
   pub any-none : (xs : List ℕ) → any test xs ≡ false → (i d : ℕ) → i < length xs → test (getD xs i d) ≡ false
   unfolding any
@@ -142,11 +146,18 @@ module _ (test : ℕ → Bool) where
     pub is : r ≡ otherwise
     pub none : (x : ℕ) → start ≤ x → x < start + n → test x ≡ false
 
-  pub first-cases : (start n otherwise : ℕ) → Hit start n (first test (range start n) otherwise) ⊎ Missed start n otherwise (first test (range start n) otherwise)
+  pub first-cases : (start n otherwise : ℕ) → Hit start n (first test (range start n) otherwise) ⊎ Missed start n otherwise
+      (first test (range start n) otherwise)
   unfolding first range
   first-cases start zero otherwise = inr (record { is = refl; none = λ x l h. absurd (omega arith) })
   first-cases start (suc n) otherwise = ⊎-elim
-      (λ (q : test start ≡ true). rw q (inl (record { low = omega arith; high = omega arith; hit = q; before = λ x l h. absurd (omega arith) })))
+      (λ (q : test start ≡ true). rw q (inl (record {
+        low = omega arith;
+        high = omega arith;
+        hit = q;
+        before = λ x l h. absurd
+            (omega arith);
+      })))
       (λ (q : test start ≡ false). rw q (later q (first-cases (suc start) n otherwise)))
       (bool-cases (test start))
     where
@@ -156,12 +167,20 @@ module _ (test : ℕ → Bool) where
           (λ (e : eqb start x ≡ false). let ne : start ≢ x = eqb-false start x e in f (omega arith))
           (bool-cases (eqb start x))
 
-      later : {r : ℕ} → test start ≡ false → Hit (suc start) n r ⊎ Missed (suc start) n otherwise r → Hit start (suc n) r ⊎ Missed start (suc n) otherwise r
-      later q (inl f) = inl (record { low = omega (arith, f .low); high = omega (arith, f .high); hit = f .hit; before = λ x l h. passed q x l (λ g. f .before x g h) })
+      later : {r : ℕ} → test start ≡ false → Hit (suc start) n r ⊎ Missed (suc start) n otherwise r
+          → Hit start (suc n) r ⊎ Missed start (suc n) otherwise r
+      later q (inl f) = inl (record {
+        low = omega (arith, f .low);
+        high = omega
+            (arith, f .high);
+        hit = f .hit;
+        before = λ x l h. passed q x l (λ g. f .before x g h);
+      })
       later q (inr f) = inr (record { is = f .is; none = λ x l h. passed q x l (λ g. f .none x g (omega arith)) })
 
   -- something passes
-  pub first-hit : (start n otherwise x : ℕ) → start ≤ x → x < start + n → test x ≡ true → Hit start n (first test (range start n) otherwise)
+  pub first-hit : (start n otherwise x : ℕ) → start ≤ x → x < start + n → test x ≡ true
+      → Hit start n (first test (range start n) otherwise)
   first-hit start n otherwise x l h e = ⊎-elim
       (λ (f : Hit start n (first test (range start n) otherwise)). f)
       (λ (f : Missed start n otherwise (first test (range start n) otherwise)). absurd (not-both e (f .none x l h)))
@@ -183,12 +202,6 @@ module _ (test : ℕ → Bool) where
       (ne-lt r x ne))
       (bool-cases (eqb r x))
 
-  pub first-none : (start n otherwise : ℕ) → ((x : ℕ) → start ≤ x → x < start + n → test x ≡ false) → first test (range start n) otherwise ≡ otherwise
-  first-none start n otherwise f = ⊎-elim
-      (λ (g : Hit start n (first test (range start n) otherwise)). absurd (not-both (g .hit) (f _ (g .low) (g .high))))
-      (λ (g : Missed start n otherwise (first test (range start n) otherwise)). g .is)
-      (first-cases start n otherwise)
-
   -- ---- counts
   pub count-append : (xs ys : List ℕ) → count test (xs ++ ys) ≡ count test xs + count test ys
   unfolding count
@@ -201,7 +214,8 @@ module _ (test : ℕ → Bool) where
   pub count-none : (start n : ℕ) → ((x : ℕ) → start ≤ x → x < start + n → test x ≡ false) → count test (range start n) ≡ 0
   unfolding count range
   count-none start zero f = refl
-  count-none start (suc n) f = rw (f start (omega arith) (omega arith)) (count-none (suc start) n (λ x l h. f x (omega arith) (omega arith)))
+  count-none start (suc n) f = rw (f start (omega arith) (omega arith))
+      (count-none (suc start) n (λ x l h. f x (omega arith) (omega arith)))
 
   -- just one passes
   pub count-one : (start n x : ℕ) → start ≤ x → x < start + n → test x ≡ true
@@ -211,7 +225,8 @@ module _ (test : ℕ → Bool) where
   count-one start (suc n) x l h e f = ⊎-elim
       (λ (q : test start ≡ true).
       let s : start ≡ x = f start (omega arith) (omega arith) q in
-      rw q (ap suc (count-none (suc start) n (λ y a b. false-of (test y) (λ t. let r : y ≡ x = f y (omega arith) (omega arith) t in absurd (omega arith))))))
+      rw q (ap suc (count-none (suc start) n (λ y a b. false-of (test y)
+      (λ t. let r : y ≡ x = f y (omega arith) (omega arith) t in absurd (omega arith))))))
       (λ (q : test start ≡ false).
       let ne : start ≢ x = λ s. not-both e (subst (λ (y : ℕ). test y ≡ false) s q) in
       rw q (count-one (suc start) n x (omega arith) (omega arith) e (λ y a b t. f y (omega arith) (omega arith) t)))

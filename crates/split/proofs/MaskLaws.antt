@@ -3,8 +3,8 @@ use mathlib.Core.Path.{_≡_, refl, ap, sym, _∙_}
 use mathlib.Core.Logic.{_≢_, _⊎_, inl, inr, ⊎-elim}
 use mathlib.Core.Bool.{Bool, true, false, cond}
 use mathlib.Core.List.{List}
-use Prim.Native.Nat.{ℕ, zero, suc, _+_, _*_, _-_, _/_, _%_, _^_, _≤_, _<_}
-use native.Mathlib.Nat.{pow-suc, div-eq-of-lt, div-self, div-one, mod-lt, div-zero, zero-div, zero-mod}
+use Prim.Native.Nat.{ℕ, zero, suc, _+_, _-_, _/_, _%_, _^_, _≤_, _<_}
+use native.Mathlib.Nat.{pow-suc, div-eq-of-lt, div-self, div-one, mod-lt, zero-div}
 use native.Mathlib.Numerals.{one-add}
 use native.Mathlib.Omega.{arith}
 use lib.Dec.{eqb}
@@ -13,9 +13,8 @@ use lib.Seq.{getD-set-same, getD-set-other}
 use lib.Count.{trailingZeros, under}
 use lib.Pow.{pow-pos, pow-lt, pow-add, shr-shr, shl-shr}
 use lib.Bits.{bitXor, xor-step, xor-shr, differ}
-use borrow.Author.Tests.{eq-eqb, ne-eqb}
 use Rattle.flash.specs.Lists.{range, first}
-use Rattle.split.specs.Mask.{bitAt, lowestZero, Flipped, FlippedAt, FlippedBoth}
+use Rattle.split.specs.Mask.{bitAt, Flipped, FlippedAt, FlippedBoth}
 use Rattle.split.proofs.Lists.{bool-cases, lt-cases, eq-cases}
 
 pub bit-lt : (mask bit : ℕ) → bitAt mask bit < 2
@@ -49,13 +48,15 @@ first-suc test start (suc n) otherwise = ⊎-elim
     (λ (q : test (suc start) ≡ false). rw q (first-suc test (suc start) n otherwise))
     (bool-cases (test (suc start)))
 
-first-ext : (f g : ℕ → Bool) → ((x : ℕ) → f x ≡ g x) → (start n otherwise : ℕ) → first f (range start n) otherwise ≡ first g (range start n) otherwise
+first-ext : (f g : ℕ → Bool) → ((x : ℕ) → f x ≡ g x) → (start n otherwise : ℕ)
+    → first f (range start n) otherwise ≡ first g (range start n) otherwise
 unfolding first range
 first-ext f g e start zero otherwise = refl
 first-ext f g e start (suc n) otherwise = rw (e start, first-ext f g e (suc start) n otherwise)
 
 -- the trailing zeros of the complement are the ones below the lowest zero
-pub lowest-zero : (k mask : ℕ) → mask < 2 ^ k → trailingZeros k ((2 ^ k - 1) - mask) ≡ first (λ bit. eqb (bitAt mask bit) 0) (range 0 k) k
+pub lowest-zero : (k mask : ℕ) → mask < 2 ^ k
+    → trailingZeros k ((2 ^ k - 1) - mask) ≡ first (λ bit. eqb (bitAt mask bit) 0) (range 0 k) k
 unfolding trailingZeros first range
 lowest-zero zero mask h = refl
 lowest-zero (suc k) mask h =
@@ -64,7 +65,8 @@ lowest-zero (suc k) mask h =
     let rest : first (λ bit. eqb (bitAt mask bit) 0) (range 1 k) (suc k) ≡ suc (trailingZeros k ((2 ^ k - 1) - mask / 2)) =
     first-suc (λ bit. eqb (bitAt mask bit) 0) 0 k k
     ∙ ap suc (first-ext _ _ (λ bit. ap (λ (x : ℕ). eqb x 0) (bit-suc mask bit)) 0 k k ∙ sym m) in
-    rw (comp-odd k mask h, comp-half k mask h, rest, div-one mask) (low (mask % 2) (mod-lt mask (omega arith)) (trailingZeros k ((2 ^ k - 1) - mask / 2)))
+    rw (comp-odd k mask h, comp-half k mask h, rest, div-one mask)
+    (low (mask % 2) (mod-lt mask (omega arith)) (trailingZeros k ((2 ^ k - 1) - mask / 2)))
   where
     low : (digit : ℕ) → digit < 2 → (zeros : ℕ) → under (1 - digit) zeros ≡ cond (eqb digit 0) 0 (suc zeros)
     low zero h zeros = refl
@@ -99,7 +101,8 @@ power-other k bit ne = ⊎-elim
 pub flipped-power : (mask bit : ℕ) → Flipped mask bit (bitXor mask (2 ^ bit))
 flipped-power mask bit = record {
   changed = xor-bit mask (2 ^ bit) bit ∙ ap (differ (bitAt mask bit)) (power-self bit) ∙ differ-one (bitAt mask bit) (bit-lt mask bit);
-  same = λ other ne. xor-bit mask (2 ^ bit) other ∙ ap (differ (bitAt mask other)) (power-other bit other ne) ∙ differ-zero (bitAt mask other);
+  same = λ other ne. xor-bit mask (2 ^ bit) other ∙ ap (differ (bitAt mask other)) (power-other bit other ne)
+      ∙ differ-zero (bitAt mask other);
 }
   where
     differ-one : (x : ℕ) → x < 2 → differ x 1 ≡ 1 - x
@@ -111,16 +114,19 @@ flipped-power mask bit = record {
     differ-zero zero = refl
     differ-zero (suc x) = refl
 
-pub flipped-at : (masks : List ℕ) (at bit r : ℕ) → at < length masks → Flipped (getD masks at 0) bit r → FlippedAt masks at bit (set masks at r)
+pub flipped-at : (masks : List ℕ) (at bit r : ℕ) → at < length masks → Flipped (getD masks at 0) bit r
+    → FlippedAt masks at bit (set masks at r)
 flipped-at masks at bit r h f = record {
   changed = rw (getD-set-same masks at r 0 h) (f .changed);
   same = λ block other ne. ⊎-elim
-      (λ (q : block ≡ at). rw (q, getD-set-same masks at r 0 h) (f .same other (⊎-elim (λ (p : block ≢ at). absurd (p q)) (λ (p : other ≢ bit). p) ne)))
+      (λ (q : block ≡ at). rw (q, getD-set-same masks at r 0 h)
+      (f .same other (⊎-elim (λ (p : block ≢ at). absurd (p q)) (λ (p : other ≢ bit). p) ne)))
       (λ (q : block ≢ at). rw (getD-set-other masks at block r 0 q))
       (eq-cases block at);
 }
 
-pub flipped-both : (masks middle after : List ℕ) (at a b : ℕ) → a ≢ b → FlippedAt masks at a middle → FlippedAt middle at b after → FlippedBoth masks at a b after
+pub flipped-both : (masks middle after : List ℕ) (at a b : ℕ) → a ≢ b → FlippedAt masks at a middle → FlippedAt middle at b after
+    → FlippedBoth masks at a b after
 flipped-both masks middle after at a b differ f g = record {
   changed = λ bit e. ⊎-elim
       (λ (p : bit ≡ a). rw p (g .same at a (inr differ) ∙ f .changed))

@@ -1,16 +1,16 @@
 -- What the masks of the blocks tell of the pages, and how a flipped bit follows one page more.
-use mathlib.Core.Path.{_≡_, refl, sym, ap, ap₂, _∙_, subst}
+use mathlib.Core.Path.{_≡_, refl, sym, ap, _∙_, subst}
 use mathlib.Core.Logic.{_⊎_, inl, inr, _≢_, ⊎-elim}
-use mathlib.Core.Bool.{Bool, true, false, cond, _&&_, toNat}
-use mathlib.Core.List.{List, [], _∷_, _++_}
-use Prim.Native.Nat.{ℕ, zero, suc, _+_, _-_, _%_, _≤_, _<_}
+use mathlib.Core.Bool.{Bool, true, false, cond, _&&_}
+use mathlib.Core.List.{List, [], _∷_}
+use Prim.Native.Nat.{ℕ, zero, suc, _+_, _-_, _≤_, _<_}
 use native.Mathlib.Nat.{zero-add}
 use native.Mathlib.Numerals.{add-one}
 use native.Mathlib.Omega.{arith}
 use lib.Dec.{eqb}
 use lib.ListN.{length, getD, set, replicate}
 use lib.Seq.{getD-set-same, getD-set-other}
-use borrow.Author.Tests.{eqb-true, eqb-false, eq-eqb, ne-eqb}
+use borrow.Author.Tests.{eqb-true, eq-eqb}
 use Rattle.flash.specs.Lists.{range, count}
 use Rattle.split.specs.Split.{setOf}
 use Rattle.split.specs.Rule.{End, blockAt, isPageOf}
@@ -18,7 +18,7 @@ use Rattle.split.specs.Mask.{bitAt, FlippedAt, FlippedBoth}
 use Rattle.split.specs.Ends.{Masks}
 use Rattle.split.proofs.Lists.{bool-cases, not-both, false-of, and-left, and-right, and-both, range-snoc, count-append, count-none, count-one, eq-cases}
 use Rattle.split.proofs.Pigeon.{seek}
-use Rattle.split.proofs.MaskLaws.{bit-lt, zeros-at, no-bits}
+use Rattle.split.proofs.MaskLaws.{zeros-at, no-bits}
 use Rattle.split.proofs.SplitLaws.{Proper}
 
 -- a test as a number
@@ -49,7 +49,8 @@ module _ (m : ℕ) (list sets : List ℕ) (end : End) where
   no-masks n block set = ap (λ (mask : ℕ). bitAt mask set) (zeros-at n block) ∙ no-bits set
 
   -- page k has its set there now
-  pub mask-more : (k : ℕ) (masks after : List ℕ) → Masks m list sets k end masks → FlippedAt masks (blockAt m list end k) (setOf sets k) after
+  pub mask-more : (k : ℕ) (masks after : List ℕ) → Masks m list sets k end masks
+      → FlippedAt masks (blockAt m list end k) (setOf sets k) after
       → Masks m list sets (k + 1) end after
   mask-more k masks after M flip block set =
       let e = count-snoc (isPageOf m list sets end block set) k in
@@ -59,7 +60,8 @@ module _ (m : ℕ) (list sets : List ℕ) (end : End) where
       let p = page-is block set k q in
       let f : bitAt (getD after block 0) set ≡ 1 - bitAt (getD masks block 0) set =
       subst (λ (at : ℕ). bitAt (getD after at 0) set ≡ 1 - bitAt (getD masks at 0) set) (p .0)
-      (subst (λ (bit : ℕ). bitAt (getD after (blockAt m list end k) 0) bit ≡ 1 - bitAt (getD masks (blockAt m list end k) 0) bit) (p .1) (flip .changed)) in
+      (subst (λ (bit : ℕ). bitAt (getD after (blockAt m list end k) 0) bit ≡ 1 - bitAt (getD masks (blockAt m list end k) 0) bit)
+      (p .1) (flip .changed)) in
       let r = rw q at e in
       omega arith)
       (λ (q : isPageOf m list sets end block set k ≡ false).
@@ -68,7 +70,8 @@ module _ (m : ℕ) (list sets : List ℕ) (end : End) where
       omega arith)
       (bool-cases (isPageOf m list sets end block set k))
     where
-      elsewhere : (block set k : ℕ) → isPageOf m list sets end block set k ≡ false → (block ≢ blockAt m list end k) ⊎ (set ≢ setOf sets k)
+      elsewhere : (block set k : ℕ) → isPageOf m list sets end block set k ≡ false
+          → (block ≢ blockAt m list end k) ⊎ (set ≢ setOf sets k)
       elsewhere block set k q = ⊎-elim
           (λ (p : block ≡ blockAt m list end k). inr (λ s. not-both (is-page block set k (sym p) (sym s)) q))
           (λ (p : block ≢ blockAt m list end k). inl p)
@@ -76,7 +79,8 @@ module _ (m : ℕ) (list sets : List ℕ) (end : End) where
 
   module _ (k : ℕ) (masks : List ℕ) (M : Masks m list sets k end masks) where
     -- a bit that is set has a page
-    pub bit-page : (block set : ℕ) → bitAt (getD masks block 0) set ≡ 1 → (x : ℕ) × (x < k) × (isPageOf m list sets end block set x ≡ true)
+    pub bit-page : (block set : ℕ) → bitAt (getD masks block 0) set ≡ 1 → (x : ℕ) × (x < k)
+        × (isPageOf m list sets end block set x ≡ true)
     bit-page block set e = ⊎-elim
         (λ (r : (x : ℕ) × (x < k) × (isPageOf m list sets end block set x ≡ true)). r)
         (λ (f : (x : ℕ) → x < k → isPageOf m list sets end block set x ≡ false).
@@ -86,7 +90,8 @@ module _ (m : ℕ) (list sets : List ℕ) (end : End) where
         (seek (isPageOf m list sets end block set) k)
 
     -- a page has its bit set, where no other page of its block has its set
-    pub page-bit : Proper k sets (blockAt m list end) → (block set x : ℕ) → x < k → isPageOf m list sets end block set x ≡ true → bitAt (getD masks block 0) set ≡ 1
+    pub page-bit : Proper k sets (blockAt m list end) → (block set x : ℕ) → x < k → isPageOf m list sets end block set x ≡ true
+        → bitAt (getD masks block 0) set ≡ 1
     page-bit proper block set x h e =
         let p = page-is block set x e in
         let one = count-one (isPageOf m list sets end block set) 0 k x (omega arith) (omega arith) e (λ y a b t.
@@ -102,7 +107,8 @@ count-cons test start n = ⊎-elim
     (λ (q : test start ≡ false). rw q (omega arith))
     (bool-cases (test start))
 
-pub count-same : (f g : ℕ → Bool) (start n : ℕ) → ((x : ℕ) → start ≤ x → x < start + n → f x ≡ g x) → count f (range start n) ≡ count g (range start n)
+pub count-same : (f g : ℕ → Bool) (start n : ℕ) → ((x : ℕ) → start ≤ x → x < start + n → f x ≡ g x)
+    → count f (range start n) ≡ count g (range start n)
 unfolding count range
 count-same f g start zero same = refl
 count-same f g start (suc n) same =
@@ -134,7 +140,8 @@ pub set-else : (sets : List ℕ) (p v x : ℕ) → x ≢ p → setOf (set sets p
 unfolding setOf
 set-else sets p v x ne = getD-set-other sets p x v 0 ne
 
-pub page-else : (m : ℕ) (list sets : List ℕ) (end : End) (p v block s x : ℕ) → x ≢ p → isPageOf m list sets end block s x ≡ isPageOf m list (set sets p v) end block s x
+pub page-else : (m : ℕ) (list sets : List ℕ) (end : End) (p v block s x : ℕ) → x ≢ p
+    → isPageOf m list sets end block s x ≡ isPageOf m list (set sets p v) end block s x
 unfolding isPageOf
 page-else m list sets end p v block s x ne = ap (λ (c : ℕ). eqb (blockAt m list end x) block && eqb c s) (sym (set-else sets p v x ne))
 
@@ -153,7 +160,8 @@ exchanged-not (inl e) s p q = ((λ r. p (r ∙ sym (e .0))), (λ r. q (r ∙ sym
 exchanged-not (inr e) s p q = ((λ r. q (r ∙ sym (e .1))), (λ r. p (r ∙ sym (e .0))))
 
 module _ (m : ℕ) (list sets : List ℕ) (end : End) (k : ℕ) (masks after : List ℕ) (M : Masks m list sets k end masks)
-    (p a b other : ℕ) (inside : p < k) (room : p < length sets) (differ : setOf sets p ≢ other) (pair : Exchanged a b (setOf sets p) other)
+    (p a b other : ℕ) (inside : p < k) (room : p < length sets) (differ : setOf sets p ≢ other)
+    (pair : Exchanged a b (setOf sets p) other)
     (flip : FlippedBoth masks (blockAt m list end p) a b after) where
   abbrev changed : List ℕ
   changed = set sets p other
@@ -172,7 +180,8 @@ module _ (m : ℕ) (list sets : List ℕ) (end : End) (k : ℕ) (masks after : L
   -- page p has the other of the two sets now
   pub mask-change : Masks m list changed k end after
   mask-change block s =
-      let c = count-change (isPageOf m list sets end block s) (isPageOf m list changed end block s) 0 k p (omega arith) (omega arith) (changed-else block s) in
+      let c = count-change (isPageOf m list sets end block s) (isPageOf m list changed end block s) 0 k p (omega arith)
+      (omega arith) (changed-else block s) in
       let bits = M block s in
       ⊎-elim
       (λ (q : block ≢ blockAt m list end p).
@@ -182,13 +191,19 @@ module _ (m : ℕ) (list sets : List ℕ) (end : End) (k : ℕ) (masks after : L
       (λ (q : block ≡ blockAt m list end p). ⊎-elim
       (λ (w : s ≡ setOf sets p).
       let f : bitAt (getD after block 0) s ≡ 1 - bitAt (getD masks block 0) s =
-      subst (λ (x : ℕ). bitAt (getD after x 0) s ≡ 1 - bitAt (getD masks x 0) s) (sym q) (flip .changed s (exchanged-of pair s (inl w))) in
-      let c′ = rw (is-page m list sets end block s p (sym q) (sym w), not-page changed block s (inr (λ e. differ (sym w ∙ e ∙ changed-set)))) at c in
+      subst (λ (x : ℕ). bitAt (getD after x 0) s ≡ 1 - bitAt (getD masks x 0) s) (sym q)
+      (flip .changed s (exchanged-of pair s (inl w))) in
+      let c′ = rw (
+        is-page m list sets end block s p (sym q) (sym w),
+        not-page changed block s
+            (inr (λ e. differ (sym w ∙ e ∙ changed-set))),
+      ) at c in
       omega arith)
       (λ (w : s ≢ setOf sets p). ⊎-elim
       (λ (i : s ≡ other).
       let f : bitAt (getD after block 0) s ≡ 1 - bitAt (getD masks block 0) s =
-      subst (λ (x : ℕ). bitAt (getD after x 0) s ≡ 1 - bitAt (getD masks x 0) s) (sym q) (flip .changed s (exchanged-of pair s (inr i))) in
+      subst (λ (x : ℕ). bitAt (getD after x 0) s ≡ 1 - bitAt (getD masks x 0) s) (sym q)
+      (flip .changed s (exchanged-of pair s (inr i))) in
       let c′ = rw (not-page sets block s (inr w), is-page m list changed end block s p (sym q) (changed-set ∙ sym i)) at c in
       omega arith)
       (λ (i : s ≢ other).
@@ -197,4 +212,5 @@ module _ (m : ℕ) (list sets : List ℕ) (end : End) (k : ℕ) (masks after : L
       omega arith)
       (eq-cases s other))
       (eq-cases s (setOf sets p)))
-      (⊎-elim (λ (q : block ≡ blockAt m list end p). inr q) (λ (q : block ≢ blockAt m list end p). inl q) (eq-cases block (blockAt m list end p)))
+      (⊎-elim (λ (q : block ≡ blockAt m list end p). inr q) (λ (q : block ≢ blockAt m list end p). inl q)
+      (eq-cases block (blockAt m list end p)))

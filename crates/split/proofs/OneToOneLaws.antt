@@ -1,17 +1,16 @@
 -- What the check of a list says: each entry is in range and none is met twice, so that a list of its length is a permutation.
-use mathlib.Core.Path.{_≡_, refl, sym, ap, _∙_}
-use mathlib.Core.Logic.{⊎-elim}
-use mathlib.Core.Bool.{Bool, true, false, _||_, not}
+use mathlib.Core.Path.{_≡_, refl, sym, ap}
+use mathlib.Core.Bool.{true, false}
 use mathlib.Core.List.{List, [], _∷_}
-use Prim.Native.Nat.{ℕ, zero, suc, _≤_, _<_}
+use Prim.Native.Nat.{ℕ, zero, suc, _<_}
 use native.Mathlib.Nat.{not-suc-le-zero}
 use native.Mathlib.Omega.{arith}
 use lib.Dec.{eqb, leb}
 use lib.ListN.{length, getD}
-use borrow.Author.Tests.{eqb-true, eq-eqb, le-leb, lt-leb, leb-true, leb-false, not-true}
+use borrow.Author.Tests.{eqb-true, eq-eqb, leb-true, leb-false, not-true}
 use Rattle.flash.specs.Lists.{any}
 use Rattle.split.specs.OneToOne.{metTwice, badList, isOneToOne}
-use Rattle.split.proofs.Lists.{bool-cases, not-both, false-of, or-left, or-right, any-none, any-find}
+use Rattle.split.proofs.Lists.{not-both, false-of, or-left, or-right, any-none, any-find}
 use Rattle.split.proofs.Pigeon.{onto}
 
 abbrev pub Distinct : List ℕ → Type 0
@@ -24,7 +23,8 @@ distinct-at (x ∷ xs) e zero zero h l q = refl
 distinct-at (x ∷ xs) e zero (suc j) h l q =
     absurd (not-both (eq-eqb x (getD xs j 0) q) (any-none (eqb x) xs (or-left (any (eqb x) xs) (metTwice xs) e) j 0 (omega arith)))
 distinct-at (x ∷ xs) e (suc i) zero h l q =
-    absurd (not-both (eq-eqb x (getD xs i 0) (sym q)) (any-none (eqb x) xs (or-left (any (eqb x) xs) (metTwice xs) e) i 0 (omega arith)))
+    absurd (not-both (eq-eqb x (getD xs i 0) (sym q))
+    (any-none (eqb x) xs (or-left (any (eqb x) xs) (metTwice xs) e) i 0 (omega arith)))
 distinct-at (x ∷ xs) e (suc i) (suc j) h l q =
     ap suc (distinct-at xs (or-right (any (eqb x) xs) (metTwice xs) e) i j (omega arith) (omega arith) q)
 
@@ -61,11 +61,13 @@ module _ (originals : ℕ) (list : List ℕ) where
 
     pub entry-lt : (k : ℕ) → k < length list → getD list k 0 < originals
     unfolding badList
-    entry-lt k h = leb-false originals (getD list k 0) (any-none (leb originals) list (or-left (any (leb originals) list) (metTwice list) good) k 0 h)
+    entry-lt k h = leb-false originals (getD list k 0)
+        (any-none (leb originals) list (or-left (any (leb originals) list) (metTwice list) good) k 0 h)
 
     pub entry-same : Distinct list
     unfolding badList
     entry-same = distinct-at list (or-right (any (leb originals) list) (metTwice list) good)
 
     pub entry-onto : length list ≡ originals → (x : ℕ) → x < originals → (k : ℕ) × (k < originals) × (getD list k 0 ≡ x)
-    entry-onto e = onto originals (λ k. getD list k 0) (λ k h. entry-lt k (omega arith)) (λ i j h l q. entry-same i j (omega arith) (omega arith) q)
+    entry-onto e = onto originals (λ k. getD list k 0) (λ k h. entry-lt k (omega arith))
+        (λ i j h l q. entry-same i j (omega arith) (omega arith) q)

@@ -1,18 +1,18 @@
 -- The search for a page of the walk, place by place, and what it finds.
-use mathlib.Core.Path.{_≡_, refl, sym, ap, ap₂, _∙_, subst}
-use mathlib.Core.Logic.{_⊎_, inl, inr, _≢_, ⊎-elim}
+use mathlib.Core.Path.{_≡_, refl, sym, ap, _∙_, subst}
+use mathlib.Core.Logic.{_⊎_, _≢_, ⊎-elim}
 use mathlib.Core.List.{List}
-use Prim.Native.Nat.{ℕ, zero, suc, _+_, _-_, _*_, _/_, _%_, _≤_, _<_}
+use Prim.Native.Nat.{ℕ, suc, _+_, _-_, _*_, _/_, _%_, _≤_, _<_}
 use native.Mathlib.Nat.{suc-mul, div-add-mod', mod-lt, mul-le-mul, mul-le-mul-right}
 use native.Mathlib.Omega.{arith}
-use lib.ListN.{length, getD}
+use lib.ListN.{getD}
 use Rattle.flash.specs.Geometry.{blockOf}
-use Rattle.split.specs.Split.{sourceBlock, destBlock, setOf}
+use Rattle.split.specs.Split.{setOf}
 use Rattle.split.specs.Rule.{End, source, destination, blockAt}
-use Rattle.split.specs.Ends.{Accepted}
+use Rattle.split.specs.Accepted.{Accepted}
 use Rattle.split.specs.Work.{Inverse, pageIn, Found}
 use Rattle.split.proofs.Lists.{lt-cases}
-use Rattle.split.proofs.OneToOneLaws.{entry-lt, entry-onto}
+use Rattle.split.proofs.OneToOneLaws.{entry-onto}
 use Rattle.split.proofs.SplitLaws.{place-block}
 use Rattle.split.proofs.RuleLaws.{placeAt, at-place, blocks}
 use Rattle.split.proofs.Turns.{FoundPage}
@@ -25,7 +25,8 @@ block-end m block h = ap (λ (b : ℕ). b * m) (omega arith) ∙ suc-mul (block 
 pub record Searched (from sets : List ℕ) (m k : ℕ) (end : End) (block set place : ℕ) : Type 0 where
   pub low : (block - 1) * m ≤ place
   pub high : place ≤ block * m
-  pub none : (before : ℕ) → (block - 1) * m ≤ before → before < place → pageIn from end before < k → setOf sets (pageIn from end before) ≢ set
+  pub none : (before : ℕ) → (block - 1) * m ≤ before → before < place → pageIn from end before < k
+      → setOf sets (pageIn from end before) ≢ set
 
 module _ (from sets : List ℕ) (m k : ℕ) (end : End) (block set : ℕ) where
   pub search-start : 1 ≤ block → Searched from sets m k end block set (block * m - m)
@@ -78,7 +79,13 @@ module _ (n m : ℕ) (list : List ℕ) (A : Accepted n m list) where
       let b = blocks n m list (A .listed) (A .one-to-one) end x h in
       let f = A .n-fits in
       let r : block ≤ 64 = omega arith in
-      record { low = omega arith; high = omega arith; fits = mul-le-mul {n₁ = block} {m₁ = m} {n₂ = 64} {m₂ = 64} r (A .m-fits); small = omega arith }
+      record {
+        low = omega arith;
+        high = omega arith;
+        fits = mul-le-mul {n₁ = block} {m₁ = m} {n₂ = 64} {m₂ = 64} r
+            (A .m-fits);
+        small = omega arith;
+      }
 
 module _ (n m : ℕ) (list from : List ℕ) (A : Accepted n m list) (inverse : Inverse list from) where
   -- a page's place is where it is looked for
@@ -92,7 +99,8 @@ module _ (n m : ℕ) (list from : List ℕ) (A : Accepted n m list) (inverse : I
   place-in source place h = refl
   place-in destination place h =
       let r = entry-onto (n * m) list (A .one-to-one) (A .listed) place h in
-      ap (λ (p : ℕ). getD list (getD from p 0) 0) (sym (r .2)) ∙ ap (λ (k : ℕ). getD list k 0) (inverse (r .0) (rw (A .listed) (r .1))) ∙ r .2
+      ap (λ (p : ℕ). getD list (getD from p 0) 0) (sym (r .2))
+      ∙ ap (λ (k : ℕ). getD list k 0) (inverse (r .0) (rw (A .listed) (r .1))) ∙ r .2
 
   -- the places of a block
   block-of : (block place : ℕ) → 1 ≤ block → (block - 1) * m ≤ place → place < block * m → blockOf m place ≡ block
@@ -119,8 +127,11 @@ module _ (n m : ℕ) (list from : List ℕ) (A : Accepted n m list) (inverse : I
         let g = f .hit h in
         let t = g .0 in
         let b = block-of block t low (g .1) (g .2) in
-        let inside : t < n * m = omega (arith, g .2, mul-le-mul-right m high) in
-        (at-place m list end r ∙ ap (λ (x : ℕ). blockOf m (placeAt list end x)) (sym (g .3)) ∙ ap (blockOf m) (place-in end t inside) ∙ b, g .4));
+        let inside : t < n * m = omega (arith, g .2, mul-le-mul-right m high) in (
+          at-place m list end r ∙ ap (λ (x : ℕ). blockOf m (placeAt list end x)) (sym (g .3))
+              ∙ ap (blockOf m) (place-in end t inside) ∙ b,
+          g .4,
+        ));
     none = λ e x h v c.
         let t = placeAt list end x in
         let is : pageIn from end t ≡ x = page-in end x (omega arith) in

@@ -1,5 +1,5 @@
 -- The pigeonhole principle, and what it says of a one-to-one map of the numbers below n.
-use mathlib.Core.Path.{_≡_, refl, sym, ap, _∙_, subst}
+use mathlib.Core.Path.{_≡_, sym, _∙_}
 use mathlib.Core.Logic.{_⊎_, inl, inr, _≢_, ⊎-elim}
 use mathlib.Core.Bool.{Bool, true, false, cond}
 use Prim.Native.Nat.{ℕ, zero, suc, _+_, _≤_, _<_}
@@ -64,7 +64,14 @@ pigeon (suc n) g h = go (seek (λ i. eqb (g i) (g (suc n))) (suc n)) (pigeon n (
 
         done : Twice n (squeezed n g) → Twice (suc n) g
         done t =
-            record { one = t .one; two = t .two; order = t .order; bound = omega arith; same = same (eq-cases (g (t .one)) n) (eq-cases (g (t .two)) n) }
+            record {
+              one = t .one;
+              two = t .two;
+              order = t .order;
+              bound = omega arith;
+              same = same (eq-cases (g (t .one)) n)
+                  (eq-cases (g (t .two)) n);
+            }
           where
             low : t .one ≤ n
             low = omega arith

@@ -1,7 +1,7 @@
 -- The split rule ends in a split: each page in turn finds a set that is unused at its source, and at its destination after the exchange.
 use mathlib.Core.Path.{_≡_, refl, sym, ap, ap₂, _∙_, subst}
 use mathlib.Core.Logic.{_⊎_, inl, inr, _≢_, ⊎-elim}
-use mathlib.Core.Bool.{Bool, true, false, cond, not}
+use mathlib.Core.Bool.{true, false, not}
 use mathlib.Core.List.{List, [], _∷_, _++_}
 use Prim.Native.Nat.{ℕ, zero, suc, _+_, _-_, _*_, _/_, _%_, _≤_, _<_}
 use native.Mathlib.Nat.{not-suc-le-zero, div-add-mod', mod-lt}
@@ -9,15 +9,15 @@ use native.Mathlib.Omega.{arith}
 use lib.ListN.{length, getD, length-append, List·getD-append}
 use lib.Seq.{getD-at}
 use borrow.Author.Tests.{not-true, not-false}
-use Rattle.flash.specs.Lists.{range, any, first}
+use Rattle.flash.specs.Lists.{first}
 use Rattle.flash.specs.Geometry.{blockOf}
 use Rattle.split.specs.OneToOne.{isOneToOne}
 use Rattle.split.specs.Split.{sourceBlock, destBlock, setOf, isSplit}
-use Rattle.split.specs.Rule.{End, source, destination, otherEnd, blockAt, isPageOf, isUsed, lowestUnused, pagesMet, exchange, giveNext, setsGiven, splitByRule}
-use Rattle.split.proofs.Lists.{bool-cases, not-both, false-of, any-range-at, any-range-find, first-cases, Hit, Missed, lt-cases}
+use Rattle.split.specs.Rule.{End, source, destination, blockAt, isPageOf, isUsed, lowestUnused, pagesMet, exchange, giveNext, setsGiven, splitByRule}
+use Rattle.split.proofs.Lists.{bool-cases, not-both, any-range-at, any-range-find, first-cases, Hit, Missed, lt-cases}
 use Rattle.split.proofs.Pigeon.{crowded}
 use Rattle.split.proofs.OneToOneLaws.{entry-lt, entry-same}
-use Rattle.split.proofs.SplitLaws.{PageOf, Proper, some-page, block-range, split-of}
+use Rattle.split.proofs.SplitLaws.{some-page, block-range, split-of}
 use Rattle.split.proofs.Walk.{Coloured, PageAt, page-test, test-page, pageAt, page-found, walk-ends, path-bound, path-length}
 use Rattle.split.proofs.Exchange.{exchange-length, after-coloured, free-source, free-destination}
 
@@ -28,18 +28,22 @@ module _ (m : ℕ) (list given : List ℕ) where
       let r = any-range-find (isPageOf m list given end block set) 0 (length given) e in
       (r .0, test-page m list given end block set (r .0) (omega (arith, r .2)) (r .3))
 
-  pub unused-none : (end : End) (block set : ℕ) → isUsed m list given end block set ≡ false → (k : ℕ) → PageAt m list given end block set k → ⊥
+  pub unused-none : (end : End) (block set : ℕ) → isUsed m list given end block set ≡ false → (k : ℕ)
+      → PageAt m list given end block set k → ⊥
   unfolding isUsed
   unused-none end block set e k p =
       let h = p .inside in
-      not-both (any-range-at (isPageOf m list given end block set) 0 (length given) k (omega arith) (omega arith) (page-test m list given end block set k p)) e
+      not-both (any-range-at (isPageOf m list given end block set) 0 (length given) k (omega arith) (omega arith)
+      (page-test m list given end block set k p)) e
 
   -- one page more, with a set that neither of its blocks uses
   pub grown : (set k : ℕ) → length given ≡ k → Coloured m list given → set < m
-      → ((end : End) (x : ℕ) → x < k → blockAt m list end x ≡ blockAt m list end k → setOf given x ≢ set) → Coloured m list (given ++ (set ∷ []))
+      → ((end : End) (x : ℕ) → x < k → blockAt m list end x ≡ blockAt m list end k → setOf given x ≢ set)
+      → Coloured m list (given ++ (set ∷ []))
   unfolding setOf
   grown set k len C small fresh = record {
-    small = λ x h. ⊎-elim (λ (l : x < k). rw (old x l) (C .small x (omega arith))) (λ (l : k ≤ x). rw (new x h l .1) small) (lt-cases x k);
+    small = λ x h. ⊎-elim (λ (l : x < k). rw (old x l) (C .small x (omega arith))) (λ (l : k ≤ x). rw (new x h l .1) small)
+        (lt-cases x k);
     proper = λ end x y h l v c. go end x y h l v c (lt-cases x k) (lt-cases y k);
   }
     where
@@ -51,7 +55,8 @@ module _ (m : ℕ) (list given : List ℕ) where
           let e : x ≡ k = omega (arith, length-append given (set ∷ [])) in
           (e, ap (λ (i : ℕ). getD (given ++ (set ∷ [])) i 0) e ∙ getD-at given set [] 0 k len)
 
-      go : (end : End) (x y : ℕ) → x < length (given ++ (set ∷ [])) → y < length (given ++ (set ∷ [])) → blockAt m list end x ≡ blockAt m list end y
+      go : (end : End) (x y : ℕ) → x < length (given ++ (set ∷ [])) → y < length (given ++ (set ∷ []))
+          → blockAt m list end x ≡ blockAt m list end y
           → setOf (given ++ (set ∷ [])) x ≡ setOf (given ++ (set ∷ [])) y → (x < k) ⊎ (k ≤ x) → (y < k) ⊎ (k ≤ y) → x ≡ y
       go end x y h l v c (inl p) (inl q) = C .proper end x y (omega arith) (omega arith) v (sym (old x p) ∙ c ∙ old y q)
       go end x y h l v c (inl p) (inr q) =
@@ -95,7 +100,8 @@ module _ (n m : ℕ) (list : List ℕ) (listed : length list ≡ n * m) (accepte
 
     -- A block has m places, and page k has one of them, so not all of the m sets are used there.
     not-all : (end : End) → ((set : ℕ) → set < m → isUsed m list given end (blockAt m list end k) set ≡ true) → ⊥
-    not-all end f = crowded m (λ set. placeAt list end (page set) % m) (placeAt list end k % m) (mod-lt _ positive) (λ set h. mod-lt _ positive) differ apart
+    not-all end f = crowded m (λ set. placeAt list end (page set) % m) (placeAt list end k % m) (mod-lt _ positive)
+        (λ set h. mod-lt _ positive) differ apart
       where
         page : ℕ → ℕ
         page set = pageAt m list given end (blockAt m list end k) set
@@ -107,9 +113,11 @@ module _ (n m : ℕ) (list : List ℕ) (listed : length list ≡ n * m) (accepte
             let u = used-page m list given end (blockAt m list end k) set (f set h) in absurd (q .1 (u .0) (u .1)))
             (page-found m list given end (blockAt m list end k) set)
 
-        same : (x y : ℕ) → x < n * m → y < n * m → blockAt m list end x ≡ blockAt m list end y → placeAt list end x % m ≡ placeAt list end y % m → x ≡ y
+        same : (x y : ℕ) → x < n * m → y < n * m → blockAt m list end x ≡ blockAt m list end y
+            → placeAt list end x % m ≡ placeAt list end y % m → x ≡ y
         same x y h l v r =
-            place-same end x y h l (same-place m (placeAt list end x) (placeAt list end y) (sym (at-place m list end x) ∙ v ∙ at-place m list end y) r)
+            place-same end x y h l (same-place m (placeAt list end x) (placeAt list end y)
+            (sym (at-place m list end x) ∙ v ∙ at-place m list end y) r)
 
         differ : (i j : ℕ) → i < m → j < m → placeAt list end (page i) % m ≡ placeAt list end (page j) % m → i ≡ j
         differ i j h l r =
@@ -125,21 +133,26 @@ module _ (n m : ℕ) (list : List ℕ) (listed : length list ≡ n * m) (accepte
             let e : page i ≡ k = same (page i) k (omega arith) room (p .at-block) r in
             omega arith
 
-    pub lowest : (end : End) → Hit (λ set. not (isUsed m list given end (blockAt m list end k) set)) 0 m (lowestUnused m list given end (blockAt m list end k))
+    pub lowest : (end : End) → Hit (λ set. not (isUsed m list given end (blockAt m list end k) set)) 0 m
+        (lowestUnused m list given end (blockAt m list end k))
     unfolding lowestUnused
     lowest end = ⊎-elim
-        (λ (h : Hit (λ set. not (isUsed m list given end (blockAt m list end k) set)) 0 m (lowestUnused m list given end (blockAt m list end k))). h)
-        (λ (h : Missed (λ set. not (isUsed m list given end (blockAt m list end k) set)) 0 m m (lowestUnused m list given end (blockAt m list end k))).
+        (λ (h : Hit (λ set. not (isUsed m list given end (blockAt m list end k) set)) 0 m
+        (lowestUnused m list given end (blockAt m list end k))). h)
+        (λ (h : Missed (λ set. not (isUsed m list given end (blockAt m list end k) set)) 0 m m
+        (lowestUnused m list given end (blockAt m list end k))).
         absurd (not-all end (λ set l. not-false _ (h .none set (omega arith) (omega arith)))))
         (first-cases (λ set. not (isUsed m list given end (blockAt m list end k) set)) 0 m m)
 
     pub lowest-lt : (end : End) → lowestUnused m list given end (blockAt m list end k) < m
     lowest-lt end = let h = lowest end .high in omega arith
 
-    pub lowest-unused : (end : End) → isUsed m list given end (blockAt m list end k) (lowestUnused m list given end (blockAt m list end k)) ≡ false
+    pub lowest-unused : (end : End) → isUsed m list given end (blockAt m list end k)
+        (lowestUnused m list given end (blockAt m list end k)) ≡ false
     lowest-unused end = not-true _ (lowest end .hit)
 
-    pub lowest-none : (end : End) (x : ℕ) → PageAt m list given end (blockAt m list end k) (lowestUnused m list given end (blockAt m list end k)) x → ⊥
+    pub lowest-none : (end : End) (x : ℕ) → PageAt m list given end (blockAt m list end k)
+        (lowestUnused m list given end (blockAt m list end k)) x → ⊥
     lowest-none end = unused-none m list given end (blockAt m list end k) _ (lowest-unused end)
 
     abbrev pub a : ℕ
@@ -150,7 +163,8 @@ module _ (n m : ℕ) (list : List ℕ) (listed : length list ≡ n * m) (accepte
 
     -- a page holds a at the destination, so that a is not the set b
     differ : (first : ℕ) → PageAt m list given destination (blockAt m list destination k) a first → a ≢ b
-    differ first p e = lowest-none destination first (subst (λ (set : ℕ). PageAt m list given destination (blockAt m list destination k) set first) e p)
+    differ first p e = lowest-none destination first
+        (subst (λ (set : ℕ). PageAt m list given destination (blockAt m list destination k) set first) e p)
 
     pub next-coloured : Coloured m list (giveNext m list given)
     unfolding giveNext
@@ -159,7 +173,8 @@ module _ (n m : ℕ) (list : List ℕ) (listed : length list ≡ n * m) (accepte
         let f = used-page m list given destination (blockAt m list destination k) a u in
         let d = differ (f .0) (f .1) in
         rw u (grown m list _ a k (exchange-length m list given a b _)
-        (after-coloured m list given C a b d (blockAt m list destination k) (lowest-none destination) (lowest-lt source) (lowest-lt destination))
+        (after-coloured m list given C a b d (blockAt m list destination k) (lowest-none destination) (lowest-lt source)
+        (lowest-lt destination))
         (lowest-lt source)
         (exchanged (f .0) (f .1) d)))
         (λ (u : isUsed m list given destination (blockAt m list destination k) a ≡ false).
@@ -169,19 +184,26 @@ module _ (n m : ℕ) (list : List ℕ) (listed : length list ≡ n * m) (accepte
         exchanged : (first : ℕ) → PageAt m list given destination (blockAt m list destination k) a first → (d : a ≢ b)
             → (end : End) (x : ℕ) → x < k → blockAt m list end x ≡ blockAt m list end k
             → setOf (exchange m list given a b (pagesMet m list given k destination (blockAt m list destination k) a b)) x ≢ a
-        exchanged first p d source = free-source m list given C a b d (blockAt m list destination k) (lowest-none destination) (blockAt m list source k) (lowest-none source)
-        exchanged first p d destination = free-destination m list given C a b d (blockAt m list destination k) (lowest-none destination) first p
+        exchanged first p d source = free-source m list given C a b d (blockAt m list destination k) (lowest-none destination)
+            (blockAt m list source k) (lowest-none source)
+        exchanged first p d destination = free-destination m list given C a b d (blockAt m list destination k)
+            (lowest-none destination) first p
 
         plain : isUsed m list given destination (blockAt m list destination k) a ≡ false
             → (end : End) (x : ℕ) → x < k → blockAt m list end x ≡ blockAt m list end k → setOf given x ≢ a
         plain u source x h v c = lowest-none source x (record { inside = h; in-set = c; at-block = v })
-        plain u destination x h v c = unused-none m list given destination (blockAt m list destination k) a u x (record { inside = h; in-set = c; at-block = v })
+        plain u destination x h v c = unused-none m list given destination (blockAt m list destination k) a u x
+            (record { inside = h; in-set = c; at-block = v })
 
     pub next-length : length (giveNext m list given) ≡ suc k
     unfolding giveNext
     next-length = ⊎-elim
         (λ (u : isUsed m list given destination (blockAt m list destination k) a ≡ true).
-        rw (u, length-append) (omega (arith, exchange-length m list given a b (pagesMet m list given k destination (blockAt m list destination k) a b))))
+        rw (u, length-append) (omega (
+          arith,
+          exchange-length m list given a b
+              (pagesMet m list given k destination (blockAt m list destination k) a b),
+        )))
         (λ (u : isUsed m list given destination (blockAt m list destination k) a ≡ false). rw (u, length-append) (omega arith))
         (bool-cases (isUsed m list given destination (blockAt m list destination k) a))
 
@@ -190,7 +212,8 @@ module _ (n m : ℕ) (list : List ℕ) (listed : length list ≡ n * m) (accepte
         → pagesMet m list given bound destination (blockAt m list destination k) a b ≡ []
     unfolding pagesMet
     no-walk u zero = refl
-    no-walk u (suc bound) = walk-ends m list given bound destination (blockAt m list destination k) a b (unused-none m list given destination (blockAt m list destination k) a u) .1
+    no-walk u (suc bound) = walk-ends m list given bound destination (blockAt m list destination k) a b
+        (unused-none m list given destination (blockAt m list destination k) a u) .1
 
     pub walk-bound : (more : ℕ) → pagesMet m list given (k + more) destination (blockAt m list destination k) a b
         ≡ pagesMet m list given k destination (blockAt m list destination k) a b

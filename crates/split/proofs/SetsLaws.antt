@@ -1,18 +1,19 @@
 -- The check of set bytes: pages with different sets at each block, so far.
-use mathlib.Core.Path.{_≡_, refl, sym, ap, _∙_, subst}
+use mathlib.Core.Path.{_≡_, sym, ap, _∙_, subst}
 use mathlib.Core.Logic.{_⊎_, inl, inr, _≢_, ⊎-elim}
 use mathlib.Core.Bool.{Bool, true, false}
 use mathlib.Core.List.{List}
-use Prim.Native.Nat.{ℕ, zero, suc, _+_, _*_, _≤_, _<_}
+use Prim.Native.Nat.{ℕ, _+_, _*_, _≤_, _<_}
 use native.Mathlib.Nat.{not-suc-le-zero}
 use native.Mathlib.Omega.{arith}
 use lib.Dec.{eqb}
 use lib.ListN.{length, getD, replicate}
 use borrow.Author.Tests.{eqb-true, eqb-false}
 use Rattle.split.specs.Split.{setOf, isSplit}
-use Rattle.split.specs.Rule.{End, source, destination, blockAt, isPageOf}
+use Rattle.split.specs.Rule.{End, source, destination, blockAt}
 use Rattle.split.specs.Mask.{bitAt, FlippedAt}
-use Rattle.split.specs.Ends.{Accepted, Masks}
+use Rattle.split.specs.Accepted.{Accepted}
+use Rattle.split.specs.Ends.{Masks}
 use Rattle.split.proofs.Lists.{false-of, lt-cases}
 use Rattle.split.proofs.SplitLaws.{Proper, set-lt, same-from, same-to, split-of}
 use Rattle.split.proofs.RuleLaws.{blocks}
@@ -39,7 +40,8 @@ none-yet n m blocks list sets = record {
 abbrev pub Flips : (at set : ℕ) → (masks after : List ℕ) → (was : Bool) → Type 0
 Flips at set masks after was = (was ≡ eqb (bitAt (getD masks at 0) set) 1) × FlippedAt masks at set after
 
-pub flips-at : {at at′ set set′ : ℕ} {masks after : List ℕ} {was : Bool} → at ≡ at′ → set ≡ set′ → Flips at set masks after was → Flips at′ set′ masks after was
+pub flips-at : {at at′ set set′ : ℕ} {masks after : List ℕ} {was : Bool} → at ≡ at′ → set ≡ set′ → Flips at set masks after was
+    → Flips at′ set′ masks after was
 flips-at {at} {at′} {set} {set′} {masks} {after} {was} p q f =
     subst (λ (b : ℕ). Flips b set′ masks after was) p (subst (λ (s : ℕ). Flips at s masks after was) q f)
 
@@ -75,11 +77,13 @@ module _ (n m : ℕ) (list sets : List ℕ) (A : Accepted n m list) (len : lengt
 
     pub one-more : k < n * m → setOf sets k < m
         → (from′ to′ : List ℕ) (was-from was-to : Bool)
-        → Flips (blockAt m list source k) (setOf sets k) from from′ was-from → Flips (blockAt m list destination k) (setOf sets k) to to′ was-to
+        → Flips (blockAt m list source k) (setOf sets k) from from′ was-from
+        → Flips (blockAt m list destination k) (setOf sets k) to to′ was-to
         → was-from ≡ false → was-to ≡ false → SoFar n m list sets from′ to′ (k + 1)
     one-more h l from′ to′ was-from was-to f t no-from no-to = record {
       within = omega arith;
-      small = λ x a. ⊎-elim (λ (b : x < k). S .small x b) (λ (b : k ≤ x). let e : k ≡ x = omega arith in subst (λ (y : ℕ). setOf sets y < m) e l) (lt-cases x k);
+      small = λ x a. ⊎-elim (λ (b : x < k). S .small x b)
+          (λ (b : k ≤ x). let e : k ≡ x = omega arith in subst (λ (y : ℕ). setOf sets y < m) e l) (lt-cases x k);
       proper = proper;
       from-masks = mask-more m list sets source k from from′ (S .from-masks) (f .1);
       to-masks = mask-more m list sets destination k to to′ (S .to-masks) (t .1);
@@ -88,15 +92,19 @@ module _ (n m : ℕ) (list sets : List ℕ) (A : Accepted n m list) (len : lengt
         -- no page before k shares a block and the set with it
         fresh : (end : End) (x : ℕ) → x < k → blockAt m list end x ≡ blockAt m list end k → setOf sets x ≢ setOf sets k
         fresh source x a v c =
-            eqb-false _ 1 (sym (f .0) ∙ no-from) (page-bit m list sets source k from (S .from-masks) (S .proper source) _ _ x a (is-page m list sets source _ _ x v c))
+            eqb-false _ 1 (sym (f .0) ∙ no-from) (page-bit m list sets source k from (S .from-masks) (S .proper source) _ _ x a
+            (is-page m list sets source _ _ x v c))
         fresh destination x a v c =
-            eqb-false _ 1 (sym (t .0) ∙ no-to) (page-bit m list sets destination k to (S .to-masks) (S .proper destination) _ _ x a (is-page m list sets destination _ _ x v c))
+            eqb-false _ 1 (sym (t .0) ∙ no-to) (page-bit m list sets destination k to (S .to-masks) (S .proper destination) _ _ x a
+            (is-page m list sets destination _ _ x v c))
 
         proper : (end : End) → Proper (k + 1) sets (blockAt m list end)
         proper end x y a b v c = go (lt-cases x k) (lt-cases y k)
           where
             go : (x < k) ⊎ (k ≤ x) → (y < k) ⊎ (k ≤ y) → x ≡ y
             go (inl p) (inl q) = S .proper end x y p q v c
-            go (inl p) (inr q) = let e : y ≡ k = omega arith in absurd (fresh end x p (v ∙ ap (blockAt m list end) e) (c ∙ ap (setOf sets) e))
-            go (inr p) (inl q) = let e : x ≡ k = omega arith in absurd (fresh end y q (sym v ∙ ap (blockAt m list end) e) (sym c ∙ ap (setOf sets) e))
+            go (inl p) (inr q) = let e : y ≡ k = omega arith in absurd
+                (fresh end x p (v ∙ ap (blockAt m list end) e) (c ∙ ap (setOf sets) e))
+            go (inr p) (inl q) = let e : x ≡ k = omega arith in absurd
+                (fresh end y q (sym v ∙ ap (blockAt m list end) e) (sym c ∙ ap (setOf sets) e))
             go (inr p) (inr q) = omega arith

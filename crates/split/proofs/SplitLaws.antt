@@ -1,10 +1,10 @@
 -- What a split says: each set has just one page from each data block and just one page to each; and what makes one.
 -- The layer above relies on these laws and on nothing of the rule.
-use mathlib.Core.Path.{_≡_, refl, sym, ap, ap₂, _∙_}
-use mathlib.Core.Bool.{Bool, true, false, _&&_}
+use mathlib.Core.Path.{_≡_, refl, sym, ap, _∙_}
+use mathlib.Core.Bool.{true, _&&_}
 use mathlib.Core.List.{List}
-use Prim.Native.Nat.{ℕ, zero, suc, _+_, _-_, _*_, _/_, _%_, _≤_, _<_}
-use native.Mathlib.Nat.{mul-le-mul-right, suc-mul, div-lt-iff-lt-mul, mul-add-div-right, div-eq-of-lt, mul-zero, div-add-mod'}
+use Prim.Native.Nat.{ℕ, zero, suc, _+_, _-_, _*_, _/_, _≤_, _<_}
+use native.Mathlib.Nat.{mul-le-mul-right, suc-mul, div-lt-iff-lt-mul, mul-add-div-right, div-eq-of-lt, mul-zero}
 use native.Mathlib.Omega.{arith}
 use lib.Dec.{eqb, ltb}
 use lib.ListN.{length, getD}
@@ -51,10 +51,12 @@ module _ (n m : ℕ) (list sets : List ℕ) (split : isSplit n m list sets ≡ t
   unfolding isSplit setOf
   set-lt k h = ltb-true (getD sets k 0) m (all-at (λ set. ltb set m) sets (and-left (all (λ set. ltb set m) sets) _ split) k 0 h)
 
-  ones : (set block : ℕ) → set < m → 1 ≤ block → block ≤ n → (eqb (pagesFrom n m list sets set block) 1 && eqb (pagesTo n m list sets set block) 1) ≡ true
+  ones : (set block : ℕ) → set < m → 1 ≤ block → block ≤ n
+      → (eqb (pagesFrom n m list sets set block) 1 && eqb (pagesTo n m list sets set block) 1) ≡ true
   unfolding isSplit
   ones set block h l u =
-      all-range-at _ 1 n (all-range-at _ 0 m (and-right (all (λ set. ltb set m) sets) _ split) set (omega arith) (omega arith)) block l (omega arith)
+      all-range-at _ 1 n (all-range-at _ 0 m (and-right (all (λ set. ltb set m) sets) _ split) set (omega arith)
+      (omega arith)) block l (omega arith)
 
   from-one : (set block : ℕ) → set < m → 1 ≤ block → block ≤ n → pagesFrom n m list sets set block ≡ 1
   from-one set block h l u = eqb-true _ 1 (and-left _ (eqb (pagesTo n m list sets set block) 1) (ones set block h l u))
@@ -63,7 +65,8 @@ module _ (n m : ℕ) (list sets : List ℕ) (split : isSplit n m list sets ≡ t
   to-one set block h l u = eqb-true _ 1 (and-right (eqb (pagesFrom n m list sets set block) 1) _ (ones set block h l u))
 
   -- at one end: `block` is the block of each page there
-  module _ (block : ℕ → ℕ) (one : (set at : ℕ) → set < m → 1 ≤ at → at ≤ n → count (λ k. eqb (setOf sets k) set && eqb (block k) at) (range 0 (n * m)) ≡ 1) where
+  module _ (block : ℕ → ℕ) (one : (set at : ℕ) → set < m → 1 ≤ at → at ≤ n
+      → count (λ k. eqb (setOf sets k) set && eqb (block k) at) (range 0 (n * m)) ≡ 1) where
     a-page : (set at : ℕ) → set < m → 1 ≤ at → at ≤ n → (k : ℕ) × PageOf (n * m) sets block set at k
     a-page set at h l u =
         let r = count-one-at _ 0 (n * m) (one set at h l u) in
@@ -79,7 +82,8 @@ module _ (n m : ℕ) (list sets : List ℕ) (split : isSplit n m list sets ≡ t
     proper : length sets ≡ n * m → ((k : ℕ) → k < n * m → (1 ≤ block k) × (block k ≤ n)) → Proper (n * m) sets block
     proper len blocks x y h l b s =
         let e = one (setOf sets y) (block y) (set-lt y (omega arith)) (blocks y l .0) (blocks y l .1) in
-        count-one-same (λ k. eqb (setOf sets k) (setOf sets y) && eqb (block k) (block y)) 0 (n * m) e x y (omega arith) (omega arith) (omega arith) (omega arith)
+        count-one-same (λ k. eqb (setOf sets k) (setOf sets y) && eqb (block k) (block y)) 0 (n * m) e x y (omega arith)
+        (omega arith) (omega arith) (omega arith)
         (and-both _ _ (eq-eqb (setOf sets x) (setOf sets y) s) (eq-eqb (block x) (block y) b))
         (and-both _ _ (eq-eqb (setOf sets y) (setOf sets y) refl) (eq-eqb (block y) (block y) refl))
 
@@ -99,12 +103,14 @@ module _ (n m : ℕ) (list sets : List ℕ) (split : isSplit n m list sets ≡ t
 
   pub same-to : length sets ≡ n * m → length list ≡ n * m → isOneToOne (n * m) list ≡ true → Proper (n * m) sets (destBlock m list)
   unfolding pagesTo destBlock
-  same-to len listed accepted = proper (destBlock m list) to-one len (λ k h. block-range n m (getD list k 0) (entry-lt (n * m) list accepted k (omega arith)))
+  same-to len listed accepted = proper (destBlock m list) to-one len
+      (λ k h. block-range n m (getD list k 0) (entry-lt (n * m) list accepted k (omega arith)))
 
 -- ---- what makes a split
 -- At one end: the pages go to `place`s one-to-one, and no two of a block share a set. A block has m places, and so each set.
 module _ (n m : ℕ) (sets : List ℕ) (small : (k : ℕ) → k < n * m → setOf sets k < m)
-    (place : ℕ → ℕ) (into : (k : ℕ) → k < n * m → place k < n * m) (same : (x y : ℕ) → x < n * m → y < n * m → place x ≡ place y → x ≡ y)
+    (place : ℕ → ℕ) (into : (k : ℕ) → k < n * m → place k < n * m)
+    (same : (x y : ℕ) → x < n * m → y < n * m → place x ≡ place y → x ≡ y)
     (proper : Proper (n * m) sets (λ k. blockOf m (place k))) where
   -- the page at place j of a block, and its set
   page : (at j : ℕ) → ℕ
@@ -115,7 +121,8 @@ module _ (n m : ℕ) (sets : List ℕ) (small : (k : ℕ) → k < n * m → setO
   page-is at j l u h =
       let t = (at - 1) * m + j in
       let r = onto (n * m) place into same t (place-lt n m at j l u h) in
-      let f = first-hit (λ k. eqb (place k) t) 0 (n * m) 0 (r .0) (omega arith) (omega (arith, r .1)) (eq-eqb (place (r .0)) t (r .2)) in
+      let f = first-hit (λ k. eqb (place k) t) 0 (n * m) 0 (r .0) (omega arith) (omega (arith, r .1))
+      (eq-eqb (place (r .0)) t (r .2)) in
       (omega (arith, f .high), eqb-true _ t (f .hit))
 
   page-at : (at j : ℕ) → 1 ≤ at → at ≤ n → j < m → blockOf m (place (page at j)) ≡ at
@@ -133,7 +140,8 @@ module _ (n m : ℕ) (sets : List ℕ) (small : (k : ℕ) → k < n * m → setO
           let t : (at - 1) * m + i ≡ (at - 1) * m + j = sym (p .1) ∙ ap place s ∙ q .1 in
           omega arith
 
-  one-each : (set at : ℕ) → set < m → 1 ≤ at → at ≤ n → count (λ k. eqb (setOf sets k) set && eqb (blockOf m (place k)) at) (range 0 (n * m)) ≡ 1
+  one-each : (set at : ℕ) → set < m → 1 ≤ at → at ≤ n
+      → count (λ k. eqb (setOf sets k) set && eqb (blockOf m (place k)) at) (range 0 (n * m)) ≡ 1
   one-each set at h l u =
       let r = each-set set at h l u in
       let k = page at (r .0) in

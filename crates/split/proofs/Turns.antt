@@ -1,20 +1,19 @@
 -- The exchange page by page: what holds after i pages of the walk got their other set, and one turn more.
 use mathlib.Core.Path.{_≡_, refl, sym, ap, _∙_, subst}
-use mathlib.Core.Logic.{_⊎_, inl, inr, _≢_, ⊎-elim}
+use mathlib.Core.Logic.{_⊎_, _≢_, ⊎-elim}
 use mathlib.Core.Bool.{Bool, true, false, cond, _||_, or-false, or-true}
 use mathlib.Core.List.{List, [], _∷_, _++_}
-use Prim.Native.Nat.{ℕ, zero, suc, _+_, _≤_, _<_}
+use Prim.Native.Nat.{ℕ, suc, _+_, _≤_, _<_}
 use native.Mathlib.Omega.{arith}
 use lib.Dec.{eqb}
-use lib.ListN.{length, getD, take, set, length-take, length-set}
+use lib.ListN.{length, getD, take, set, length-take}
 use lib.Seq.{getD-take, getD-set-same, getD-set-other, take-suc, take-all, ext-getD}
 use borrow.Author.Tests.{eqb-true, eq-eqb, ne-eqb}
 use Rattle.flash.specs.Lists.{any}
 use Rattle.split.specs.Split.{setOf}
-use Rattle.split.specs.Rule.{End, source, destination, otherEnd, swapped, blockAt, pagesMet, exchange}
-use Rattle.split.proofs.Lists.{bool-cases, not-both, false-of, any-find, lt-cases, eq-cases}
-use Rattle.split.proofs.SplitLaws.{PageOf}
-use Rattle.split.proofs.Walk.{Coloured, PageAt, metAs, metAs-same, metAs-two, Leads, other-twice, path, path-head, path-chain, path-inside, path-closed, path-first, path-distinct}
+use Rattle.split.specs.Rule.{End, source, destination, otherEnd, swapped, blockAt, exchange}
+use Rattle.split.proofs.Lists.{bool-cases, false-of, any-find, lt-cases, eq-cases}
+use Rattle.split.proofs.Walk.{Coloured, PageAt, metAs, metAs-same, metAs-two, other-twice, path, path-head, path-chain, path-inside, path-closed, path-first, path-distinct}
 use Rattle.split.proofs.Exchange.{exchange-length, exchange-at, swapped-met, in-at, two}
 
 any-append : (test : ℕ → Bool) (xs ys : List ℕ) → any test (xs ++ ys) ≡ (any test xs || any test ys)
@@ -57,10 +56,12 @@ module _ (m : ℕ) (list given : List ℕ) (C : Coloured m list given) (a b : �
       let j : r .0 < i = omega arith in
       (r .0, j, omega arith, sym (getD-take i met (r .0) 0 j) ∙ sym (eqb-true x (getD (take i met) (r .0) 0) (r .2)))
 
-  sets-front : (i x : ℕ) (sets : List ℕ) → setOf sets x ≡ setAfter i x → any (eqb x) (take i met) ≡ true → setOf sets x ≡ swapped a b (setOf given x)
+  sets-front : (i x : ℕ) (sets : List ℕ) → setOf sets x ≡ setAfter i x → any (eqb x) (take i met) ≡ true
+      → setOf sets x ≡ swapped a b (setOf given x)
   sets-front i x sets q e = rw e at q
 
-  sets-behind : (i x : ℕ) (sets : List ℕ) → setOf sets x ≡ setAfter i x → any (eqb x) (take i met) ≡ false → setOf sets x ≡ setOf given x
+  sets-behind : (i x : ℕ) (sets : List ℕ) → setOf sets x ≡ setAfter i x → any (eqb x) (take i met) ≡ false
+      → setOf sets x ≡ setOf given x
   sets-behind i x sets q e = rw e at q
 
   pub first-turn : (sets : List ℕ) (page : ℕ) → ((x : ℕ) → x < length given → setOf sets x ≡ setOf given x)
@@ -70,7 +71,8 @@ module _ (m : ℕ) (list given : List ℕ) (C : Coloured m list given) (a b : �
     within = omega arith;
     next = λ h. start h;
     last = λ e. ⊎-elim
-        (λ (l : page < length given). let r = path-first m list given C a b differ block unused page (is-page l) in absurd (omega (arith, r .0)))
+        (λ (l : page < length given). let r = path-first m list given C a b differ block unused page (is-page l) in absurd
+        (omega (arith, r .0)))
         (λ (l : length given ≤ page). let w = f .within in omega arith)
         (lt-cases page (length given));
     sets-are = same;
@@ -115,12 +117,14 @@ module _ (m : ℕ) (list given : List ℕ) (C : Coloured m list given) (a b : �
         let new : any (eqb page) (take i met) ≡ false = false-of _ (λ e.
         let f = in-front i page e in
         let o = f .1 in
-        let j : f .0 ≡ i = path-distinct m list given C a b differ block unused (length given) (f .0) i (f .2) on-path (f .3 ∙ page-is) in
+        let j : f .0 ≡ i = path-distinct m list given C a b differ block unused (length given) (f .0) i (f .2) on-path
+        (f .3 ∙ page-is) in
         omega arith) in
         sets-behind i page sets (T .sets-are page more) new ∙ page-as
 
     -- a page exchanged already is none to go on with
-    not-front : (x : ℕ) → x < length given → blockAt m list (otherEnd end) x ≡ blockAt m list (otherEnd end) page → setOf sets x ≡ at (otherEnd end)
+    not-front : (x : ℕ) → x < length given → blockAt m list (otherEnd end) x ≡ blockAt m list (otherEnd end) page
+        → setOf sets x ≡ at (otherEnd end)
         → any (eqb x) (take i met) ≡ false
     not-front x h v c = false-of _ (λ e.
         let f = in-front i x e in
@@ -129,14 +133,17 @@ module _ (m : ℕ) (list given : List ℕ) (C : Coloured m list given) (a b : �
         ⊎-elim
         (λ (q : setOf given x ≡ at end).
         let same = C .proper (otherEnd end) x page h more v (q ∙ sym page-as) in
-        let j : f .0 ≡ i = path-distinct m list given C a b differ block unused (length given) (f .0) i (f .2) on-path (f .3 ∙ same ∙ page-is) in
+        let j : f .0 ≡ i = path-distinct m list given C a b differ block unused (length given) (f .0) i (f .2) on-path
+        (f .3 ∙ same ∙ page-is) in
         omega arith)
         (λ (q : setOf given x ≡ at (otherEnd end)).
         at-differ end (ap at (sym (other-twice end)) ∙ sym (swapped-met m list given C a b differ block unused x (otherEnd end) q) ∙ s))
         (metAs-two m list given C a b differ (setOf given x) end
-        (two m list given C a b differ block unused x (subst (λ (y : ℕ). any (eqb y) met ≡ true) (f .3) (in-at m list given C a b differ block unused (f .0) (f .2))))))
+        (two m list given C a b differ block unused x
+        (subst (λ (y : ℕ). any (eqb y) met ≡ true) (f .3) (in-at m list given C a b differ block unused (f .0) (f .2))))))
 
-    module _ (after : ℕ) (f : FoundPage m list sets (length given) (otherEnd end) (blockAt m list (otherEnd end) page) (at (otherEnd end)) after) where
+    module _ (after : ℕ) (f : FoundPage m list sets (length given) (otherEnd end) (blockAt m list (otherEnd end) page)
+        (at (otherEnd end)) after) where
       -- the page found is the next page of the walk
       goes : after < length given → (suc i < length met) × (getD met (suc i) 0 ≡ after) × (setOf given after ≡ at (otherEnd end))
       goes l =
@@ -155,7 +162,8 @@ module _ (m : ℕ) (list given : List ℕ) (C : Coloured m list given) (a b : �
           let q = p .1 in
           let z = getD met (suc i) 0 in
           let same : p .0 ≡ otherEnd end =
-          sym (other-twice (p .0)) ∙ ap otherEnd (metAs-same m list given C a b differ (otherEnd (p .0)) end (sym (q .was) ∙ ap (setOf given) (sym page-is) ∙ page-as)) in
+          sym (other-twice (p .0)) ∙ ap otherEnd (metAs-same m list given C a b differ (otherEnd (p .0)) end
+          (sym (q .was) ∙ ap (setOf given) (sym page-is) ∙ page-as)) in
           let inside : z < length given = q .to .inside in
           let new : any (eqb z) (take i met) ≡ false = false-of _ (λ e.
           let g = in-front i z e in
@@ -163,7 +171,8 @@ module _ (m : ℕ) (list given : List ℕ) (C : Coloured m list given) (a b : �
           let j : g .0 ≡ suc i = path-distinct m list given C a b differ block unused (length given) (g .0) (suc i) (g .2) h (g .3) in
           omega arith) in
           f .none (omega arith) z inside
-          (ap (λ (e : End). blockAt m list e z) (sym same) ∙ q .to .at-block ∙ ap (λ (e : End). blockAt m list e (getD met i 0)) same ∙ ap (blockAt m list (otherEnd end)) (sym page-is))
+          (ap (λ (e : End). blockAt m list e z) (sym same) ∙ q .to .at-block
+          ∙ ap (λ (e : End). blockAt m list e (getD met i 0)) same ∙ ap (blockAt m list (otherEnd end)) (sym page-is))
           (sets-behind i z sets (T .sets-are z inside) new ∙ q .to .in-set ∙ ap at same)
 
       pub next-turn : length given ≤ length sets → Turn (suc i) (set sets page (at (otherEnd end))) (otherEnd end) after
@@ -190,7 +199,8 @@ module _ (m : ℕ) (list given : List ℕ) (C : Coloured m list given) (a b : �
           exchanged : (x : ℕ) → x ≡ page → getD (set sets page (at (otherEnd end))) x 0 ≡ setAfter (suc i) x
           exchanged x q =
               let t : any (eqb x) (take (suc i) met) ≡ true =
-              front x ∙ ap (λ (c : Bool). any (eqb x) (take i met) || (c || false)) (eq-eqb x (getD met i 0) (q ∙ page-is)) ∙ or-true (any (eqb x) (take i met)) in
+              front x ∙ ap (λ (c : Bool). any (eqb x) (take i met) || (c || false)) (eq-eqb x (getD met i 0) (q ∙ page-is))
+              ∙ or-true (any (eqb x) (take i met)) in
               let g : setAfter (suc i) x ≡ swapped a b (getD given x 0) = rw t in
               ap (λ (y : ℕ). getD (set sets page (at (otherEnd end))) y 0) q
               ∙ getD-set-same sets page (at (otherEnd end)) 0 (omega arith)
@@ -200,12 +210,14 @@ module _ (m : ℕ) (list given : List ℕ) (C : Coloured m list given) (a b : �
           kept : (x : ℕ) → x < length given → x ≢ page → getD (set sets page (at (otherEnd end))) x 0 ≡ setAfter (suc i) x
           kept x h q =
               let t : any (eqb x) (take (suc i) met) ≡ any (eqb x) (take i met) =
-              front x ∙ ap (λ (c : Bool). any (eqb x) (take i met) || (c || false)) (ne-eqb x (getD met i 0) (λ e. q (e ∙ sym page-is))) ∙ or-false (any (eqb x) (take i met)) in
+              front x ∙ ap (λ (c : Bool). any (eqb x) (take i met) || (c || false))
+              (ne-eqb x (getD met i 0) (λ e. q (e ∙ sym page-is))) ∙ or-false (any (eqb x) (take i met)) in
               getD-set-other sets page x (at (otherEnd end)) 0 q ∙ T .sets-are x h
               ∙ ap (λ (c : Bool). cond c (swapped a b (getD given x 0)) (getD given x 0)) (sym t)
 
   -- the walk is over
-  pub turns-done : (i : ℕ) (sets : List ℕ) (end : End) (page : ℕ) → Turn i sets end page → length given ≤ page → length given ≤ length sets
+  pub turns-done : (i : ℕ) (sets : List ℕ) (end : End) (page : ℕ) → Turn i sets end page → length given ≤ page
+      → length given ≤ length sets
       → take (length given) sets ≡ exchange m list given a b met
   unfolding setOf
   turns-done i sets end page T over room =

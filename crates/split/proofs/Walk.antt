@@ -1,21 +1,21 @@
 -- The exchange walk: an alternating path in the colouring of the pages, whose edges are the moves and whose colours are the sets.
 use mathlib.Core.Path.{_≡_, refl, sym, ap, _∙_, subst}
 use mathlib.Core.Logic.{_⊎_, inl, inr, _≢_, ⊎-elim}
-use mathlib.Core.Bool.{Bool, true, false, cond, _&&_, true≢false}
+use mathlib.Core.Bool.{true}
 use mathlib.Core.List.{List, [], _∷_}
 use Prim.Native.Nat.{ℕ, zero, suc, _+_, _-_, _*_, _≤_, _<_}
 use native.Mathlib.Nat.{not-suc-le-zero, suc-add}
 use native.Mathlib.Omega.{arith}
 use native.Mathlib.Numerals.{add-one}
-use lib.Dec.{eqb, ltb}
+use lib.Dec.{eqb}
 use lib.ListN.{length, getD, take}
 use lib.Seq.{take-all}
 use borrow.Author.Tests.{eqb-true, eq-eqb, lt-ltb, le-ltb}
-use Rattle.flash.specs.Lists.{range, any, first}
+use Rattle.flash.specs.Lists.{range, first}
 use Rattle.split.specs.Split.{setOf}
-use Rattle.split.specs.Rule.{End, source, destination, otherEnd, blockAt, isPageOf, isUsed, pagesMet}
-use Rattle.split.proofs.Lists.{bool-cases, not-both, false-of, and-left, and-right, and-both, first-cases, Hit, Missed, any-find, any-at, lt-cases, eq-cases, ne-lt}
-use Rattle.split.proofs.Pigeon.{pigeon, Twice, crowded}
+use Rattle.split.specs.Rule.{End, source, destination, otherEnd, blockAt, isPageOf, pagesMet}
+use Rattle.split.proofs.Lists.{not-both, and-left, and-right, and-both, first-cases, Hit, Missed, lt-cases, eq-cases, ne-lt}
+use Rattle.split.proofs.Pigeon.{pigeon, crowded}
 use Rattle.split.proofs.OneToOneLaws.{Distinct}
 use Rattle.split.proofs.SplitLaws.{PageOf, Proper}
 
@@ -37,7 +37,8 @@ module _ (m : ℕ) (list given : List ℕ) where
   unfolding isPageOf
   page-test end block set k p = and-both _ _ (eq-eqb _ block (p .at-block)) (eq-eqb _ set (p .in-set))
 
-  pub test-page : (end : End) (block set k : ℕ) → k < length given → isPageOf m list given end block set k ≡ true → PageAt end block set k
+  pub test-page : (end : End) (block set k : ℕ) → k < length given → isPageOf m list given end block set k ≡ true
+      → PageAt end block set k
   unfolding isPageOf
   test-page end block set k h e = record {
     inside = h;
@@ -64,16 +65,19 @@ module _ (m : ℕ) (list given : List ℕ) where
   abbrev Goes : (bound : ℕ) → End → (block set other met : ℕ) → Type 0
   Goes bound end block set other met =
       PageAt end block set met
-      × (pagesMet m list given (suc bound) end block set other ≡ met ∷ pagesMet m list given bound (otherEnd end) (blockAt m list (otherEnd end) met) other set)
+      × (pagesMet m list given (suc bound) end block set other ≡ met ∷ pagesMet m list given bound (otherEnd end)
+      (blockAt m list (otherEnd end) met) other set)
 
   abbrev Ends : (bound : ℕ) → End → (block set other : ℕ) → Type 0
   Ends bound end block set other = ((k : ℕ) → PageAt end block set k → ⊥) × (pagesMet m list given (suc bound) end block set other ≡ [])
 
-  pub walk-goes : (bound : ℕ) (end : End) (block set other : ℕ) → PageAt end block set (pageAt end block set) → Goes bound end block set other (pageAt end block set)
+  pub walk-goes : (bound : ℕ) (end : End) (block set other : ℕ) → PageAt end block set (pageAt end block set)
+      → Goes bound end block set other (pageAt end block set)
   unfolding pagesMet
   walk-goes bound end block set other p = (p, rw (lt-ltb (pageAt end block set) (length given) (p .inside)) refl)
 
-  pub walk-ends : (bound : ℕ) (end : End) (block set other : ℕ) → ((k : ℕ) → PageAt end block set k → ⊥) → Ends bound end block set other
+  pub walk-ends : (bound : ℕ) (end : End) (block set other : ℕ) → ((k : ℕ) → PageAt end block set k → ⊥)
+      → Ends bound end block set other
   unfolding pagesMet
   walk-ends bound end block set other none = ⊎-elim
       (λ (p : PageAt end block set (pageAt end block set)). absurd (none _ p))
@@ -81,10 +85,12 @@ module _ (m : ℕ) (list given : List ℕ) where
       (none, rw (le-ltb (pageAt end block set) (length given) (omega (arith, q .0))) refl))
       (page-found end block set)
 
-  walk-step : (bound : ℕ) (end : End) (block set other : ℕ) → Goes bound end block set other (pageAt end block set) ⊎ Ends bound end block set other
+  walk-step : (bound : ℕ) (end : End) (block set other : ℕ)
+      → Goes bound end block set other (pageAt end block set) ⊎ Ends bound end block set other
   walk-step bound end block set other = ⊎-elim
       (λ (p : PageAt end block set (pageAt end block set)). inl (walk-goes bound end block set other p))
-      (λ (q : (pageAt end block set ≡ length given) × ((k : ℕ) → PageAt end block set k → ⊥)). inr (walk-ends bound end block set other (q .1)))
+      (λ (q : (pageAt end block set ≡ length given) × ((k : ℕ) → PageAt end block set k → ⊥)). inr
+      (walk-ends bound end block set other (q .1)))
       (page-found end block set)
 
   -- a smaller bound gives the first pages
@@ -95,7 +101,8 @@ module _ (m : ℕ) (list given : List ℕ) where
   walk-take (suc bound) more end block set other = rw (suc-add bound more) (⊎-elim
       (λ (g : Goes bound end block set other (pageAt end block set)).
       let g′ = walk-goes (bound + more) end block set other (g .0) in
-      g .1 ∙ ap (λ (xs : List ℕ). pageAt end block set ∷ xs) (walk-take bound more (otherEnd end) (blockAt m list (otherEnd end) (pageAt end block set)) other set)
+      g .1 ∙ ap (λ (xs : List ℕ). pageAt end block set ∷ xs)
+      (walk-take bound more (otherEnd end) (blockAt m list (otherEnd end) (pageAt end block set)) other set)
       ∙ ap (take (suc bound)) (sym (g′ .1)))
       (λ (g : Ends bound end block set other).
       g .1 ∙ ap (take (suc bound)) (sym (walk-ends (bound + more) end block set other (g .0) .1)))
@@ -131,7 +138,8 @@ module _ (m : ℕ) (list given : List ℕ) (C : Coloured m list given) (a b : �
   leads-same e f x y z h l p q =
       let same : e ≡ f = metAs-same e f (sym (p .to .in-set) ∙ q .to .in-set) in
       C .proper e x y h l
-      (sym (p .to .at-block) ∙ ap (λ (g : End). blockAt m list g z) same ∙ q .to .at-block ∙ ap (λ (g : End). blockAt m list g y) (sym same))
+      (sym (p .to .at-block) ∙ ap (λ (g : End). blockAt m list g z) same ∙ q .to .at-block
+      ∙ ap (λ (g : End). blockAt m list g y) (sym same))
       (p .was ∙ ap (λ (g : End). metAs (otherEnd g)) same ∙ sym (q .was))
 
   -- a set comes back after two steps
@@ -144,8 +152,10 @@ module _ (m : ℕ) (list given : List ℕ) (C : Coloured m list given) (a b : �
   walk bound end block = pagesMet m list given bound end block (metAs end) (metAs (otherEnd end))
 
   -- the next pages of the walk are a walk
-  rest-is : (bound : ℕ) (end : End) (block : ℕ) → pagesMet m list given bound (otherEnd end) block (metAs (otherEnd end)) (metAs end) ≡ walk bound (otherEnd end) block
-  rest-is bound end block = ap (λ (e : End). pagesMet m list given bound (otherEnd end) block (metAs (otherEnd end)) (metAs e)) (sym (other-twice end))
+  rest-is : (bound : ℕ) (end : End) (block : ℕ)
+      → pagesMet m list given bound (otherEnd end) block (metAs (otherEnd end)) (metAs end) ≡ walk bound (otherEnd end) block
+  rest-is bound end block = ap (λ (e : End). pagesMet m list given bound (otherEnd end) block (metAs (otherEnd end)) (metAs e))
+      (sym (other-twice end))
 
   -- the walk has a page to go to, or is over
   record Onward (bound : ℕ) (end : End) (block : ℕ) : Type 0 where
@@ -171,11 +181,13 @@ module _ (m : ℕ) (list given : List ℕ) (C : Coloured m list given) (a b : �
       → PageAt m list given (otherEnd end) (blockAt m list (otherEnd end) x) (metAs (otherEnd end)) z → Leads (otherEnd end) x z
   on end block x z p q = record { was = p .in-set ∙ ap metAs (sym (other-twice end)); to = q }
 
-  walk-head : (bound : ℕ) (end : End) (block : ℕ) → 0 < length (walk bound end block) → PageAt m list given end block (metAs end) (getD (walk bound end block) 0 0)
+  walk-head : (bound : ℕ) (end : End) (block : ℕ) → 0 < length (walk bound end block)
+      → PageAt m list given end block (metAs end) (getD (walk bound end block) 0 0)
   unfolding pagesMet
   walk-head zero end block h = absurd (not-suc-le-zero h)
   walk-head (suc bound) end block h = ⊎-elim
-      (λ (g : Onward bound end block). subst (λ (xs : List ℕ). PageAt m list given end block (metAs end) (getD xs 0 0)) (sym (g .is)) (g .page))
+      (λ (g : Onward bound end block). subst (λ (xs : List ℕ). PageAt m list given end block (metAs end) (getD xs 0 0))
+      (sym (g .is)) (g .page))
       (λ (g : Over bound end block).
       let z : length (walk (suc bound) end block) ≡ 0 = ap length (g .is) in absurd (omega arith))
       (step bound end block)
@@ -194,8 +206,14 @@ module _ (m : ℕ) (list given : List ℕ) (C : Coloured m list given) (a b : �
       subst Chain (sym (g .is)) (λ i h. absurd (not-suc-le-zero h)))
       (step bound end block)
     where
-      linked : (met : ℕ) → PageAt m list given end block (metAs end) met → Chain (walk bound (otherEnd end) (blockAt m list (otherEnd end) met)) → Chain (met ∷ walk bound (otherEnd end) (blockAt m list (otherEnd end) met))
-      linked met p rest zero h = (otherEnd end, on end block met _ p (walk-head bound (otherEnd end) (blockAt m list (otherEnd end) met) (omega arith)))
+      linked : (met : ℕ) → PageAt m list given end block (metAs end) met
+          → Chain (walk bound (otherEnd end) (blockAt m list (otherEnd end) met))
+          → Chain (met ∷ walk bound (otherEnd end) (blockAt m list (otherEnd end) met))
+      linked met p rest zero h = (
+        otherEnd end,
+        on end block met _ p
+            (walk-head bound (otherEnd end) (blockAt m list (otherEnd end) met) (omega arith)),
+      )
       linked met p rest (suc i) h = rest i (omega arith)
 
   -- a walk that its bound did not stop goes on wherever it can
@@ -207,8 +225,11 @@ module _ (m : ℕ) (list given : List ℕ) (C : Coloured m list given) (a b : �
   head-is zero end block z h p = absurd (not-suc-le-zero h)
   head-is (suc bound) end block z h p = ⊎-elim
       (λ (g : Onward bound end block).
-      subst (λ (xs : List ℕ). (0 < length xs) × (getD xs 0 0 ≡ z)) (sym (g .is))
-      (omega arith, C .proper end (g .met) z (g .page .inside) (p .inside) (g .page .at-block ∙ sym (p .at-block)) (g .page .in-set ∙ sym (p .in-set))))
+      subst (λ (xs : List ℕ). (0 < length xs) × (getD xs 0 0 ≡ z)) (sym (g .is)) (
+        omega arith,
+        C .proper end (g .met) z (g .page .inside) (p .inside) (g .page .at-block ∙ sym (p .at-block))
+            (g .page .in-set ∙ sym (p .in-set)),
+      ))
       (λ (g : Over bound end block). absurd (g .none z p))
       (step bound end block)
 
@@ -216,15 +237,19 @@ module _ (m : ℕ) (list given : List ℕ) (C : Coloured m list given) (a b : �
   walk-closed zero end block h = absurd (not-suc-le-zero h)
   walk-closed (suc bound) end block h = ⊎-elim
       (λ (g : Onward bound end block).
-      let l : length (walk (suc bound) end block) ≡ suc (length (walk bound (otherEnd end) (blockAt m list (otherEnd end) (g .met)))) = ap length (g .is) in
+      let l : length (walk (suc bound) end block) ≡ suc
+      (length (walk bound (otherEnd end) (blockAt m list (otherEnd end) (g .met)))) = ap length (g .is) in
       let s : length (walk bound (otherEnd end) (blockAt m list (otherEnd end) (g .met))) < bound = omega arith in
-      subst Closed (sym (g .is)) (linked (g .met) (g .page) s (walk-closed bound (otherEnd end) (blockAt m list (otherEnd end) (g .met)) s)))
+      subst Closed (sym (g .is)) (linked (g .met) (g .page) s
+      (walk-closed bound (otherEnd end) (blockAt m list (otherEnd end) (g .met)) s)))
       (λ (g : Over bound end block).
       subst Closed (sym (g .is)) (λ i e z l. absurd (not-suc-le-zero l)))
       (step bound end block)
     where
-      linked : (met : ℕ) → PageAt m list given end block (metAs end) met → length (walk bound (otherEnd end) (blockAt m list (otherEnd end) met)) < bound
-          → Closed (walk bound (otherEnd end) (blockAt m list (otherEnd end) met)) → Closed (met ∷ walk bound (otherEnd end) (blockAt m list (otherEnd end) met))
+      linked : (met : ℕ) → PageAt m list given end block (metAs end) met
+          → length (walk bound (otherEnd end) (blockAt m list (otherEnd end) met)) < bound
+          → Closed (walk bound (otherEnd end) (blockAt m list (otherEnd end) met))
+          → Closed (met ∷ walk bound (otherEnd end) (blockAt m list (otherEnd end) met))
       linked met p s rest zero e z l q =
           let same : otherEnd end ≡ e =
           ap otherEnd (metAs-same end (otherEnd e) (sym (p .in-set) ∙ q .was)) ∙ other-twice e in
@@ -254,10 +279,12 @@ module _ (m : ℕ) (list given : List ℕ) (C : Coloured m list given) (a b : �
   path-inside bound (suc i) h = path-chain bound i h .1 .to .inside
 
   -- nothing leads to the first page
-  pub first-page : (bound : ℕ) (end : End) (x : ℕ) → x < length given → 0 < length (path bound) → Leads m list given C a b differ end x (getD (path bound) 0 0) → ⊥
+  pub first-page : (bound : ℕ) (end : End) (x : ℕ) → x < length given → 0 < length (path bound)
+      → Leads m list given C a b differ end x (getD (path bound) 0 0) → ⊥
   unfolding metAs otherEnd
   first-page bound source x l h q = differ (sym (path-head bound h .in-set) ∙ q .to .in-set)
-  first-page bound destination x l h q = unused x (record { inside = l; in-set = q .was; at-block = sym (q .to .at-block) ∙ path-head bound h .at-block })
+  first-page bound destination x l h q = unused x
+      (record { inside = l; in-set = q .was; at-block = sym (q .to .at-block) ∙ path-head bound h .at-block })
 
   apart : (bound i j : ℕ) → i < j → j < length (path bound) → getD (path bound) i 0 ≡ getD (path bound) j 0 → ⊥
   apart bound i zero o h e = not-suc-le-zero o
@@ -269,7 +296,8 @@ module _ (m : ℕ) (list given : List ℕ) (C : Coloured m list given) (a b : �
       let p = path-chain bound i (omega arith) in
       let q = path-chain bound j h in
       apart bound i j (omega arith) (omega arith)
-      (leads-same m list given C a b differ (p .0) (q .0) _ _ (getD (path bound) (suc j) 0) (path-inside bound i (omega arith)) (path-inside bound j (omega arith))
+      (leads-same m list given C a b differ (p .0) (q .0) _ _ (getD (path bound) (suc j) 0) (path-inside bound i (omega arith))
+      (path-inside bound j (omega arith))
       (subst (λ (z : ℕ). Leads m list given C a b differ (p .0) (getD (path bound) i 0) z) e (p .1)) (q .1))
 
   -- no page is met twice
@@ -304,10 +332,12 @@ module _ (m : ℕ) (list given : List ℕ) (C : Coloured m list given) (a b : �
 
   pub path-closed : Closed m list given C a b differ (path (length given))
   unfolding metAs otherEnd
-  path-closed = subst (Closed m list given C a b differ) enough (walk-closed m list given C a b differ (suc (length given)) destination block not-stopped)
+  path-closed = subst (Closed m list given C a b differ) enough
+      (walk-closed m list given C a b differ (suc (length given)) destination block not-stopped)
 
   -- the walk starts with the page of set a
-  pub path-first : (z : ℕ) → PageAt m list given destination block a z → (0 < length (path (length given))) × (getD (path (length given)) 0 0 ≡ z)
+  pub path-first : (z : ℕ) → PageAt m list given destination block a z → (0 < length (path (length given)))
+      × (getD (path (length given)) 0 0 ≡ z)
   unfolding metAs otherEnd
   path-first z p =
       subst (λ (xs : List ℕ). (0 < length xs) × (getD xs 0 0 ≡ z)) enough
@@ -338,11 +368,17 @@ module _ (m : ℕ) (list given : List ℕ) (C : Coloured m list given) (a b : �
       let r = in-blocks i h in
       let s = in-blocks j o in
       let same : blockAt m list source (at i) ≡ blockAt m list source (at j) = omega arith in
-      let t = C .proper source (at i) (at j) (path-inside bound (2 * i) (even i h)) (path-inside bound (2 * j) (even j o)) same (path-even bound i (even i h) ∙ sym (path-even bound j (even j o))) in
+      let t = C .proper source (at i) (at j) (path-inside bound (2 * i) (even i h)) (path-inside bound (2 * j) (even j o)) same
+      (path-even bound i (even i h) ∙ sym (path-even bound j (even j o))) in
       let z : 2 * i ≡ 2 * j = path-distinct bound (2 * i) (2 * j) (even i h) (even j o) t in
       omega arith)
       (λ i h e.
       let r = in-blocks i h in
-      free (at i) (record { inside = path-inside bound (2 * i) (even i h); in-set = path-even bound i (even i h); at-block = omega arith }))))
+      free (at i) (record {
+        inside = path-inside bound (2 * i) (even i h);
+        in-set = path-even bound i
+            (even i h);
+        at-block = omega arith;
+      }))))
       (λ (q : length (path bound) ≤ 2 * n - 2). q)
       (lt-cases (2 * n - 2) (length (path bound)))

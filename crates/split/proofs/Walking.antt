@@ -1,24 +1,24 @@
 -- The loop of the exchange: what holds at each turn, in the words of its code.
 use mathlib.Core.Path.{_≡_, refl, sym, ap, ap₂, _∙_, subst}
-use mathlib.Core.Logic.{_⊎_, inl, inr, _≢_, ⊎-elim}
+use mathlib.Core.Logic.{_⊎_, inl, inr, _≢_}
 use mathlib.Core.Bool.{Bool, true, false, cond, not}
 use mathlib.Core.List.{List}
-use Prim.Native.Nat.{ℕ, zero, suc, _+_, _-_, _*_, _≤_, _<_}
+use Prim.Native.Nat.{ℕ, suc, _-_, _*_, _≤_, _<_}
 use native.Mathlib.Omega.{arith}
 use lib.Dec.{eqb}
-use lib.ListN.{length, getD, take, set, length-take, length-set}
-use lib.Seq.{getD-take, getD-set-same, getD-set-other}
+use lib.ListN.{length, getD, take, set, length-set}
+use lib.Seq.{getD-take}
 use borrow.Author.Tests.{eq-eqb, ne-eqb}
 use Rattle.flash.specs.Lists.{range, count}
 use Rattle.split.specs.Split.{setOf}
 use Rattle.split.specs.Rule.{End, source, destination, otherEnd, blockAt, lowestUnused, pagesMet, exchange, setsGiven}
 use Rattle.split.specs.Claims.{walkOf}
 use Rattle.split.specs.Mask.{FlippedBoth}
-use Rattle.split.specs.Ends.{Accepted, endOf, Masks}
-use Rattle.split.specs.Work.{Found, Working, Blocked, Exchanged}
+use Rattle.split.specs.Ends.{endOf, Masks}
+use Rattle.split.specs.Work.{Working, Blocked, Exchanged}
 use Rattle.split.proofs.RuleLaws.{given, used-page, lowest-none, lowest-lt}
 use Rattle.split.proofs.Walk.{Coloured, PageAt, metAs}
-use Rattle.split.proofs.Turns.{FoundPage, Turn, first-turn, on-path, page-now, page-as, next-turn, turns-done}
+use Rattle.split.proofs.Turns.{FoundPage, Turn, first-turn, page-now, page-as, next-turn, turns-done}
 use Rattle.split.proofs.MaskedLaws.{mask-change, count-change, set-here, set-else}
 
 end-not : (s : Bool) → otherEnd (endOf s) ≡ endOf (not s)
@@ -73,14 +73,16 @@ module _ (m : ℕ) (list : List ℕ) (k a b : ℕ) where
   walk-starts start sources destinations met R S D f = record {
     ready = R;
     pages = 0;
-    turn = first-turn m list sofar (R .coloured) a b (R .differ) there (R .unused) start met (λ x h. R .start-is x (rw (R .counted) at h))
+    turn = first-turn m list sofar (R .coloured) a b (R .differ) there (R .unused) start met
+        (λ x h. R .start-is x (rw (R .counted) at h))
         (subst (λ (n : ℕ). FoundPage m list start n destination there a met) (sym (R .counted)) f);
     sized = refl;
     source-masks = S;
     destination-masks = D;
   }
 
-  module _ (start sets sources destinations : List ℕ) (s : Bool) (met : ℕ) (W : Walking start sets sources destinations s met) (more : met < k) where
+  module _ (start sets sources destinations : List ℕ) (s : Bool) (met : ℕ) (W : Walking start sets sources destinations s met)
+      (more : met < k) where
     abbrev R : Ready start
     R = W .ready
 
@@ -91,10 +93,12 @@ module _ (m : ℕ) (list : List ℕ) (k a b : ℕ) where
     inside = rw (R .counted) more
 
     now : setOf sets met ≡ cond s b a
-    now = page-now m list sofar (R .coloured) a b (R .differ) there (R .unused) (W .pages) sets (endOf s) met (W .turn) inside ∙ met-as start R s
+    now = page-now m list sofar (R .coloured) a b (R .differ) there (R .unused) (W .pages) sets (endOf s) met (W .turn) inside
+        ∙ met-as start R s
 
     before : setOf start met ≡ cond s b a
-    before = R .start-is met more ∙ page-as m list sofar (R .coloured) a b (R .differ) there (R .unused) (W .pages) sets (endOf s) met (W .turn) inside ∙ met-as start R s
+    before = R .start-is met more ∙ page-as m list sofar (R .coloured) a b (R .differ) there (R .unused) (W .pages) sets
+        (endOf s) met (W .turn) inside ∙ met-as start R s
 
     room-sets : met < length sets
     room-sets = let r = R .room in let z = W .sized in omega arith
@@ -110,8 +114,13 @@ module _ (m : ℕ) (list : List ℕ) (k a b : ℕ) where
     module _ (other : ℕ) (other-is : other ≡ cond (not s) b a) where
       pub walk-less : unchanged start (set sets met other) k < unchanged start sets k
       walk-less =
-          let c = count-change (λ x. eqb (setOf sets x) (setOf start x)) (λ x. eqb (setOf (set sets met other) x) (setOf start x)) 0 k met (omega arith) (omega arith) else-same in
-          let c′ = rw (eq-eqb (setOf sets met) (setOf start met) (now ∙ sym before), ne-eqb (setOf (set sets met other) met) (setOf start met) moved) at c in
+          let c = count-change (λ x. eqb (setOf sets x) (setOf start x))
+          (λ x. eqb (setOf (set sets met other) x) (setOf start x)) 0 k met (omega arith) (omega arith) else-same in
+          let c′ = rw (
+            eq-eqb (setOf sets met) (setOf start met) (now ∙ sym before),
+            ne-eqb (setOf (set sets met other) met)
+                (setOf start met) moved,
+          ) at c in
           omega arith
         where
           else-same : (x : ℕ) → x ≢ met → eqb (setOf sets x) (setOf start x) ≡ eqb (setOf (set sets met other) x) (setOf start x)
@@ -122,52 +131,66 @@ module _ (m : ℕ) (list : List ℕ) (k a b : ℕ) where
 
       pub walk-more : (next : ℕ) (sources′ destinations′ : List ℕ)
           → FoundPage m list sets k (endOf (not s)) (blockAt m list (endOf (not s)) met) other next
-          → FlippedBoth sources (blockAt m list source met) a b sources′ → FlippedBoth destinations (blockAt m list destination met) a b destinations′
+          → FlippedBoth sources (blockAt m list source met) a b sources′
+          → FlippedBoth destinations (blockAt m list destination met) a b destinations′
           → Walking start (set sets met other) sources′ destinations′ (not s) next
       walk-more next sources′ destinations′ f S D = record {
         ready = R;
         pages = suc (W .pages);
-        turn = subst (λ (v : ℕ). Turn m list sofar (R .coloured) a b (R .differ) there (R .unused) (suc (W .pages)) (set sets met v) (endOf (not s)) next) other-as
-            (subst (λ (e : End). Turn m list sofar (R .coloured) a b (R .differ) there (R .unused) (suc (W .pages)) (set sets met (as-met e)) e next) (end-not s)
-            (next-turn m list sofar (R .coloured) a b (R .differ) there (R .unused) (W .pages) sets (endOf s) met (W .turn) inside next found (rw (R .counted) (omega (arith, R .room, W .sized)))));
+        turn = subst (λ (v : ℕ). Turn m list sofar (R .coloured) a b (R .differ) there (R .unused) (suc (W .pages))
+            (set sets met v) (endOf (not s)) next) other-as
+            (subst (λ (e : End). Turn m list sofar (R .coloured) a b (R .differ) there (R .unused) (suc (W .pages))
+            (set sets met (as-met e)) e next) (end-not s)
+            (next-turn m list sofar (R .coloured) a b (R .differ) there (R .unused) (W .pages) sets (endOf s) met
+            (W .turn) inside next found (rw (R .counted) (omega (arith, R .room, W .sized)))));
         sized = length-set sets met other ∙ W .sized;
-        source-masks = mask-change m list sets source k sources sources′ (W .source-masks) met a b other more room-sets (λ e. changes s (sym now ∙ e ∙ other-is)) (pair s now other-is) S;
-        destination-masks = mask-change m list sets destination k destinations destinations′ (W .destination-masks) met a b other more room-sets (λ e. changes s (sym now ∙ e ∙ other-is)) (pair s now other-is) D;
+        source-masks = mask-change m list sets source k sources sources′ (W .source-masks) met a b other more room-sets
+            (λ e. changes s (sym now ∙ e ∙ other-is)) (pair s now other-is) S;
+        destination-masks = mask-change m list sets destination k destinations destinations′
+            (W .destination-masks) met a b other more room-sets (λ e. changes s (sym now ∙ e ∙ other-is)) (pair s now other-is) D;
       }
         where
           other-as : as-met (endOf (not s)) ≡ other
           other-as = met-as start R (not s) ∙ sym other-is
 
-          found : FoundPage m list sets (length sofar) (otherEnd (endOf s)) (blockAt m list (otherEnd (endOf s)) met) (as-met (otherEnd (endOf s))) next
+          found : FoundPage m list sets (length sofar) (otherEnd (endOf s)) (blockAt m list (otherEnd (endOf s)) met)
+              (as-met (otherEnd (endOf s))) next
           found =
-              subst (λ (n : ℕ). FoundPage m list sets n (otherEnd (endOf s)) (blockAt m list (otherEnd (endOf s)) met) (as-met (otherEnd (endOf s))) next) (sym (R .counted))
+              subst (λ (n : ℕ). FoundPage m list sets n (otherEnd (endOf s)) (blockAt m list (otherEnd (endOf s)) met)
+              (as-met (otherEnd (endOf s))) next) (sym (R .counted))
               (subst (λ (e : End). FoundPage m list sets k e (blockAt m list e met) (as-met e) next) (sym (end-not s))
               (subst (λ (v : ℕ). FoundPage m list sets k (endOf (not s)) (blockAt m list (endOf (not s)) met) v next) (sym other-as) f))
 
-  pub walk-done : (start sets sources destinations : List ℕ) (s : Bool) (met : ℕ) → Walking start sets sources destinations s met → k ≤ met
+  pub walk-done : (start sets sources destinations : List ℕ) (s : Bool) (met : ℕ) → Walking start sets sources destinations s met
+      → k ≤ met
       → Exchanged m list k a b sets sources destinations
   walk-done start sets sources destinations s met W over =
       let R = W .ready in
       let r : length sofar ≤ length sets = omega (arith, R .room, W .sized, R .counted) in
-      let e = turns-done m list sofar (R .coloured) a b (R .differ) there (R .unused) (W .pages) sets (endOf s) met (W .turn) (omega (arith, R .counted)) r in
+      let e = turns-done m list sofar (R .coloured) a b (R .differ) there (R .unused) (W .pages) sets (endOf s) met (W .turn)
+      (omega (arith, R .counted)) r in
       record {
         exchanged =
             ap (λ (n : ℕ). take n sets) (sym (R .counted)) ∙ e
-            ∙ ap (λ (n : ℕ). exchange m list sofar a b (pagesMet m list sofar n destination there a b)) (R .counted) ∙ ap (exchange m list sofar a b) (R .walk-is);
+            ∙ ap (λ (n : ℕ). exchange m list sofar a b (pagesMet m list sofar n destination there a b)) (R .counted)
+            ∙ ap (exchange m list sofar a b) (R .walk-is);
         source-masks = W .source-masks;
         destination-masks = W .destination-masks;
       }
 
 -- what the walk starts from
-pub ready : (m : ℕ) (list from : List ℕ) (k a b : ℕ) (sets sources destinations : List ℕ) (W : Working m list from k sets sources destinations)
+pub ready : (m : ℕ) (list from : List ℕ) (k a b : ℕ) (sets sources destinations : List ℕ)
+    (W : Working m list from k sets sources destinations)
     → k < W .blocks * m → Blocked m list k a b → Ready m list k a b sets
 unfolding walkOf setOf
 ready m list from k a b sets sources destinations W more B =
     let A = W .accepted in
     let g = given (W .blocks) m list (A .listed) (A .one-to-one) k (W .within) in
     let sofar = setsGiven m list k in
-    let none : (x : ℕ) → PageAt m list sofar destination (blockAt m list destination k) (lowestUnused m list sofar destination (blockAt m list destination k)) x → ⊥ =
-    subst (λ (n : ℕ). (x : ℕ) → PageAt m list sofar destination (blockAt m list destination n) (lowestUnused m list sofar destination (blockAt m list destination n)) x → ⊥) (g .counted)
+    let none : (x : ℕ) → PageAt m list sofar destination (blockAt m list destination k)
+    (lowestUnused m list sofar destination (blockAt m list destination k)) x → ⊥ =
+    subst (λ (n : ℕ). (x : ℕ) → PageAt m list sofar destination (blockAt m list destination n)
+    (lowestUnused m list sofar destination (blockAt m list destination n)) x → ⊥) (g .counted)
     (lowest-none (W .blocks) m list (A .listed) (A .one-to-one) sofar (g .coloured) (omega (arith, g .counted)) destination) in
     let small : (end : End) → lowestUnused m list sofar end (blockAt m list end k) < m = λ end.
     subst (λ (n : ℕ). lowestUnused m list sofar end (blockAt m list end n) < m) (g .counted)

@@ -1,21 +1,12 @@
--- What the functions of this crate keep between them: which end a flag names, what the masks tell, what the tables hold.
+-- Which end of a move a flag names, and what the masks of the blocks tell.
 use mathlib.Core.Path.{_≡_}
 use mathlib.Core.Bool.{Bool, true, false}
 use mathlib.Core.List.{List}
-use Prim.Native.Nat.{ℕ, _*_, _%_, _≤_, _<_}
-use lib.ListN.{length, getD, take}
+use Prim.Native.Nat.{ℕ, _%_}
+use lib.ListN.{getD}
 use Rattle.flash.specs.Lists.{range, count}
-use Rattle.split.specs.OneToOne.{isOneToOne}
-use Rattle.split.specs.Rule.{End, source, destination, isPageOf, setsGiven}
+use Rattle.split.specs.Rule.{End, source, destination, isPageOf}
 use Rattle.split.specs.Mask.{bitAt}
-
--- A list that the call does not refuse, for its sizes.
-pub record Accepted (n m : ℕ) (list : List ℕ) : Type 0 where
-  pub some-pages : 1 ≤ m
-  pub n-fits : n ≤ 64
-  pub m-fits : m ≤ 64
-  pub listed : length list ≡ n * m
-  pub one-to-one : isOneToOne (n * m) list ≡ true
 
 -- the end that a flag `source` names
 abbrev pub endOf : Bool → End

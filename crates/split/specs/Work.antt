@@ -1,14 +1,15 @@
 -- What the functions that carry out the rule keep between them.
 use mathlib.Core.Path.{_≡_}
 use mathlib.Core.Logic.{_≢_}
-use mathlib.Core.Bool.{Bool, true, false, cond}
+use mathlib.Core.Bool.{true}
 use mathlib.Core.List.{List}
 use Prim.Native.Nat.{ℕ, _-_, _*_, _≤_, _<_}
 use lib.ListN.{length, getD, take}
 use Rattle.split.specs.Split.{setOf}
 use Rattle.split.specs.Rule.{End, source, destination, blockAt, isUsed, lowestUnused, exchange, setsGiven}
 use Rattle.split.specs.Claims.{walkOf}
-use Rattle.split.specs.Ends.{Accepted, Masks}
+use Rattle.split.specs.Accepted.{Accepted}
+use Rattle.split.specs.Ends.{Masks}
 
 -- `from` is the list turned round: the original that goes to each place.
 abbrev pub Inverse : (list from : List ℕ) → Type 0
@@ -22,8 +23,10 @@ pageIn from destination place = getD from place 0
 -- r is a page of the set among the first k, at one of the places of a block; or k, where there is none
 pub record Found (from sets : List ℕ) (m k : ℕ) (end : End) (block set r : ℕ) : Type 0 where
   pub within : r ≤ k
-  pub hit : r < k → (place : ℕ) × ((block - 1) * m ≤ place) × (place < block * m) × (pageIn from end place ≡ r) × (setOf sets r ≡ set)
-  pub none : r ≡ k → (place : ℕ) → (block - 1) * m ≤ place → place < block * m → pageIn from end place < k → setOf sets (pageIn from end place) ≢ set
+  pub hit : r < k
+      → (place : ℕ) × ((block - 1) * m ≤ place) × (place < block * m) × (pageIn from end place ≡ r) × (setOf sets r ≡ set)
+  pub none : r ≡ k
+      → (place : ℕ) → (block - 1) * m ≤ place → place < block * m → pageIn from end place < k → setOf sets (pageIn from end place) ≢ set
 
 -- The first k pages have the sets of the rule, and the masks tell them.
 pub record Working (m : ℕ) (list from : List ℕ) (k : ℕ) (sets sources destinations : List ℕ) : Type 0 where

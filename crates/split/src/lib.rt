@@ -4,7 +4,7 @@ mod ends;
 pub mod list;
 mod mask;
 mod path;
-pub mod rule;
+mod rule;
 pub mod sets;
 mod wide;
 

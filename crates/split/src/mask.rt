@@ -30,7 +30,8 @@ pub fn flipped(mask: u64, bit: usize) -> u64
 // Flips a bit of one mask of a table; whether it was set.
 pub fn flip(masks: &mut [u64], at: usize, bit: usize) -> bool
     requires { ⌜ (at < length (now masks)) × (bit < 64) ⌝ }
-    ensures { λ r. ⌜ (r ≡ eqb (bitAt (getD (now (masks .entry)) at 0) bit) 1) × FlippedAt (now (masks .entry)) at bit (now (masks .exit)) ⌝ }
+    ensures was { λ r. ⌜ r ≡ eqb (bitAt (getD (now (masks .entry)) at 0) bit) 1 ⌝ }
+    ensures flips { λ r. ⌜ FlippedAt (now (masks .entry)) at bit (now (masks .exit)) ⌝ }
 {
     let mask = masks[at];
     masks[at] = flipped(mask, bit);

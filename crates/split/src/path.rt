@@ -84,7 +84,7 @@ pub fn exchange(
             other,
         );
         sets[met] = other as u8;
-        // Of both masks the bits change: at a block between two pages of the walk they change twice.
+        // Both bits change in the masks of both blocks: twice at a block where two pages of the walk meet.
         flip_both(sources, block_at(list, m, true, met), a, b);
         flip_both(destinations, block_at(list, m, false, met), a, b);
         met = next;

@@ -5,7 +5,7 @@ ghost use Prim.Native.Nat.{_+_, _*_, _≤_, _<_};
 ghost use lib.ListN.{length};
 ghost use Rattle.split.specs.OneToOne.{isOneToOne};
 ghost use Rattle.split.specs.Rule.{splitByRule};
-ghost use Rattle.split.specs.Ends.{Accepted};
+ghost use Rattle.split.specs.Accepted.{Accepted};
 ghost use Rattle.split.specs.Work.{Inverse, Working};
 use crate::ends::block_at;
 use crate::mask::flip;
@@ -36,7 +36,8 @@ fn give(
     sources: &mut [u64; 65],
     destinations: &mut [u64; 65],
 )
-    requires { ⌜ Working m (now list) (now from) k (now sets) (now sources) (now destinations) × (k < length (now list)) ⌝ }
+    requires { ⌜ Working m (now list) (now from) k (now sets) (now sources) (now destinations) ⌝ }
+    requires { ⌜ k < length (now list) ⌝ }
     ensures { λ _. ⌜ Working m (now (list .entry)) (now (from .entry)) (k + 1) (now (sets .exit)) (now (sources .exit)) (now (destinations .exit)) ⌝ }
 {
     let source = block_at(list, m, true, k);

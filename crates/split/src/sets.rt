@@ -3,7 +3,7 @@ ghost use mathlib.Core.Path.{_≡_};
 ghost use Prim.Native.Nat.{_*_};
 ghost use lib.ListN.{length};
 ghost use Rattle.split.specs.Split.{isSplit};
-ghost use Rattle.split.specs.Ends.{Accepted};
+ghost use Rattle.split.specs.Accepted.{Accepted};
 use crate::ends::block_at;
 use crate::mask::flip;
 use crate::wide::set_byte;

@@ -34,12 +34,14 @@ check-requires c κs = search needs
 returns-4 : tie.Need-returns-4
 returns-4 c =
     let e = c .before .before in
-    sym (gives-3 _ _ _ (ranged (e .before .before)) (e .before .if2 .left) (e .if3 .left) (sym (c .before .check .ensures) ∙ not-true (c .before .check .result) (c .if4 .taken)))
+    sym (gives-3 _ _ _ (ranged (e .before .before)) (e .before .if2 .left) (e .if3 .left)
+    (sym (c .before .check .ensures) ∙ not-true (c .before .check .result) (c .if4 .taken)))
 
 returns-5 : tie.Need-returns-5
 returns-5 c =
     let e = c .before .before in
-    sym (gives-0 _ _ _ (ranged (e .before .before)) (e .before .if2 .left) (e .if3 .left) (sym (c .before .check .ensures) ∙ not-false (c .before .check .result) (c .if4 .left)))
+    sym (gives-0 _ _ _ (ranged (e .before .before)) (e .before .if2 .left) (e .if3 .left)
+    (sym (c .before .check .ensures) ∙ not-false (c .before .check .result) (c .if4 .left)))
 
 pub refusal-spec : {M : Type 1} → statement M
 refusal-spec =

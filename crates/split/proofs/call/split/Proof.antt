@@ -1,4 +1,4 @@
-use mathlib.Core.Path.{_≡_, sym, _∙_}
+use mathlib.Core.Path.{sym, _∙_}
 use Rattle.split.proofs.Answers.{accepted, answered-0, answered-refused}
 use borrow.Author.Needs.{needs}
 use Rattle.split.proofs.call.split.Statement.{statement}

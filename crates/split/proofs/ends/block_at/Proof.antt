@@ -43,7 +43,8 @@ returns-2 : tie.Need-returns-2
 unfolding blockAt sourceBlock destBlock
 returns-2 c =
     let a = c .before .before .before .before .args in
-    ap (λ (x : ℕ). x / a .m + 1) (c .entry .ensures) ∙ ap (λ (s : Bool). blockAt (a .m) (a .list .now) (endOf s) (a .k)) (sym (c .before .before .if1 .left))
+    ap (λ (x : ℕ). x / a .m + 1) (c .entry .ensures)
+    ∙ ap (λ (s : Bool). blockAt (a .m) (a .list .now) (endOf s) (a .k)) (sym (c .before .before .if1 .left))
 
 pub block-at-spec : {M : Type 1} → statement M
 block-at-spec =

@@ -59,7 +59,8 @@ loop-again c =
     let i = e .before .before in (
       one-more _ _ _ _ (i .before .loop .inv .0) (i .loop-test .taken) (f .flip .last .0) (omega arith)
           (λ q. eqb-false _ 1 (sym (f .flip .ensures .0) ∙ c .if2 .left) (ap (bitOf (i .before .loop .seen)) (e .entry .ensures) ∙ q))
-          (subst (λ (place : ℕ). FlippedAt (i .before .loop .seen) (place / 64) (place % 64) (f .flip .last .0)) (e .entry .ensures) (f .flip .ensures .1)),
+          (subst (λ (place : ℕ). FlippedAt (i .before .loop .seen) (place / 64) (place % 64) (f .flip .last .0))
+          (e .entry .ensures) (f .flip .ensures .1)),
       omega (arith, f .flip .kept .0),
     )
 

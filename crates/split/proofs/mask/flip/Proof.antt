@@ -27,8 +27,11 @@ same-length c = search needs
 
 returns : tie.Need-returns
 returns c =
-    let a = c .before .before .before .before .args in
-    (c .has .ensures, flipped-at (a .masks .now) (a .at) (a .bit) (c .before .flipped .result) (omega arith) (c .before .flipped .ensures))
+    let a = c .before .before .before .before .args in (
+      c .has .ensures,
+      flipped-at (a .masks .now) (a .at) (a .bit) (c .before .flipped .result) (omega arith)
+          (c .before .flipped .ensures),
+    )
 
 pub flip-spec : {M : Type 1} → statement M
 flip-spec =

@@ -17,7 +17,8 @@ returns c =
     let second = c .before .before .flip2 in
     let first = c .before .before .before .before .before .before .flip in
     let start = c .before .before .before .before .before .before .before .before .before in
-    flipped-both (start .args .masks .now) (first .last .0) (second .last .0) _ _ _ (start .pre .3) (first .ensures .1) (second .ensures .1)
+    flipped-both (start .args .masks .now) (first .last .0) (second .last .0) _ _ _ (start .pre .3) (first .ensures .1)
+    (second .ensures .1)
 
 pub flip-both-spec : {M : Type 1} → statement M
 flip-both-spec = tie.close (tie.spec flip-requires flip-requires-2 same-length returns)

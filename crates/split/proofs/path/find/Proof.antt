@@ -1,4 +1,4 @@
-use mathlib.Core.Path.{_≡_, sym, _∙_}
+use mathlib.Core.Path.{sym, _∙_}
 use mathlib.Core.Logic.{⊎-elim}
 use Prim.Native.Nat.{_-_, _*_}
 use native.Mathlib.Omega.{arith}
@@ -38,7 +38,8 @@ unfolding setOf
 returns c =
     let p = c .before .before .before .before in
     let i = p .before in
-    search-hit _ _ _ _ _ _ _ (i .before .loop .place) (i .before .loop .inv) _ (p .page-in .ensures) (i .loop-test .taken) (c .before .before .before .if1 .taken)
+    search-hit _ _ _ _ _ _ _ (i .before .loop .place) (i .before .loop .inv) _ (p .page-in .ensures) (i .loop-test .taken)
+    (c .before .before .before .if1 .taken)
     (sym (c .before .set-byte .ensures) ∙ c .if2 .taken)
 
 add-place : tie.Need-add-place Inv-loop μ-loop

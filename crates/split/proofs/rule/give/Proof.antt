@@ -1,4 +1,4 @@
-use mathlib.Core.Path.{_≡_, refl, sym, ap, _∙_, subst}
+use mathlib.Core.Path.{_≡_, refl, sym, _∙_, subst}
 use mathlib.Core.Logic.{⊎-elim}
 use Prim.Native.Nat.{ℕ, _<_}
 use native.Mathlib.Omega.{arith}
@@ -27,7 +27,11 @@ fits c end block e =
     block-room _ _ _ (W .accepted) end (start .args .k) block (omega (arith, start .pre .1, W .accepted .listed)) e .small
 
 rooms : (c : tie.After-block-at2) → (c .before .block-at .result < 65) × (c .block-at2 .result < 65)
-rooms c = (fits (c .before .before) source _ (c .before .block-at .ensures), fits (c .before .before) destination _ (c .block-at2 .ensures))
+rooms c = (
+  fits (c .before .before) source _ (c .before .block-at .ensures),
+  fits (c .before .before) destination _
+      (c .block-at2 .ensures),
+)
 
 mul-lowest-free : tie.Need-mul-lowest-free
 mul-lowest-free c = record { fits = omega (arith, rooms c) }
@@ -47,12 +51,15 @@ element-copy-out-used c = omega (arith, rooms (c .before .before))
 -- the set found is the rule's a
 a-is : (c : tie.After-lowest-free)
     → (let start = c .before .before .before .before .before .before in
-    c .lowest-free .result ≡ lowestUnused (start .args .m) (start .args .list .now) (setsGiven (start .args .m) (start .args .list .now) (start .args .k)) source (blockAt (start .args .m) (start .args .list .now) source (start .args .k)))
+    c .lowest-free .result ≡ lowestUnused (start .args .m) (start .args .list .now)
+    (setsGiven (start .args .m) (start .args .list .now) (start .args .k)) source
+    (blockAt (start .args .m) (start .args .list .now) source (start .args .k)))
 a-is c =
     let start = c .before .before .before .before .before .before in
     let W = start .pre .0 in
     c .lowest-free .ensures
-    ∙ lowest-free _ _ _ _ _ _ _ W (omega (arith, start .pre .1, W .accepted .listed)) source (start .args .sources .now) (W .source-masks) _ (c .before .before .before .block-at .ensures)
+    ∙ lowest-free _ _ _ _ _ _ _ W (omega (arith, start .pre .1, W .accepted .listed)) source (start .args .sources .now)
+    (W .source-masks) _ (c .before .before .before .block-at .ensures)
 
 a-lt : (c : tie.After-lowest-free) → c .lowest-free .result < 64
 a-lt c =
@@ -70,23 +77,29 @@ has-requires c κs = a-lt (c .before .before)
 used-is : (c : tie.After-has)
     → (let l = c .before .before .before in
     let start = l .before .before .before .before .before .before in
-    c .has .result ≡ isUsed (start .args .m) (start .args .list .now) (setsGiven (start .args .m) (start .args .list .now) (start .args .k)) destination (blockAt (start .args .m) (start .args .list .now) destination (start .args .k)) (l .lowest-free .result))
+    c .has .result ≡ isUsed (start .args .m) (start .args .list .now)
+    (setsGiven (start .args .m) (start .args .list .now) (start .args .k)) destination
+    (blockAt (start .args .m) (start .args .list .now) destination (start .args .k)) (l .lowest-free .result))
 used-is c =
     let l = c .before .before .before in
     let start = l .before .before .before .before .before .before in
     let W = start .pre .0 in
-    c .has .ensures ∙ blocked _ _ _ _ _ _ _ W (omega (arith, start .pre .1, W .accepted .listed)) _ _ (l .before .before .block-at2 .ensures)
+    c .has .ensures ∙ blocked _ _ _ _ _ _ _ W (omega (arith, start .pre .1, W .accepted .listed)) _ _
+    (l .before .before .block-at2 .ensures)
 
 -- and the second the rule's b
 b-is : (c : tie.After-lowest-free2)
     → (let start = c .before .before .before .before .before .before .before .before in
-    c .lowest-free2 .result ≡ lowestUnused (start .args .m) (start .args .list .now) (setsGiven (start .args .m) (start .args .list .now) (start .args .k)) destination (blockAt (start .args .m) (start .args .list .now) destination (start .args .k)))
+    c .lowest-free2 .result ≡ lowestUnused (start .args .m) (start .args .list .now)
+    (setsGiven (start .args .m) (start .args .list .now) (start .args .k)) destination
+    (blockAt (start .args .m) (start .args .list .now) destination (start .args .k)))
 b-is c =
     let l = c .before .before in
     let start = l .before .before .before .before .before .before in
     let W = start .pre .0 in
     c .lowest-free2 .ensures
-    ∙ lowest-free _ _ _ _ _ _ _ W (omega (arith, start .pre .1, W .accepted .listed)) destination (start .args .destinations .now) (W .destination-masks) _ (l .before .before .block-at2 .ensures)
+    ∙ lowest-free _ _ _ _ _ _ _ W (omega (arith, start .pre .1, W .accepted .listed)) destination (start .args .destinations .now)
+    (W .destination-masks) _ (l .before .before .block-at2 .ensures)
 
 b-lt : (c : tie.After-lowest-free2) → c .lowest-free2 .result < 64
 b-lt c =
@@ -118,7 +131,8 @@ cast-sets c =
 fresh : (c : tie.Joined1)
     → (let l = c .before .before .before .before in
     let start = l .before .before .before .before .before .before in
-    Fresh (start .args .m) (start .args .list .now) (start .args .k) (l .lowest-free .result) (start .args .sets .now) (c .if1 .sets) (c .if1 .sources) (c .if1 .destinations))
+    Fresh (start .args .m) (start .args .list .now) (start .args .k) (l .lowest-free .result) (start .args .sets .now)
+    (c .if1 .sets) (c .if1 .sources) (c .if1 .destinations))
 fresh c =
     let h = c .before in
     let l = h .before .before .before in
@@ -146,13 +160,27 @@ slice-write-sets c =
 
 flip-requires : tie.Need-flip-requires
 flip-requires c κs =
-    let l = c .before .before .before .before .before in
-    (omega (arith, fits (l .before .before .before .before) source _ (l .before .before .before .block-at .ensures), c .flip-arg .given), a-lt l)
+    let l = c .before .before .before .before .before in (
+      omega (
+        arith,
+        fits (l .before .before .before .before) source _
+            (l .before .before .before .block-at .ensures),
+        c .flip-arg .given,
+      ),
+      a-lt l,
+    )
 
 flip-requires-2 : tie.Need-flip-requires-2
 flip-requires-2 c κs =
-    let l = c .before .before .before .before .before .before .before in
-    (omega (arith, fits (l .before .before .before .before) destination _ (l .before .before .block-at2 .ensures), c .flip-arg2 .given), a-lt l)
+    let l = c .before .before .before .before .before .before .before in (
+      omega (
+        arith,
+        fits (l .before .before .before .before) destination _
+            (l .before .before .block-at2 .ensures),
+        c .flip-arg2 .given,
+      ),
+      a-lt l,
+    )
 
 same-length : tie.Need-same-length
 same-length c = simp length-set (omega (arith, fresh (c .before .before .before .before) .sized))
@@ -164,9 +192,12 @@ returns c =
     let l = j .before .before .before .before in
     let start = l .before .before .before .before .before .before in
     let W = start .pre .0 in
-    given-more _ _ _ _ _ _ _ W (omega (arith, start .pre .1, W .accepted .listed)) _ _ _ _ _ _ (f .sized) (f .gives) (f .source-masks) (f .destination-masks)
-    (subst (λ (at : ℕ). FlippedAt (j .if1 .sources) at (l .lowest-free .result) (c .before .before .flip .last .0)) (l .before .before .before .block-at .ensures) (c .before .before .flip .ensures .1))
-    (subst (λ (at : ℕ). FlippedAt (j .if1 .destinations) at (l .lowest-free .result) (c .flip2 .last .0)) (l .before .before .block-at2 .ensures) (c .flip2 .ensures .1))
+    given-more _ _ _ _ _ _ _ W (omega (arith, start .pre .1, W .accepted .listed)) _ _ _ _ _ _ (f .sized) (f .gives)
+    (f .source-masks) (f .destination-masks)
+    (subst (λ (at : ℕ). FlippedAt (j .if1 .sources) at (l .lowest-free .result) (c .before .before .flip .last .0))
+    (l .before .before .before .block-at .ensures) (c .before .before .flip .ensures .1))
+    (subst (λ (at : ℕ). FlippedAt (j .if1 .destinations) at (l .lowest-free .result) (c .flip2 .last .0))
+    (l .before .before .block-at2 .ensures) (c .flip2 .ensures .1))
 
 pub give-spec : {M : Type 1} → statement M
 give-spec =

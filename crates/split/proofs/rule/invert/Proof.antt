@@ -35,7 +35,13 @@ below : (c : tie.After-entry Inv-loop μ-loop) → c .entry .result < 4096
 below c =
     let i = c .before .before in
     let start = i .before .before .before .before in
-    omega (arith, c .entry .ensures, start .pre .0, entry-lt _ (start .args .list .now) (start .pre .2) (i .before .loop .k) (i .loop-test .taken))
+    omega (
+      arith,
+      c .entry .ensures,
+      start .pre .0,
+      entry-lt _ (start .args .list .now) (start .pre .2) (i .before .loop .k)
+          (i .loop-test .taken),
+    )
 
 mul-from : tie.Need-mul-from Inv-loop μ-loop
 mul-from c = record { fits = omega (arith, below c) }
@@ -53,8 +59,12 @@ loop-again : tie.Need-loop-again Inv-loop μ-loop
 loop-again c =
     let i = c .before .before in
     let start = i .before .before .before .before in
-    let l = i .before .loop in
-    (omega arith, invert-more (start .args .list .now) (start .pre .2) (l .from) (l .k) (c .entry .result) (l .inv .1) (i .loop-test .taken) (c .entry .ensures) (omega (arith, below c)), simp length-set (omega arith))
+    let l = i .before .loop in (
+      omega arith,
+      invert-more (start .args .list .now) (start .pre .2) (l .from) (l .k) (c .entry .result) (l .inv .1)
+          (i .loop-test .taken) (c .entry .ensures) (omega (arith, below c)),
+      simp length-set (omega arith),
+    )
 
 same-length : tie.Need-same-length Inv-loop μ-loop
 same-length c = search needs

@@ -1,13 +1,10 @@
-use mathlib.Core.Path.{_≡_, refl, sym, ap, _∙_, subst}
-use mathlib.Core.Bool.{Bool}
-use Prim.Native.Nat.{ℕ, _-_, _*_, _<_}
+use mathlib.Core.Path.{_≡_, refl, sym}
+use Prim.Native.Nat.{_-_, _<_}
 use native.Mathlib.Omega.{arith}
 use borrow.Author.Needs.{needs}
-use borrow.Author.Tests.{eqb-true, eqb-false}
-use lib.ListN.{length, getD}
+use lib.ListN.{length}
 use Rattle.split.specs.Split.{setOf}
 use Rattle.split.specs.Rule.{End, source, destination, blockAt}
-use Rattle.split.specs.Mask.{bitAt, FlippedAt}
 use Rattle.split.proofs.SetsLaws.{Flips, flips-at, SoFar, none-yet, block-lt, no-such-set, met-twice, all-met, one-more}
 use Rattle.split.proofs.sets.is_split.Statement.{statement}
 use Rattle.split.proofs.sets.is_split.Tie as tie
@@ -48,7 +45,8 @@ fits : (i : tie.In-loop Inv-loop μ-loop) (end : End)
     → (let a = i .before .before .before .before .args in blockAt (a .m) (a .list .now) end (i .before .loop .k) < 65)
 fits i end =
     let start = i .before .before .before .before in
-    block-lt (start .args .n) (start .args .m) (start .args .list .now) (start .args .sets .now) (start .pre .0) (start .pre .1) end (i .before .loop .k) (omega arith)
+    block-lt (start .args .n) (start .args .m) (start .args .list .now) (start .args .sets .now) (start .pre .0)
+    (start .pre .1) end (i .before .loop .k) (omega arith)
 
 flip-requires : tie.Need-flip-requires Inv-loop μ-loop
 flip-requires c κs = omega (arith, fits (c .before .before .before .before .before) source)
@@ -57,24 +55,28 @@ flip-requires c κs = omega (arith, fits (c .before .before .before .before .bef
 from-flips : (c : tie.After-flip Inv-loop μ-loop)
     → (let i = c .before .before .before .before .before .before in
     let a = i .before .before .before .before .args in
-    Flips (blockAt (a .m) (a .list .now) source (i .before .loop .k)) (setOf (a .sets .now) (i .before .loop .k)) (i .before .loop .from) (c .flip .last .0) (c .flip .result))
+    Flips (blockAt (a .m) (a .list .now) source (i .before .loop .k)) (setOf (a .sets .now) (i .before .loop .k))
+    (i .before .loop .from) (c .flip .last .0) (c .flip .result))
 unfolding setOf
 from-flips c = flips-at (c .before .block-at .ensures) (c .before .before .before .before .set-byte .ensures) (c .flip .ensures)
 
 to-flips : (c : tie.After-flip2 Inv-loop μ-loop)
     → (let i = c .before .before .before .before .before .before .before .before .before .before .before in
     let a = i .before .before .before .before .args in
-    Flips (blockAt (a .m) (a .list .now) destination (i .before .loop .k)) (setOf (a .sets .now) (i .before .loop .k)) (i .before .loop .to) (c .flip2 .last .0) (c .flip2 .result))
+    Flips (blockAt (a .m) (a .list .now) destination (i .before .loop .k)) (setOf (a .sets .now) (i .before .loop .k))
+    (i .before .loop .to) (c .flip2 .last .0) (c .flip2 .result))
 unfolding setOf
 to-flips c =
-    flips-at (c .before .block-at2 .ensures) (c .before .before .before .before .before .before .before .before .before .set-byte .ensures) (c .flip2 .ensures)
+    flips-at (c .before .block-at2 .ensures)
+    (c .before .before .before .before .before .before .before .before .before .set-byte .ensures) (c .flip2 .ensures)
 
 returns-2 : tie.Need-returns-2 Inv-loop μ-loop
 returns-2 c =
     let f = c .before .before in
     let i = f .before .before .before .before .before .before in
     let start = i .before .before .before .before in
-    sym (met-twice _ _ _ _ (start .pre .0) (start .pre .1) source _ _ (i .before .loop .k) (omega arith) (i .before .loop .inv .0 .from-masks) _ (from-flips f) (c .if2 .taken))
+    sym (met-twice _ _ _ _ (start .pre .0) (start .pre .1) source _ _ (i .before .loop .k) (omega arith)
+    (i .before .loop .inv .0 .from-masks) _ (from-flips f) (c .if2 .taken))
 
 slice-aggregate-flip-2 : tie.Need-slice-aggregate-flip-2 Inv-loop μ-loop
 slice-aggregate-flip-2 c = search needs
@@ -83,14 +85,19 @@ block-at-requires-2 : tie.Need-block-at-requires-2 Inv-loop μ-loop
 block-at-requires-2 c κs = search needs
 
 flip-requires-2 : tie.Need-flip-requires-2 Inv-loop μ-loop
-flip-requires-2 c κs = omega (arith, fits (c .before .before .before .before .before .before .before .before .before .before) destination)
+flip-requires-2 c κs = omega (
+  arith,
+  fits
+      (c .before .before .before .before .before .before .before .before .before .before) destination,
+)
 
 returns-3 : tie.Need-returns-3 Inv-loop μ-loop
 returns-3 c =
     let t = c .before .before in
     let i = t .before .before .before .before .before .before .before .before .before .before .before in
     let start = i .before .before .before .before in
-    sym (met-twice _ _ _ _ (start .pre .0) (start .pre .1) destination _ _ (i .before .loop .k) (omega arith) (i .before .loop .inv .0 .to-masks) _ (to-flips t) (c .if3 .taken))
+    sym (met-twice _ _ _ _ (start .pre .0) (start .pre .1) destination _ _ (i .before .loop .k) (omega arith)
+    (i .before .loop .inv .0 .to-masks) _ (to-flips t) (c .if3 .taken))
 
 add-k : tie.Need-add-k Inv-loop μ-loop
 add-k c = search needs
@@ -105,7 +112,8 @@ loop-again c =
     let f = t .before .before .before .before .before in
     let i = f .before .before .before .before .before .before in
     let start = i .before .before .before .before in (
-      one-more _ _ _ _ (start .pre .0) (start .pre .1) _ _ _ (i .before .loop .inv .0) (omega arith) (omega arith) _ _ _ _ (from-flips f) (to-flips t)
+      one-more _ _ _ _ (start .pre .0) (start .pre .1) _ _ _ (i .before .loop .inv .0) (omega arith) (omega arith) _ _ _ _
+          (from-flips f) (to-flips t)
           (t .before .before .before .if2 .left) (c .if3 .left),
       omega (arith, f .flip .kept .0),
       omega (arith, t .flip2 .kept .0),
