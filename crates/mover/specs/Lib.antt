@@ -3,3 +3,4 @@ pub mod Moving
 pub mod Slots
 pub mod Steps
 pub mod Answers
+pub mod Stands
