@@ -46,7 +46,7 @@ module _ (M : Move) (chip : Chip) (work : List ℕ) where
   abbrev Z : Sizes
   Z = M .sizes
 
-  parts-ok : badParts M chip work ≡ false → (length (M .list) ≡ listLength Z) × (length (M .sets) ≡ setsLength Z) × Lent M chip work
+  pub parts-ok : badParts M chip work ≡ false → (length (M .list) ≡ listLength Z) × (length (M .sets) ≡ setsLength Z) × Lent M chip work
   unfolding badParts badChip
   parts-ok e =
       let a = not (eqb (length (M .list)) (listLength Z)) in

@@ -8,3 +8,5 @@ pub mod WalkLaws
 pub mod StepLaws
 pub mod SlotLaws
 pub mod RunLaws
+pub mod RefusalLaws
+pub mod StandLaws

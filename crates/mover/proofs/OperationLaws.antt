@@ -15,11 +15,11 @@ use Rattle.mover.specs.Place.{isBackward, opOf}
 module _ (Z : Sizes) (at : ℕ) where
   open Sizes Z using (n, m, s)
 
-  forward-filling : at < n * (m + 1) → filling Z at ≡ at / (m + 1)
+  pub forward-filling : at < n * (m + 1) → filling Z at ≡ at / (m + 1)
   unfolding filling
   forward-filling h = rw (lt-ltb at (n * (m + 1)) h)
 
-  backward-filling : n * (m + 1) ≤ at → filling Z at ≡ n - (at - n * (m + 1)) / (m + 1)
+  pub backward-filling : n * (m + 1) ≤ at → filling Z at ≡ n - (at - n * (m + 1)) / (m + 1)
   unfolding filling
   backward-filling h = rw (le-ltb at (n * (m + 1)) h)
 

@@ -1,20 +1,23 @@
 -- A run step by step: what one step more leaves and counts.
 use mathlib.Core.Path.{_≡_, refl, sym, ap, ap₂, _∙_}
+use mathlib.Core.Bool.{cond}
 use mathlib.Core.List.{List, [], _∷_}
-use Prim.Native.Nat.{ℕ, zero, suc, _+_, _*_, _≤_, _<_}
+use Prim.Native.Nat.{ℕ, zero, suc, _+_, _-_, _*_, _≤_, _<_, min}
 use native.Mathlib.Nat.{add-zero}
 use native.Mathlib.Omega.{arith}
-use lib.ListN.{length}
+use lib.Dec.{eqb}
 use Rattle.flash.specs.Geometry.{Sizes}
 use Rattle.flash.specs.Chip.{Chip}
 use Rattle.flash.proofs.Bounds.{product-le}
 use Rattle.method.specs.Move.{Move}
 use Rattle.method.specs.Place.{Operation, write, erase, done, operationAt, lastPlace}
 use Rattle.method.specs.Step.{Running, step, steps, Tally, tallied, tally, operationsFrom}
+use Rattle.method.specs.Answers.{stepsTaken, runCarriedOut}
 use Rattle.method.proofs.Runs.{steps-add}
 use Rattle.method.proofs.Tallies.{Added, tally-split, operationsFrom-suc}
 use Rattle.mover.specs.Moving.{Given}
-use Rattle.mover.specs.Steps.{Lent, runningOf, Leaves, Counted}
+use Rattle.mover.specs.Steps.{runningOf, Leaves, Counted}
+use Rattle.mover.specs.Answers.{Answers}
 
 -- what is lent makes up the run
 left-is : (after : Running) (store marks work : List ℕ) → Leaves after store marks work → runningOf store marks work ≡ after
@@ -61,3 +64,25 @@ at-most-one done x y z C = (omega (arith, C .steps-is), omega (arith, C .writes-
 pub last-small : (M : Move) → Given M → lastPlace (M .sizes) ≤ 8320
 unfolding lastPlace
 last-small M G = omega (arith, product-le (2 * M .sizes .n) (M .sizes .m + 1) {c = 128} {d = 65} (omega (arith, G .n-high)) (omega (arith, G .m-high)))
+
+-- ---- the answer of a run that is carried out
+pub carried : (M : Move) (store marks work : List ℕ) (place budget last taken : ℕ) (store′ marks′ work′ : List ℕ) (a b c finished : ℕ)
+    → last ≡ lastPlace (M .sizes) → taken ≡ min budget (last - place) → finished ≡ cond (eqb (place + taken) last) 1 0
+    → Leaves (steps M taken place (runningOf store marks work)) store′ marks′ work′ → Counted (tally (operationsFrom M place taken)) a b c
+    → Answers (runCarriedOut M (record { store = store; marks = marks }) work place budget)
+    (record { number = 0; place = place + taken; steps = a; writes = b; erases = c; finished = finished }) store′ marks′ work′
+unfolding runCarriedOut stepsTaken
+carried M store marks work place budget last taken store′ marks′ work′ a b c finished e f g L C =
+    let t : taken ≡ min budget (lastPlace (M .sizes) - place) = rw e at f in
+    rw (← t)
+    (record {
+      number-is = refl;
+      place-is = refl;
+      steps-is = C .steps-is;
+      writes-is = C .writes-is;
+      erases-is = C .erases-is;
+      finished-is = rw e at g;
+      store-is = L .store-is;
+      marks-is = L .marks-is;
+      work-is = L .work-is;
+    })

@@ -5,3 +5,4 @@ pub mod Moving
 pub mod Slots
 pub mod Steps
 pub mod Answers
+pub mod Stands

@@ -2,9 +2,11 @@
 
 ghost use mathlib.Core.Path.{_≡_};
 ghost use Prim.Native.Nat.{_+_, _≤_, _<_};
-ghost use Rattle.method.specs.Place.{operationAt};
+ghost use Rattle.method.specs.Place.{operationAt, lastPlace};
+ghost use Rattle.mover.specs.Moving.{sizesOf};
 ghost use Rattle.mover.specs.Place.{opOf};
 use crate::letters::letter_after;
+use crate::sizes::Sizes;
 
 // What is to be done at a place.
 pub enum Op {
@@ -67,4 +69,12 @@ impl Place {
     {
         Place { at: self.at + 1 }
     }
+}
+
+// The place after the last step.
+pub fn last_place(z: Sizes) -> usize
+    requires { ⌜ (z .n ≤ 64) × (z .m ≤ 64) ⌝ }
+    ensures { λ r. ⌜ r ≡ lastPlace (sizesOf z) ⌝ }
+{
+    2 * z.n * (z.m + 1)
 }

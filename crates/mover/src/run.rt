@@ -1,16 +1,21 @@
 // The run: as many steps as the budget allows.
 ghost use mathlib.Core.Path.{_≡_};
-ghost use Prim.Native.Nat.{_+_, _*_, _≤_};
+ghost use mathlib.Core.Bool.{cond};
+ghost use Prim.Native.Nat.{_+_, _≤_, min};
+ghost use lib.Dec.{eqb};
 ghost use Rattle.method.specs.Place.{lastPlace};
 ghost use Rattle.method.specs.Step as method;
 ghost use Rattle.method.specs.Step.{tally, operationsFrom};
-ghost use Rattle.method.specs.Answers.{runCarriedOut};
+ghost use Rattle.method.specs.Answers.{runCarriedOut, runAnswer};
 ghost use Rattle.mover.specs.Moving.{sizesOf, moveOf, Given};
 ghost use Rattle.mover.specs.Steps.{Ready, Lent, runningOf, Leaves, Counted};
 ghost use Rattle.mover.specs.Answers.{Answers};
 use crate::cycles::follow;
 use crate::place::Place;
+use crate::place::last_place;
+use crate::refusals::move_refusal;
 use crate::sizes::Sizes;
+use crate::stands::is_elsewhere;
 use crate::step::Tally;
 use crate::step::step;
 
@@ -59,4 +64,88 @@ fn take_steps(
         writes,
         erases,
     }
+}
+
+fn smaller(a: usize, b: usize) -> usize
+    ensures { λ r. ⌜ r ≡ min a b ⌝ }
+{
+    if a < b { a } else { b }
+}
+
+// 1 where the two are equal, else 0.
+fn same(a: usize, b: usize) -> u32
+    ensures { λ r. ⌜ r ≡ cond (eqb a b) 1 0 ⌝ }
+{
+    if a == b { 1 } else { 0 }
+}
+
+// Carries out a run that is not refused.
+fn carry_out(
+    z: Sizes,
+    list: &[u16],
+    sets: &[u8],
+    store: &mut [u8],
+    marks: &mut [u8],
+    work: &mut [u8],
+    place: usize,
+    budget: usize,
+) -> Ran
+    requires { ⌜ Given (moveOf z (now list) (now sets)) × Lent (moveOf z (now list) (now sets)) (now store) (now marks) (now work) × (place ≤ lastPlace (sizesOf z)) ⌝ }
+    ensures { λ r. ⌜ Answers (runCarriedOut (moveOf z (now (list .entry)) (now (sets .entry))) (record { store = now (store .entry); marks = now (marks .entry) }) (now (work .entry)) place budget) r (now (store .exit)) (now (marks .exit)) (now (work .exit)) ⌝ }
+{
+    let mut to = [0u8; 4096];
+    let mut from = [0u8; 4096];
+    follow(z, list, sets, &mut to, &mut from);
+    let last = last_place(z);
+    let taken = smaller(budget, last - place);
+    let done = take_steps(z, list, sets, &to, &from, store, marks, work, place, taken);
+    let reached = place + taken;
+    Ran {
+        number: 0,
+        place: reached as u32,
+        steps: done.steps,
+        writes: done.writes,
+        erases: done.erases,
+        finished: same(reached, last),
+    }
+}
+
+fn refused(number: u32) -> Ran
+    ensures { λ r. ⌜ (r .number ≡ number) × (r .place ≡ 0) × (r .steps ≡ 0) × (r .writes ≡ 0) × (r .erases ≡ 0) × (r .finished ≡ 0) ⌝ }
+{
+    Ran {
+        number,
+        place: 0,
+        steps: 0,
+        writes: 0,
+        erases: 0,
+        finished: 0,
+    }
+}
+
+// The run: checks in the table's order, then the steps. A refused run changes nothing that is lent.
+pub fn run(
+    n: usize,
+    m: usize,
+    p: usize,
+    s: usize,
+    list: &[u16],
+    sets: &[u8],
+    store: &mut [u8],
+    marks: &mut [u8],
+    work: &mut [u8],
+    place: usize,
+    budget: usize,
+) -> Ran
+    ensures { λ r. ⌜ Answers (runAnswer (moveOf (record { n = n; m = m; p = p; s = s }) (now (list .entry)) (now (sets .entry))) (record { store = now (store .entry); marks = now (marks .entry) }) (now (work .entry)) place budget) r (now (store .exit)) (now (marks .exit)) (now (work .exit)) ⌝ }
+{
+    let number = move_refusal(n, m, p, s, list, sets, store, marks, work);
+    if number != 0 {
+        return refused(number);
+    }
+    let z = Sizes { n, m, p, s };
+    if is_elsewhere(z, store, marks, place) {
+        return refused(5);
+    }
+    carry_out(z, list, sets, store, marks, work, place, budget)
 }

@@ -1,0 +1,138 @@
+-- Rows 1 to 4 of the table, and what a move is given that they do not refuse.
+use mathlib.Core.Path.{_≡_, refl, _∙_}
+use mathlib.Core.Logic.{_≢_}
+use mathlib.Core.Bool.{Bool, true, false, cond, not}
+use mathlib.Core.List.{List, [], _∷_}
+use Prim.Native.Nat.{ℕ, _≤_}
+use native.Mathlib.Omega.{arith}
+use lib.Dec.{eqb}
+use borrow.Author.Tests.{ne-eqb, not-true, not-false}
+use Rattle.flash.specs.Tables.{Row, firstFit, numberOr0, refusal}
+use Rattle.flash.specs.Geometry.{Sizes, inRange, originalCount}
+use Rattle.flash.specs.Chip.{Chip}
+use Rattle.split.specs.OneToOne.{badList, isOneToOne}
+use Rattle.split.specs.Split.{isSplit}
+use Rattle.method.specs.Move.{Move}
+use Rattle.method.specs.Place.{lastPlace}
+use Rattle.method.specs.Answers.{badParts, isElsewhere, moveRows, runRows, runCarriedOut, runRefused, runAnswer}
+use Rattle.method.proofs.Accepting.{move-accepted, run-taken}
+use Rattle.mover.specs.Moving.{Given}
+use Rattle.mover.specs.Steps.{Lent}
+use Rattle.mover.specs.Answers.{Answers}
+use Rattle.mover.specs.declared.run.Ran.{Ran}
+
+abbrev rows : (a b c d : Bool) → List (Row ℕ) → List (Row ℕ)
+rows a b c d rest =
+    record { fits = a; gives = 1 } ∷ record { fits = b; gives = 2 } ∷ record { fits = c; gives = 3 } ∷ record { fits = d; gives = 4 } ∷ rest
+
+-- the first that fits, and else the rows that follow
+rows-number : (a b c d : Bool) → refusal (rows a b c d []) ≡ cond a 1 (cond b 2 (cond c 3 (cond d 4 0)))
+unfolding refusal firstFit numberOr0
+rows-number true b c d = refl
+rows-number false true c d = refl
+rows-number false false true d = refl
+rows-number false false false true = refl
+rows-number false false false false = refl
+
+rows-then : (a b c d : Bool) (rest : List (Row ℕ)) → refusal (rows a b c d rest) ≡ cond (eqb (refusal (rows a b c d [])) 0) (refusal rest) (refusal (rows a b c d []))
+unfolding refusal firstFit numberOr0
+rows-then true b c d rest = refl
+rows-then false true c d rest = refl
+rows-then false false true d rest = refl
+rows-then false false false true rest = refl
+rows-then false false false false rest = refl
+
+module _ (M : Move) (chip : Chip) (work : List ℕ) where
+  abbrev number : ℕ
+  number = refusal (moveRows M chip work [])
+
+  pub move-number : number
+      ≡ cond (not (inRange (M .sizes))) 1 (cond (badParts M chip work) 2
+      (cond (badList (originalCount (M .sizes)) (M .list)) 3 (cond (not (isSplit (M .sizes .n) (M .sizes .m) (M .list) (M .sets))) 4 0)))
+  unfolding moveRows
+  move-number = rows-number _ _ _ _
+
+  pub move-then : (rest : List (Row ℕ)) → refusal (moveRows M chip work rest) ≡ cond (eqb number 0) (refusal rest) number
+  unfolding moveRows
+  move-then rest = rows-then _ _ _ _ rest
+
+  -- a list that is not one-to-one is bad
+  pub bad-list : isOneToOne (originalCount (M .sizes)) (M .list) ≡ false → badList (originalCount (M .sizes)) (M .list) ≡ true
+  unfolding isOneToOne
+  bad-list e = not-false _ e
+
+  pub good-list : isOneToOne (originalCount (M .sizes)) (M .list) ≡ true → badList (originalCount (M .sizes)) (M .list) ≡ false
+  unfolding isOneToOne
+  good-list e = not-true _ e
+
+  -- what a move that is not refused was given
+  pub given : number ≡ 0 → Given M × Lent M (chip .store) (chip .marks) work
+  given e =
+      let a = move-accepted M chip work [] e in
+      let A = a .0 in
+      let B = A .ranges in (
+        record {
+          n-low = B .n-low;
+          n-high = B .n-high;
+          m-low = B .m-low;
+          m-high = B .m-high;
+          P-low = B .P-low;
+          P-high = B .P-high;
+          s-high = B .s-high;
+          list-length = A .list-length;
+          sets-length = A .sets-length;
+          one-to-one = A .one-to-one;
+          split = A .split;
+        },
+        record { store-length = a .1 .store-length; marks-length = a .1 .marks-length; work-length = a .1 .work-length },
+      )
+
+-- ---- the answer of run
+module _ (M : Move) (chip : Chip) (work : List ℕ) (place budget : ℕ) where
+  -- rows 1 to 4 decide, and else row 5
+  by-move : (x : ℕ) → x ≡ refusal (moveRows M chip work []) → x ≢ 0 → refusal (runRows M chip work place) ≡ x
+  unfolding runRows
+  by-move x e ne = move-then M chip work _ ∙ rw (← e, ne-eqb x 0 ne)
+
+  by-place : (elsewhere : Bool) → 0 ≡ refusal (moveRows M chip work []) → elsewhere ≡ isElsewhere M chip place → refusal (runRows M chip work place) ≡ cond elsewhere 5 0
+  unfolding runRows refusal firstFit numberOr0
+  by-place elsewhere e f = move-then M chip work _ ∙ rw (← e, ← f) (last elsewhere)
+    where
+      last : (t : Bool) → refusal (record { fits = t; gives = 5 } ∷ []) ≡ cond t 5 0
+      last true = refl
+      last false = refl
+
+  refused-answer : (x : ℕ) (ran : Ran) → x ≢ 0 → refusal (runRows M chip work place) ≡ x
+      → (ran .number ≡ x) × (ran .place ≡ 0) × (ran .steps ≡ 0) × (ran .writes ≡ 0) × (ran .erases ≡ 0) × (ran .finished ≡ 0)
+      → Answers (runAnswer M chip work place budget) ran (chip .store) (chip .marks) work
+  unfolding runAnswer runRefused
+  refused-answer x ran ne e r = rw (e, ne-eqb x 0 ne)
+      (record {
+        number-is = r .0;
+        place-is = r .1;
+        steps-is = r .2;
+        writes-is = r .3;
+        erases-is = r .4;
+        finished-is = r .5;
+        store-is = refl;
+        marks-is = refl;
+        work-is = refl;
+      })
+
+  pub refused-by-move : (x : ℕ) (ran : Ran) → x ≡ refusal (moveRows M chip work []) → x ≢ 0
+      → (ran .number ≡ x) × (ran .place ≡ 0) × (ran .steps ≡ 0) × (ran .writes ≡ 0) × (ran .erases ≡ 0) × (ran .finished ≡ 0)
+      → Answers (runAnswer M chip work place budget) ran (chip .store) (chip .marks) work
+  refused-by-move x ran e ne r = refused-answer x ran ne (by-move x e ne) r
+
+  pub refused-by-place : (ran : Ran) → 0 ≡ refusal (moveRows M chip work []) → true ≡ isElsewhere M chip place
+      → (ran .number ≡ 5) × (ran .place ≡ 0) × (ran .steps ≡ 0) × (ran .writes ≡ 0) × (ran .erases ≡ 0) × (ran .finished ≡ 0)
+      → Answers (runAnswer M chip work place budget) ran (chip .store) (chip .marks) work
+  refused-by-place ran e f r = refused-answer 5 ran (λ z. absurd (omega arith)) (by-place true e f) r
+
+  module _ (e : 0 ≡ refusal (moveRows M chip work [])) (f : false ≡ isElsewhere M chip place) where
+    pub in-place : place ≤ lastPlace (M .sizes)
+    in-place = run-taken M chip work place (by-place false e f) .stands .inside
+
+    pub not-refused : (ran : Ran) (store marks after : List ℕ) → Answers (runCarriedOut M chip work place budget) ran store marks after → Answers (runAnswer M chip work place budget) ran store marks after
+    unfolding runAnswer
+    not-refused ran store marks after A = rw (by-place false e f) A
