@@ -2,6 +2,7 @@ use Prim.Native.Nat.{_+_}
 use native.Mathlib.Omega.{arith}
 use borrow.Author.Needs.{needs}
 use Rattle.flash.proofs.Bounds.{product-le}
+use Rattle.method.specs.Move.{letter}
 use Rattle.mover.specs.Moving.{sizesOf}
 use Rattle.mover.proofs.StandLaws.{due-below, due-plain, due-code, due-final, due-finals}
 use Rattle.mover.proofs.stands.marks_due.Statement.{statement}
@@ -20,6 +21,7 @@ letter-after-requires : tie.Need-letter-after-requires
 letter-after-requires c κs = search needs
 
 returns : tie.Need-returns
+unfolding letter
 returns c =
     let a = c .before .before .before .args in
     due-below (sizesOf (a .z)) (a .place) (a .block) (c .before .before .filling .result) _ (c .before .before .filling .ensures) (c .before .if1 .taken) (c .letter-after .ensures)
@@ -34,6 +36,7 @@ letter-after-requires-2 : tie.Need-letter-after-requires-2
 letter-after-requires-2 c κs = search needs
 
 returns-2 : tie.Need-returns-2
+unfolding letter
 returns-2 c =
     let a = c .before .before .before .before .before .before .args in
     due-plain (sizesOf (a .z)) (a .place) (a .block) (c .before .before .before .before .before .filling .result) _ (c .before .before .before .before .before .filling .ensures) (c .before .before .if2 .taken) (c .before .if3 .taken) (c .letter-after2 .ensures)
@@ -42,6 +45,7 @@ letter-after-requires-3 : tie.Need-letter-after-requires-3
 letter-after-requires-3 c κs = search needs
 
 returns-3 : tie.Need-returns-3
+unfolding letter
 returns-3 c =
     let a = c .before .before .before .before .before .before .args in
     due-code (sizesOf (a .z)) (a .place) (a .block) (c .before .before .before .before .before .filling .result) _ (c .before .before .before .before .before .filling .ensures) (c .before .before .if2 .taken) (c .before .before .before .before .if1 .left) (c .before .if3 .left) (c .letter-after3 .ensures)
@@ -50,6 +54,7 @@ letter-after-requires-4 : tie.Need-letter-after-requires-4
 letter-after-requires-4 c κs = search needs
 
 returns-4 : tie.Need-returns-4
+unfolding letter
 returns-4 c =
     let a = c .before .before .before .before .before .before .args in
     due-final (sizesOf (a .z)) (a .place) (a .block) (c .before .before .before .before .before .filling .result) _ (c .before .before .before .before .before .filling .ensures) (c .before .before .if2 .left) (c .before .if4 .taken) (c .letter-after4 .ensures)
@@ -58,6 +63,7 @@ letter-after-requires-5 : tie.Need-letter-after-requires-5
 letter-after-requires-5 c κs = search needs
 
 returns-5 : tie.Need-returns-5
+unfolding letter
 returns-5 c =
     let a = c .before .before .before .before .before .before .args in
     due-finals (sizesOf (a .z)) (a .place) (a .block) (c .before .before .before .before .before .filling .result) _ (c .before .before .before .before .before .filling .ensures) (c .before .before .if2 .left) (c .before .before .before .before .if1 .left) (c .before .if4 .left) (c .letter-after5 .ensures)
