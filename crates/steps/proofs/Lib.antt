@@ -1,0 +1,3 @@
+pub mod Exampled
+pub mod LineLaws
+pub mod RestLaws
