@@ -13,6 +13,8 @@
  * sets         n * m bytes, the set of each page
  * store        (n + 1) * m pages of page_bytes bytes, block after block, the spare first
  * marks        (n + 1) * m bytes, one a page: 0, 1 or 2, or 255 where nothing is written
+ * work         page_bytes bytes that the call works in
+ * place        how many steps of the move are done, 0 to 2 * n * (m + 1)
  */
 #ifndef MOVER_H
 #define MOVER_H
@@ -28,6 +30,8 @@ enum mover_refusal {
     MOVER_BAD_SIZES = 1,     /* n, m, page_bytes or s out of its range */
     MOVER_BAD_LENGTH = 2,    /* a lent part not of its exact length */
     MOVER_BAD_LIST = 3,      /* a list entry at or above n * m, or met twice */
+    MOVER_BAD_SPLIT = 4,     /* the sets aren't a split of the list */
+    MOVER_BAD_PLACE = 5,     /* place above 2 * n * (m + 1), marks other than that place has, or a page marked 255 not blank */
     MOVER_BAD_MARKS = 6      /* marks fit no moment of the move */
 };
 
@@ -35,6 +39,16 @@ enum mover_refusal {
  * page. Returns 0, or 1, 2 or 3; then `sets` is as it was. */
 uint32_t mover_split(uint32_t n, uint32_t m, uint32_t page_bytes, uint32_t s,
                      const uint8_t *list, uint64_t list_len, uint8_t *sets, uint64_t sets_len);
+
+/* Carries out steps of the move, from the place where it stands: as many as `budget`, or up to the last one. A write puts one page
+ * and its mark, an erase clears one block. Sets *place_reached to where the next run goes on, *steps to the steps taken, of which
+ * *writes and *erases, and *finished to 1 once the place is the last, else to 0. `work` is left with the last page written, or as
+ * it was. Returns 0, or 1, 2, 3, 4 or 5; then every number is 0, and all that was lent is as it was. */
+uint32_t mover_run(uint32_t n, uint32_t m, uint32_t page_bytes, uint32_t s,
+                   const uint8_t *list, uint64_t list_len, const uint8_t *sets, uint64_t sets_len,
+                   uint8_t *store, uint64_t store_len, uint8_t *marks, uint64_t marks_len, uint8_t *work, uint64_t work_len,
+                   uint32_t place, uint32_t budget,
+                   uint32_t *place_reached, uint32_t *steps, uint32_t *writes, uint32_t *erases, uint32_t *finished);
 
 /* Recovery after a power cut. Reads the marks, erases the block that is unfinished, if there is one, and sets *place to where the
  * move goes on and *erases to 0 or 1. Returns 0, or 1, 2 or 6; then both numbers are 0, and store and marks are as they were. */

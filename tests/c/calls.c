@@ -1,4 +1,4 @@
-/* The library from C: document 01's cases of the split and the mend call, and their refusals. */
+/* The library from C: document 01's cases of the calls, and their refusals. */
 #include "mover.h"
 
 #include <stdio.h>
@@ -47,6 +47,55 @@ static void mends(const char *what, const uint8_t *store, const uint8_t *marks, 
                     && memcmp(tags, due_tags, 4) == 0);
 }
 
+/* A store of (n + 1) * m pages of one byte with its marks, and the work page. */
+struct chip {
+    uint8_t store[6], marks[6], work[1];
+};
+
+struct due {
+    uint32_t number, place, steps, writes, erases, finished;
+};
+
+/* The call turns `before` into `after` and returns the numbers due. */
+static void runs(const char *what, uint32_t n, uint32_t m, const uint8_t *list, const uint8_t *sets, uint32_t place, uint32_t budget,
+                 const struct chip *before, struct due due, const struct chip *after)
+{
+    struct chip chip = *before;
+    struct due got = {77, 77, 77, 77, 77, 77};
+    uint64_t slots = ((uint64_t)n + 1) * m;
+    got.number = mover_run(n, m, 1, 0, list, 2 * (uint64_t)n * m, sets, (uint64_t)n * m, chip.store, slots, chip.marks, slots, chip.work,
+                           1, place, budget, &got.place, &got.steps, &got.writes, &got.erases, &got.finished);
+    check(what, memcmp(&got, &due, sizeof got) == 0 && memcmp(&chip, after, sizeof chip) == 0);
+}
+
+static void runs_checked(void)
+{
+    static const uint8_t p1[] = {0, 0, 2, 0, 1, 0, 3, 0}, sets[] = {1, 0, 0, 1}, no_split[] = {0, 0, 1, 1}, set_2[] = {2, 0, 0, 1};
+    static const uint8_t twice[] = {0, 0, 2, 0, 2, 0, 3, 0}, stays[] = {0, 0}, only[] = {0};
+    static const struct chip rest = {{255, 255, 1, 2, 4, 8}, {255, 255, 0, 0, 0, 0}, {77}};
+    static const struct chip coded_1 = {{6, 1, 1, 2, 4, 8}, {1, 1, 0, 0, 0, 0}, {1}};
+    static const struct chip coded_2 = {{6, 1, 4, 8, 4, 8}, {1, 1, 1, 1, 0, 0}, {8}};
+    static const struct chip end = {{255, 255, 1, 4, 2, 8}, {255, 255, 2, 2, 2, 2}, {4}};
+    static const struct chip one = {{255, 9}, {255, 0}, {77}}, one_end = {{255, 9}, {255, 2}, {9}};
+    static const struct chip soiled = {{255, 254, 1, 2, 4, 8}, {255, 255, 0, 0, 0, 0}, {77}};
+    static const struct due refused_3 = {3, 0, 0, 0, 0, 0}, refused_4 = {4, 0, 0, 0, 0, 0}, refused_5 = {5, 0, 0, 0, 0, 0};
+
+    runs("P3: block 0", 2, 2, p1, sets, 0, 2, &rest, (struct due){0, 2, 2, 2, 0, 0}, &coded_1);
+    runs("P3: block 1", 2, 2, p1, sets, 2, 3, &coded_1, (struct due){0, 5, 3, 2, 1, 0}, &coded_2);
+    runs("P3: the end", 2, 2, p1, sets, 5, UINT32_MAX, &coded_2, (struct due){0, 12, 7, 4, 3, 1}, &end);
+    runs("P3: at once", 2, 2, p1, sets, 0, 12, &rest, (struct due){0, 12, 12, 8, 4, 1}, &end);
+    runs("P4", 1, 1, stays, only, 0, 4, &one, (struct due){0, 4, 4, 2, 2, 1}, &one_end);
+    runs("P8: at the end", 2, 2, p1, sets, 12, 9, &end, (struct due){0, 12, 0, 0, 0, 1}, &end);
+    runs("P8: past the end", 2, 2, p1, sets, 13, 9, &end, refused_5, &end);
+    runs("P11: budget 0", 2, 2, p1, sets, 0, 0, &rest, (struct due){0, 0, 0, 0, 0, 0}, &rest);
+    runs("an entry met twice", 2, 2, twice, sets, 0, 9, &rest, refused_3, &rest);
+    runs("no split", 2, 2, p1, no_split, 0, 9, &rest, refused_4, &rest);
+    runs("a set of m", 2, 2, p1, set_2, 0, 9, &rest, refused_4, &rest);
+    runs("marks of another place", 2, 2, p1, sets, 1, 9, &rest, refused_5, &rest);
+    runs("a page marked 255 not blank", 2, 2, p1, sets, 0, 9, &soiled, refused_5, &soiled);
+    runs("3 before 5", 2, 2, twice, sets, 13, 9, &rest, refused_3, &rest);
+}
+
 static void splits_checked(void)
 {
     static const uint8_t p1[] = {0, 0, 2, 0, 1, 0, 3, 0}, p1_sets[] = {1, 0, 0, 1};
@@ -90,6 +139,7 @@ static void mends_checked(void)
 int main(void)
 {
     splits_checked();
+    runs_checked();
     mends_checked();
     printf("%u passed, %u failed\n", passed, failed);
     return failed != 0 || passed == 0;

@@ -13,6 +13,29 @@ extern "C" {
         sets: *mut u8,
         sets_len: u64,
     ) -> u32;
+    fn mover_run(
+        n: u32,
+        m: u32,
+        page_bytes: u32,
+        s: u32,
+        list: *const u8,
+        list_len: u64,
+        sets: *const u8,
+        sets_len: u64,
+        store: *mut u8,
+        store_len: u64,
+        marks: *mut u8,
+        marks_len: u64,
+        work: *mut u8,
+        work_len: u64,
+        place: u32,
+        budget: u32,
+        place_reached: *mut u32,
+        steps: *mut u32,
+        writes: *mut u32,
+        erases: *mut u32,
+        finished: *mut u32,
+    ) -> u32;
     fn mover_mend(
         n: u32,
         m: u32,
@@ -31,7 +54,7 @@ extern "C" {
 pub fn calls() -> Calls {
     Calls {
         split: Some(mover_split),
-        run: None,
+        run: Some(mover_run),
         mend: Some(mover_mend),
         read: None,
     }

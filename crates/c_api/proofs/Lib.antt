@@ -1,3 +1,4 @@
 pub mod BytesLaws
 pub mod SplitLaws
 pub mod MendLaws
+pub mod RunLaws

@@ -1,3 +1,4 @@
 pub mod Bytes
 pub mod SplitExport
 pub mod MendExport
+pub mod RunExport
