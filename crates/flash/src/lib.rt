@@ -5,6 +5,7 @@ pub mod block;
 pub mod page;
 pub mod part;
 pub mod sizes;
+pub mod wide;
 
 // A byte or a mark that is not written.
 pub const ERASED: u8 = 255;

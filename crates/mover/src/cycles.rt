@@ -6,9 +6,9 @@ ghost use lib.ListN.{length};
 ghost use Rattle.method.specs.Cycle.{D, dest, pred, sentTo};
 ghost use Rattle.mover.specs.Moving.{moveOf, Given, Leads, Tells, highestMet};
 use crate::sizes::Sizes;
-use crate::wide::entry;
-use crate::wide::narrow;
-use crate::wide::wide;
+use flash::wide::entry;
+use flash::wide::narrow;
+use flash::wide::wide;
 
 // The original of a set from a block.
 pub fn page_of(z: Sizes, sets: &[u8], set: usize, block: usize) -> usize

@@ -12,4 +12,3 @@ pub mod sizes;
 mod stands;
 mod step;
 mod walk;
-mod wide;

@@ -17,9 +17,9 @@ use crate::place::Op;
 use crate::place::Place;
 use crate::sizes::Sizes;
 use crate::walk::read_slots;
-use crate::wide::wide;
 use flash::block::erase_block;
 use flash::page::write_page;
+use flash::wide::wide;
 
 // What was done: steps, and of these writes and erases.
 pub struct Tally {

@@ -16,9 +16,9 @@ use crate::cycles::page_of;
 use crate::cycles::top_of;
 use crate::letters::letter_after;
 use crate::sizes::Sizes;
-use crate::wide::entry;
-use crate::wide::wide;
 use flash::block::is_full;
+use flash::wide::entry;
+use flash::wide::wide;
 
 // Whether the block is full of the letter that comes i after s. Its first mark tells most blocks that are not.
 pub fn full_of(z: Sizes, marks: &[u8], i: usize, block: usize) -> bool

@@ -4,7 +4,7 @@ ghost use Prim.Native.Nat.{_≤_, _<_};
 ghost use lib.ListN.{length};
 ghost use Rattle.split.specs.Rule.{blockAt};
 ghost use Rattle.split.specs.Ends.{endOf};
-use crate::wide::entry;
+use flash::wide::entry;
 
 // The block that original k comes from, or the block that it goes to.
 pub fn block_at(list: &[u16], m: usize, source: bool, k: usize) -> usize

@@ -6,7 +6,6 @@ mod mask;
 mod path;
 mod rule;
 pub mod sets;
-mod wide;
 
 ghost use Rattle.split.specs.Claims.{SplitEnds, WalkEnds, WalkIsShort, FilledFits, RowsAscend};
 

@@ -2,7 +2,7 @@
 ghost use mathlib.Core.Path.{_≡_};
 ghost use Rattle.split.specs.OneToOne.{isOneToOne};
 use crate::mask::flip;
-use crate::wide::entry;
+use flash::wide::entry;
 
 // Whether no entry is at or above `originals` and none is met twice.
 pub fn check(list: &[u16], originals: usize) -> bool

@@ -7,8 +7,8 @@ ghost use Rattle.split.specs.Ends.{endOf};
 ghost use Rattle.split.specs.Work.{pageIn, Found, Working, Blocked, Exchanged};
 use crate::ends::block_at;
 use crate::mask::flip_both;
-use crate::wide::entry;
-use crate::wide::set_byte;
+use flash::wide::entry;
+use flash::wide::wide;
 
 // The original whose place at an end this is: a block's pages are consecutive at the source.
 fn page_in(from: &[u16; 4096], source: bool, place: usize) -> usize
@@ -36,7 +36,7 @@ fn find(
     while place < end {
         let page = page_in(from, source, place);
         if page < k {
-            if set_byte(sets[page]) == set {
+            if wide(sets[page]) == set {
                 return page;
             }
         }

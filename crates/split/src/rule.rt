@@ -12,7 +12,7 @@ use crate::mask::flip;
 use crate::mask::has;
 use crate::mask::lowest_free;
 use crate::path::exchange;
-use crate::wide::entry;
+use flash::wide::entry;
 
 // Turns the list round: the original that goes to each place.
 fn invert(list: &[u16], from: &mut [u16])

@@ -6,7 +6,7 @@ ghost use Rattle.split.specs.Split.{isSplit};
 ghost use Rattle.split.specs.Accepted.{Accepted};
 use crate::ends::block_at;
 use crate::mask::flip;
-use crate::wide::set_byte;
+use flash::wide::wide;
 
 // Whether the set bytes are a split of a list that passed the check: no set is met twice at a block, at either end.
 pub fn is_split(n: usize, m: usize, list: &[u16], sets: &[u8]) -> bool
@@ -17,7 +17,7 @@ pub fn is_split(n: usize, m: usize, list: &[u16], sets: &[u8]) -> bool
     let mut to = [0u64; 65];
     let mut k = 0;
     while k < list.len() {
-        let set = set_byte(sets[k]);
+        let set = wide(sets[k]);
         if m <= set {
             return false;
         }

@@ -27,11 +27,11 @@ loop-holds c = search-start _ _ _ _ _ _ _ (c .before .pre .0)
 page-in-requires : tie.Need-page-in-requires Inv-loop μ-loop
 page-in-requires c κs = search needs
 
-shared-slice-read-set-byte : tie.Need-shared-slice-read-set-byte Inv-loop μ-loop
-shared-slice-read-set-byte c = search needs
+shared-slice-read-wide : tie.Need-shared-slice-read-wide Inv-loop μ-loop
+shared-slice-read-wide c = search needs
 
-set-byte-requires : tie.Need-set-byte-requires Inv-loop μ-loop
-set-byte-requires c κs = search needs
+wide-requires : tie.Need-wide-requires Inv-loop μ-loop
+wide-requires c κs = search needs
 
 returns : tie.Need-returns Inv-loop μ-loop
 unfolding setOf
@@ -40,7 +40,7 @@ returns c =
     let i = p .before in
     search-hit _ _ _ _ _ _ _ (i .before .loop .place) (i .before .loop .inv) _ (p .page-in .ensures) (i .loop-test .taken)
     (c .before .before .before .if1 .taken)
-    (sym (c .before .set-byte .ensures) ∙ c .if2 .taken)
+    (sym (c .before .wide .ensures) ∙ c .if2 .taken)
 
 add-place : tie.Need-add-place Inv-loop μ-loop
 add-place c = search needs
@@ -69,8 +69,8 @@ find-spec =
     sub-place
     loop-holds
     page-in-requires
-    shared-slice-read-set-byte
-    set-byte-requires
+    shared-slice-read-wide
+    wide-requires
     returns
     add-place
     loop-less

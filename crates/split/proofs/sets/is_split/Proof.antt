@@ -20,11 +20,11 @@ loop-holds : tie.Need-loop-holds Inv-loop μ-loop
 loop-holds c =
     let a = c .before .before .args in (none-yet (a .n) (a .m) 65 (a .list .now) (a .sets .now), refl, refl)
 
-shared-slice-read-set-byte : tie.Need-shared-slice-read-set-byte Inv-loop μ-loop
-shared-slice-read-set-byte c = search needs
+shared-slice-read-wide : tie.Need-shared-slice-read-wide Inv-loop μ-loop
+shared-slice-read-wide c = search needs
 
-set-byte-requires : tie.Need-set-byte-requires Inv-loop μ-loop
-set-byte-requires c κs = search needs
+wide-requires : tie.Need-wide-requires Inv-loop μ-loop
+wide-requires c κs = search needs
 
 returns : tie.Need-returns Inv-loop μ-loop
 unfolding setOf
@@ -58,7 +58,7 @@ from-flips : (c : tie.After-flip Inv-loop μ-loop)
     Flips (blockAt (a .m) (a .list .now) source (i .before .loop .k)) (setOf (a .sets .now) (i .before .loop .k))
     (i .before .loop .from) (c .flip .last .0) (c .flip .result))
 unfolding setOf
-from-flips c = flips-at (c .before .block-at .ensures) (c .before .before .before .before .set-byte .ensures) (c .flip .ensures)
+from-flips c = flips-at (c .before .block-at .ensures) (c .before .before .before .before .wide .ensures) (c .flip .ensures)
 
 to-flips : (c : tie.After-flip2 Inv-loop μ-loop)
     → (let i = c .before .before .before .before .before .before .before .before .before .before .before in
@@ -68,7 +68,7 @@ to-flips : (c : tie.After-flip2 Inv-loop μ-loop)
 unfolding setOf
 to-flips c =
     flips-at (c .before .block-at2 .ensures)
-    (c .before .before .before .before .before .before .before .before .before .set-byte .ensures) (c .flip2 .ensures)
+    (c .before .before .before .before .before .before .before .before .before .wide .ensures) (c .flip2 .ensures)
 
 returns-2 : tie.Need-returns-2 Inv-loop μ-loop
 returns-2 c =
@@ -131,8 +131,8 @@ is-split-spec =
     Inv-loop
     μ-loop
     loop-holds
-    shared-slice-read-set-byte
-    set-byte-requires
+    shared-slice-read-wide
+    wide-requires
     returns
     slice-aggregate-flip
     block-at-requires

@@ -1,4 +1,4 @@
-// Numbers of the lent parts and of the tables as `usize`, and back.
+// Bytes and list entries as `usize`, and back.
 ghost use mathlib.Core.Path.{_≡_};
 ghost use Prim.Native.Nat.{_<_};
 
