@@ -6,8 +6,8 @@ use native.Mathlib.Omega.{arith}
 use Rattle.flash.specs.Geometry.{Sizes}
 use Rattle.flash.specs.Chip.{Chip}
 use Rattle.method.proofs.AnswerBounds.{mend-small}
-use Rattle.mover.specs.MendIs.{MendIs}
-use Rattle.mover.specs.declared.mend.Mended.{Mended}
+use Rattle.recovery.specs.MendIs.{MendIs}
+use Rattle.recovery.specs.declared.mend.Mended.{Mended}
 
 pub small : {Z : Sizes} {chip : Chip} {r : Mended} {store marks : List ℕ} → MendIs Z chip r store marks → (r .number ≤ 6) × (r .place ≤ 8384) × (r .erases ≤ 1)
 small {Z} {chip} I =

@@ -2,7 +2,7 @@
 
 ghost use mathlib.Core.Path.{_≡_};
 ghost use Rattle.c_api.specs.MendExport.{MendExported};
-use mover::mend::mend;
+use recovery::mend::mend;
 
 #[no_mangle]
 pub extern "C" fn mover_mend(

@@ -1,12 +1,6 @@
 pub mod OperationLaws
-pub mod Reading
-pub mod Search
-pub mod Tells
-pub mod Answer
-pub mod CycleLaws
-pub mod WalkLaws
 pub mod StepLaws
-pub mod SlotLaws
+pub mod WriteSlots
 pub mod RunLaws
 pub mod RefusalLaws
 pub mod StandLaws

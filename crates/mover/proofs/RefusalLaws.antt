@@ -16,7 +16,7 @@ use Rattle.method.specs.Move.{Move}
 use Rattle.method.specs.Place.{lastPlace}
 use Rattle.method.specs.Answers.{badParts, isElsewhere, moveRows, runRows, runCarriedOut, runRefused, runAnswer}
 use Rattle.method.proofs.Accepting.{move-accepted, run-taken}
-use Rattle.mover.specs.Moving.{Given}
+use Rattle.walk.specs.Moving.{Given}
 use Rattle.mover.specs.Steps.{Lent}
 use Rattle.mover.specs.Answers.{Answers}
 use Rattle.mover.specs.declared.run.Ran.{Ran}

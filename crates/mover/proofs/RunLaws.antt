@@ -15,7 +15,7 @@ use Rattle.method.specs.Step.{Running, step, steps, Tally, tallied, tally, oper
 use Rattle.method.specs.Answers.{stepsTaken, runCarriedOut}
 use Rattle.method.proofs.Runs.{steps-add}
 use Rattle.method.proofs.Tallies.{Added, tally-split, operationsFrom-suc}
-use Rattle.mover.specs.Moving.{Given}
+use Rattle.walk.specs.Moving.{Given}
 use Rattle.mover.specs.Steps.{runningOf, Leaves, Counted}
 use Rattle.mover.specs.Answers.{Answers}
 

@@ -22,7 +22,7 @@ use Rattle.method.specs.Answers.{isElsewhere}
 use Rattle.method.proofs.Places.{pages-in, forward-until, backward-from}
 use Rattle.method.proofs.Held.{held-below, held-above, held-written, held-blank, MarksAt, marksOf-at, marks-eq}
 use Rattle.mover.specs.Stands.{MarksDue, blockStands}
-use Rattle.mover.proofs.WalkLaws.{none-full}
+use Rattle.walk.proofs.WalkLaws.{none-full}
 
 module _ (Z : Sizes) (place : ℕ) where
   open Sizes Z using (n, m, s)

@@ -25,10 +25,10 @@ use Rattle.method.proofs.Held.{Change, by-write, by-erase, change}
 use Rattle.method.proofs.Cycles.{sent-in}
 use Rattle.mover.specs.declared.place.Op.the-variants.{Write, Erase, Done}
 use Rattle.mover.specs.Place.{opOf}
-use Rattle.mover.specs.Moving.{Given}
-use Rattle.mover.specs.Slots.{Appends}
+use Rattle.walk.specs.Moving.{Given}
+use Rattle.walk.specs.Slots.{Appends}
 use Rattle.mover.specs.Steps.{runningOf, Leaves, Counted, passOf}
-use Rattle.mover.proofs.CycleLaws.{accepted}
+use Rattle.walk.proofs.CycleLaws.{accepted}
 
 -- slots put behind slots
 pub appends-twice : (one two three more others : List ℕ) (a b : ℕ) → Appends one 0 more two a → Appends two a others three b → take b three ≡ more ++ others

@@ -10,7 +10,7 @@ use Rattle.method.specs.Place.{Pass, forward, backward}
 use Rattle.method.specs.Cycle.{dest, pred}
 use Rattle.method.specs.Step as method
 use Rattle.method.specs.Step.{Running}
-use Rattle.mover.specs.Moving.{Given, Tells}
+use Rattle.walk.specs.Moving.{Given, Tells}
 
 -- an accepted move with the tables of its cycles
 pub record Ready (M : Move) (to from : List ℕ) : Type 0 where

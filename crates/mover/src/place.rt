@@ -3,10 +3,10 @@
 ghost use mathlib.Core.Path.{_≡_};
 ghost use Prim.Native.Nat.{_+_, _≤_, _<_};
 ghost use Rattle.method.specs.Place.{operationAt, lastPlace};
-ghost use Rattle.mover.specs.Moving.{sizesOf};
+ghost use Rattle.walk.specs.Moving.{sizesOf};
 ghost use Rattle.mover.specs.Place.{opOf};
-use crate::letters::letter_after;
-use crate::sizes::Sizes;
+use walk::letters::letter_after;
+use walk::sizes::Sizes;
 
 // What is to be done at a place.
 pub enum Op {

@@ -4,14 +4,14 @@ ghost use mathlib.Core.List.{[]};
 ghost use Prim.Native.Nat.{_≤_};
 ghost use Rattle.flash.specs.Tables.{refusal};
 ghost use Rattle.method.specs.Answers.{badParts, moveRows};
-ghost use Rattle.mover.specs.Moving.{moveOf};
-use crate::sizes::Sizes;
+ghost use Rattle.walk.specs.Moving.{moveOf};
 use flash::sizes::in_range;
 use flash::sizes::original_count;
 use flash::sizes::slot_count;
 use flash::sizes::store_length;
 use split::list::check;
 use split::sets::is_split;
+use walk::sizes::Sizes;
 
 // Number 2: whether a lent part is not of its exact length.
 fn bad_parts(z: Sizes, list: &[u16], sets: &[u8], store: &[u8], marks: &[u8], work: &[u8]) -> bool

@@ -7,17 +7,17 @@ ghost use Rattle.method.specs.Place.{lastPlace};
 ghost use Rattle.method.specs.Step as method;
 ghost use Rattle.method.specs.Step.{tally, operationsFrom};
 ghost use Rattle.method.specs.Answers.{runCarriedOut, runAnswer};
-ghost use Rattle.mover.specs.Moving.{sizesOf, moveOf, Given};
+ghost use Rattle.walk.specs.Moving.{sizesOf, moveOf, Given};
 ghost use Rattle.mover.specs.Steps.{Ready, Lent, runningOf, Leaves, Counted};
 ghost use Rattle.mover.specs.Answers.{Answers};
-use crate::cycles::follow;
 use crate::place::Place;
 use crate::place::last_place;
 use crate::refusals::move_refusal;
-use crate::sizes::Sizes;
 use crate::stands::is_elsewhere;
 use crate::step::Tally;
 use crate::step::step;
+use walk::cycles::follow;
+use walk::sizes::Sizes;
 
 // What a run returns: the refusal number, and 0 in every other number with it. `finished` is 1, or 0 for stopped.
 pub struct Ran {

@@ -10,14 +10,14 @@ ghost use Rattle.flash.specs.Chip.{erased, markAt, isBlank};
 ghost use Rattle.method.specs.Place as method;
 ghost use Rattle.method.specs.Place.{lastPlace, marksOf};
 ghost use Rattle.method.specs.Answers.{isElsewhere};
-ghost use Rattle.mover.specs.Moving.{sizesOf, moveOf};
+ghost use Rattle.walk.specs.Moving.{sizesOf, moveOf};
 ghost use Rattle.mover.specs.Stands.{Within, MarksDue, blockStands};
-use crate::letters::letter_after;
 use crate::place::last_place;
-use crate::sizes::Sizes;
 use flash::ERASED;
 use flash::block::is_full;
 use flash::page::is_blank;
+use walk::letters::letter_after;
+use walk::sizes::Sizes;
 
 // The block that is being filled at a place.
 fn filling(z: Sizes, place: usize) -> usize

@@ -7,19 +7,19 @@ ghost use lib.ListN.{length, take};
 ghost use Rattle.method.specs.Place.{operationAt, write as writing, markOf};
 ghost use Rattle.method.specs.Step as method;
 ghost use Rattle.method.specs.Step.{writeSlots, perform, tally};
-ghost use Rattle.mover.specs.Moving.{sizesOf, moveOf};
+ghost use Rattle.walk.specs.Moving.{sizesOf, moveOf};
 ghost use Rattle.mover.specs.Steps.{Ready, Lent, runningOf, Leaves, Counted, passOf};
-use crate::cycles::page_of;
-use crate::cycles::sent_to;
-use crate::cycles::top_of;
-use crate::pages::sum_pages;
 use crate::place::Op;
 use crate::place::Place;
-use crate::sizes::Sizes;
-use crate::walk::read_slots;
 use flash::block::erase_block;
 use flash::page::write_page;
 use flash::wide::wide;
+use walk::cycles::page_of;
+use walk::cycles::sent_to;
+use walk::cycles::top_of;
+use walk::pages::sum_pages;
+use walk::sizes::Sizes;
+use walk::walk::read_slots;
 
 // What was done: steps, and of these writes and erases.
 pub struct Tally {

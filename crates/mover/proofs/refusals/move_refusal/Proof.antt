@@ -7,7 +7,7 @@ use Rattle.flash.specs.Geometry.{inRange}
 use Rattle.flash.proofs.Bounds.{Bounds, in-range}
 use Rattle.split.specs.OneToOne.{isOneToOne}
 use Rattle.method.proofs.Accepting.{parts-ok}
-use Rattle.mover.specs.Moving.{moveOf}
+use Rattle.walk.specs.Moving.{moveOf}
 use Rattle.mover.proofs.RefusalLaws.{move-number, bad-list, good-list}
 use Rattle.mover.proofs.refusals.move_refusal.Statement.{statement}
 use Rattle.mover.proofs.refusals.move_refusal.Tie as tie

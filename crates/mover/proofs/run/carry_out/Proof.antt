@@ -2,7 +2,7 @@ use mathlib.Core.Path.{_≡_}
 use Prim.Native.Nat.{_+_, _≤_}
 use native.Mathlib.Omega.{arith}
 use borrow.Author.Needs.{needs}
-use Rattle.mover.specs.Moving.{moveOf}
+use Rattle.walk.specs.Moving.{moveOf}
 use Rattle.mover.proofs.RunLaws.{last-small, carried}
 use Rattle.mover.proofs.run.carry_out.Statement.{statement}
 use Rattle.mover.proofs.run.carry_out.Tie as tie

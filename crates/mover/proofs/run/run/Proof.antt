@@ -1,7 +1,7 @@
 use mathlib.Core.Path.{_≡_, sym, _∙_}
 use borrow.Author.Needs.{needs}
 use Rattle.flash.specs.Chip.{Chip}
-use Rattle.mover.specs.Moving.{moveOf}
+use Rattle.walk.specs.Moving.{moveOf}
 use Rattle.mover.proofs.RefusalLaws.{given, refused-by-move, refused-by-place, in-place, not-refused}
 use Rattle.mover.proofs.run.run.Statement.{statement}
 use Rattle.mover.proofs.run.run.Tie as tie

@@ -4,7 +4,7 @@ use native.Mathlib.Omega.{arith}
 use borrow.Author.Needs.{needs}
 use Rattle.method.specs.Step.{steps, tally, operationsFrom}
 use Rattle.method.specs.Place.{operationAt, lastPlace}
-use Rattle.mover.specs.Moving.{sizesOf, moveOf}
+use Rattle.walk.specs.Moving.{sizesOf, moveOf}
 use Rattle.mover.specs.Steps.{Lent, runningOf, Leaves, Counted}
 use Rattle.mover.proofs.RunLaws.{none-taken, none-counted, one-taken, one-counted, at-most-one, last-small}
 use Rattle.mover.proofs.run.take_steps.Statement.{statement}

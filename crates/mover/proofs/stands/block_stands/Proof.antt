@@ -8,7 +8,7 @@ use lib.Dec.{ltb}
 use Rattle.flash.specs.Geometry.{slot}
 use Rattle.flash.specs.Chip.{erased, markAt}
 use Rattle.flash.proofs.Blocks.{mark-is}
-use Rattle.mover.specs.Moving.{sizesOf}
+use Rattle.walk.specs.Moving.{sizesOf}
 use Rattle.mover.proofs.StandLaws.{stands-full, stands-all, stands-not}
 use Rattle.mover.proofs.stands.block_stands.Statement.{statement}
 use Rattle.mover.proofs.stands.block_stands.Tie as tie

@@ -3,7 +3,7 @@ use Prim.Native.Nat.{_+_}
 use native.Mathlib.Omega.{arith}
 use borrow.Author.Needs.{needs}
 use Rattle.flash.proofs.Bounds.{product-le}
-use Rattle.mover.specs.Moving.{sizesOf}
+use Rattle.walk.specs.Moving.{sizesOf}
 use Rattle.mover.proofs.OperationLaws.{forward-filling, backward-filling}
 use Rattle.mover.proofs.StandLaws.{turns-in}
 use Rattle.mover.proofs.stands.filling.Statement.{statement}

@@ -7,7 +7,7 @@ use borrow.Author.Needs.{needs}
 use borrow.Author.Tests.{not-true, not-false}
 use Rattle.flash.specs.Chip.{Chip}
 use Rattle.method.specs.Move.{Move}
-use Rattle.mover.specs.Moving.{moveOf}
+use Rattle.walk.specs.Moving.{moveOf}
 use Rattle.mover.proofs.StandLaws.{too-far, other-marks, else-torn}
 use Rattle.mover.proofs.stands.is_elsewhere.Statement.{statement}
 use Rattle.mover.proofs.stands.is_elsewhere.Tie as tie

@@ -3,7 +3,7 @@ use native.Mathlib.Omega.{arith}
 use borrow.Author.Needs.{needs}
 use Rattle.flash.proofs.Bounds.{product-le}
 use Rattle.method.specs.Move.{letter}
-use Rattle.mover.specs.Moving.{sizesOf}
+use Rattle.walk.specs.Moving.{sizesOf}
 use Rattle.mover.proofs.StandLaws.{due-below, due-plain, due-code, due-final, due-finals}
 use Rattle.mover.proofs.stands.marks_due.Statement.{statement}
 use Rattle.mover.proofs.stands.marks_due.Tie as tie

@@ -6,7 +6,7 @@ use borrow.Author.Count.{below-more}
 use borrow.Author.Needs.{needs}
 use borrow.Author.Tests.{not-true, not-false}
 use Rattle.flash.proofs.Bounds.{block-in-marks}
-use Rattle.mover.specs.Moving.{sizesOf}
+use Rattle.walk.specs.Moving.{sizesOf}
 use Rattle.mover.specs.Stands.{blockStands}
 use Rattle.mover.proofs.StandLaws.{all-stand, one-falls}
 use Rattle.mover.proofs.stands.marks_stand.Statement.{statement}

@@ -4,9 +4,10 @@ use native.Mathlib.Omega.{arith}
 use borrow.Author.Needs.{needs}
 use Rattle.flash.specs.Geometry.{slotCount}
 use Rattle.flash.proofs.Bounds.{slot-in-marks, slot-in-store, product-le}
-use Rattle.mover.specs.Moving.{sizesOf, moveOf}
+use Rattle.walk.specs.Moving.{sizesOf, moveOf}
 use Rattle.mover.specs.Steps.{passOf}
-use Rattle.mover.proofs.SlotLaws.{write-in, among}
+use Rattle.walk.proofs.SlotLaws.{among}
+use Rattle.mover.proofs.WriteSlots.{write-in}
 use Rattle.mover.proofs.StepLaws.{written-is, wrote}
 use Rattle.mover.proofs.step.write.Statement.{statement}
 use Rattle.mover.proofs.step.write.Tie as tie

@@ -3,9 +3,9 @@ use Prim.Native.Nat.{_+_, _-_, _*_, _≤_, _<_}
 use native.Mathlib.Omega.{arith}
 use borrow.Author.Needs.{needs}
 use Rattle.method.specs.Cycle.{pred}
-use Rattle.mover.specs.Moving.{moveOf}
-use Rattle.mover.proofs.CycleLaws.{table-fits, to-leads}
-use Rattle.mover.proofs.WalkLaws.{Next, back-next, pages-in, page-in, TopIs, top-is}
+use Rattle.walk.specs.Moving.{moveOf}
+use Rattle.walk.proofs.CycleLaws.{table-fits, to-leads}
+use Rattle.walk.proofs.WalkLaws.{Next, back-next, pages-in, page-in, TopIs, top-is}
 use Rattle.mover.proofs.StepLaws.{appends-twice, number-small, sent-lt, final-slots, top-slots, code-slots}
 use Rattle.mover.proofs.step.write_slots.Statement.{statement}
 use Rattle.mover.proofs.step.write_slots.Tie as tie

@@ -1,0 +1,4 @@
+pub mod Reading
+pub mod Search
+pub mod Tells
+pub mod Answer

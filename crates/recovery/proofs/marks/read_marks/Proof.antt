@@ -1,0 +1,223 @@
+use borrow.Author.Needs.{needs}
+use mathlib.Core.Path.{_≡_, sym, ap, _∙_}
+use mathlib.Core.Logic.{⊎-elim}
+use mathlib.Core.Bool.{true, false}
+use Prim.Native.Nat.{ℕ, _+_, _-_, _*_, _≤_, _<_}
+use native.Mathlib.Omega.{arith}
+use lib.Dec.{eqb}
+use lib.ListN.{length, getD}
+use borrow.Author.Tests.{eqb-true, eqb-false, not-true, not-false}
+use Rattle.flash.specs.Geometry.{Sizes}
+use Rattle.flash.specs.Chip.{isMark}
+use Rattle.flash.proofs.Bounds.{block-in-marks}
+use Rattle.method.specs.Move.{letter}
+use Rattle.recovery.specs.Found.{readingOf}
+use Rattle.recovery.proofs.Reading.{reads-illegal}
+use Rattle.recovery.proofs.Search.{Upto, Block, LegalBelow, letter-same, legal-more, legal-all, change-in, torn-in, upto-none, block-start, page-same, page-opens, page-first, page-second, block-changes, block-astray, block-kept}
+use Rattle.recovery.proofs.Tells.{reads-nothing, found-second, tells}
+use Rattle.recovery.proofs.marks.read_marks.Statement.{statement}
+use Rattle.recovery.proofs.marks.read_marks.Tie as tie
+
+abbrev Z : (n m s : ℕ) → Sizes
+Z n m s = record { n = n; m = m; P = 0; s = s }
+
+abbrev Inv-loop : tie.InvT-loop
+Inv-loop n m s marks blocks unfinished₀ torn₀ top change block first letter whole₀ page₀ unfinished torn whole page =
+    (page ≤ m) × Block (Z n m s) marks block page letter unfinished₀ torn₀ unfinished torn whole × LegalBelow (Z n m s) marks (block * m + page)
+
+abbrev μ-loop : tie.MeasureT-loop
+μ-loop n m s marks blocks unfinished₀ torn₀ top change block first letter whole₀ page₀ unfinished torn whole page = m - page
+
+abbrev Inv-search : tie.InvT-search
+Inv-search n m s marks blocks unfinished₀ torn₀ top₀ change₀ block₀ unfinished torn top change block =
+    (block ≤ n + 1) × (torn ≤ n) × Upto (Z n m s) marks block unfinished torn top change × LegalBelow (Z n m s) marks (block * m)
+
+abbrev μ-search : tie.MeasureT-search
+μ-search n m s marks blocks unfinished₀ torn₀ top₀ change₀ block₀ unfinished torn top change block = n + 1 - block
+
+add-blocks : tie.Need-add-blocks Inv-loop μ-loop Inv-search μ-search
+add-blocks c = search needs
+
+letter-after-requires : tie.Need-letter-after-requires Inv-loop μ-loop Inv-search μ-search
+letter-after-requires c κs = search needs
+
+search-holds : tie.Need-search-holds Inv-loop μ-loop Inv-search μ-search
+search-holds c =
+    let a = c .before .before .args in
+    let z = Z (a .n) (a .m) (a .s) in
+    let top : c .letter-after .result ≡ letter z 1 = c .letter-after .ensures ∙ letter-same (a .n) (a .m) (a .s) 1 in
+    (omega arith, omega arith, rw top (upto-none z (omega arith) (a .marks .now) 0), λ i h. absurd (omega arith))
+
+-- the block that is looked at lies within the marks
+room : (c : tie.In-search Inv-loop μ-loop Inv-search μ-search) → c .before .search .block * c .before .before .before .before .args .m + c .before .before .before .before .args .m ≤ length (c .before .before .before .before .args .marks .now)
+room c =
+    let a = c .before .before .before .before .args in
+    let z = Z (a .n) (a .m) (a .s) in
+    rw (c .before .before .before .before .pre .1) (block-in-marks z (c .before .search .block) (omega arith))
+
+mul-first : tie.Need-mul-first Inv-loop μ-loop Inv-search μ-search
+mul-first c = omega (arith, room c)
+
+shared-slice-read-letter : tie.Need-shared-slice-read-letter Inv-loop μ-loop Inv-search μ-search
+shared-slice-read-letter c = omega (arith, room (c .before))
+
+loop-holds : tie.Need-loop-holds Inv-loop μ-loop Inv-search μ-search
+loop-holds c =
+    let s = c .before .before in
+    let a = s .before .before .before .args in
+    let z = Z (a .n) (a .m) (a .s) in
+    (omega arith, block-start z (omega arith) (a .marks .now) _ _ _ _, λ i h. s .search .inv .3 i (omega arith))
+
+add-mark : tie.Need-add-mark Inv-loop μ-loop Inv-search μ-search
+add-mark c = omega (arith, room (c .before .before .before))
+
+shared-slice-read-mark : tie.Need-shared-slice-read-mark Inv-loop μ-loop Inv-search μ-search
+shared-slice-read-mark c = omega (arith, room (c .before .before .before .before))
+
+is-mark-requires : tie.Need-is-mark-requires Inv-loop μ-loop Inv-search μ-search
+is-mark-requires c κs = search needs
+
+returns : tie.Need-returns Inv-loop μ-loop Inv-search μ-search
+returns c =
+    let p = c .before .before .before in
+    let l = p .before .loop in
+    let b = p .before .before .before in
+    let o = b .before .search in
+    let a = b .before .before .before .before .args in
+    let z = Z (a .n) (a .m) (a .s) in
+    let pages : 0 < a .m = omega arith in
+    let illegal : isMark (getD (a .marks .now) (o .block * a .m + l .page) 0) ≡ false = sym (c .before .is-mark .ensures) ∙ not-true _ (c .if1 .taken) in
+    reads-nothing ∙ sym (reads-illegal z pages (a .marks .now) (o .block * a .m + l .page) (omega (arith, room b)) illegal)
+
+add-unfinished : tie.Need-add-unfinished Inv-loop μ-loop Inv-search μ-search
+add-unfinished c =
+    let p = c .before .before .before .before in
+    let l = p .before .loop in
+    let b = p .before .before .before in
+    let o = b .before .search in
+    let a = b .before .before .before .before .args in
+    let z = Z (a .n) (a .m) (a .s) in
+    let pages : 0 < a .m = omega arith in
+    let e = page-opens z pages (a .marks .now) (o .block) (l .page) _ _ _ _ (l .whole) (room b) (p .loop-test .taken) (l .inv .1) (c .if2 .taken) in
+    omega (arith, o .inv .2 .few)
+
+add-page : tie.Need-add-page Inv-loop μ-loop Inv-search μ-search
+add-page c = search needs
+
+loop-less : tie.Need-loop-less Inv-loop μ-loop Inv-search μ-search
+loop-less c = search needs
+
+loop-again : tie.Need-loop-again Inv-loop μ-loop Inv-search μ-search
+loop-again c =
+    let p = c .before .before .before .before in
+    let l = p .before .loop in
+    let b = p .before .before .before in
+    let o = b .before .search in
+    let a = b .before .before .before .before .args in
+    let z = Z (a .n) (a .m) (a .s) in
+    let pages : 0 < a .m = omega arith in
+    let legal : isMark (getD (a .marks .now) (o .block * a .m + l .page) 0) ≡ true = sym (c .before .before .is-mark .ensures) ∙ not-false _ (c .before .if1 .left) in
+    let more = legal-more z (a .marks .now) (o .block * a .m) (l .page) (l .inv .2) legal in
+    ⊎-elim
+    (λ w. (omega arith, rw (w .2, w .3, w .4) (page-first z pages (a .marks .now) (o .block) (l .page) _ _ _ _ (l .whole) (room b) (p .loop-test .taken) (l .inv .1) (o .inv .2 .few) (w .1 .left) (w .0 .taken)), more))
+    (λ w. (omega arith, rw (w .1, w .2, w .3) (page-same z pages (a .marks .now) (o .block) (l .page) _ _ _ _ (l .whole) (room b) (p .loop-test .taken) (l .inv .1) legal (w .0 .left)), more))
+    (c .if2 .came)
+
+returns-2 : tie.Need-returns-2 Inv-loop μ-loop Inv-search μ-search
+returns-2 c =
+    let e = c .before .before in
+    let l = e .before .loop in
+    let b = e .before .before .before in
+    let o = b .before .search in
+    let a = b .before .before .before .before .args in
+    let z = Z (a .n) (a .m) (a .s) in
+    let pages : 0 < a .m = omega arith in
+    reads-nothing
+    ∙ sym (block-astray z pages (a .marks .now) (o .block) (l .page) _ _ _ _ _ _ _ (l .whole) (omega arith) (e .loop-test .left) (o .inv .2) (l .inv .1) (omega arith) (c .before .if4 .taken))
+
+add-block : tie.Need-add-block Inv-loop μ-loop Inv-search μ-search
+add-block c = search needs
+
+search-less : tie.Need-search-less Inv-loop μ-loop Inv-search μ-search
+search-less c = search needs
+
+search-again : tie.Need-search-again Inv-loop μ-loop Inv-search μ-search
+search-again c =
+    let e = c .before in
+    let l = e .before .loop in
+    let b = e .before .before .before in
+    let o = b .before .search in
+    let a = b .before .before .before .before .args in
+    let z = Z (a .n) (a .m) (a .s) in
+    let pages : 0 < a .m = omega arith in
+    let h : o .block ≤ a .n = omega arith in
+    let torn = torn-in z (a .marks .now) (o .block) (l .page) _ _ _ _ _ (l .whole) (l .inv .1) h (o .inv .1) in
+    let legal : LegalBelow z (a .marks .now) ((o .block + 1) * a .m) = λ i k. l .inv .2 i (omega arith) in
+    ⊎-elim
+    (λ w. (omega arith, torn, rw (w .2, w .3) (block-changes z pages (a .marks .now) (o .block) (l .page) _ _ _ _ _ _ _ (l .whole) h (e .loop-test .left) (o .inv .2) (l .inv .1) (omega arith) (w .0 .taken)), legal))
+    (λ w. (omega arith, torn, rw (w .1, w .2) (block-kept z pages (a .marks .now) (o .block) (l .page) _ _ _ _ _ _ _ (l .whole) h (e .loop-test .left) (o .inv .2) (l .inv .1) (w .0 .left)), legal))
+    (c .if4 .came)
+
+letter-after-requires-2 : tie.Need-letter-after-requires-2 Inv-loop μ-loop Inv-search μ-search
+letter-after-requires-2 c κs = search needs
+
+found-at-requires : tie.Need-found-at-requires Inv-loop μ-loop Inv-search μ-search
+found-at-requires c κs =
+    let t = c .before .before in
+    let a = t .before .before .before .args in
+    let z = Z (a .n) (a .m) (a .s) in
+    let change = change-in z (a .marks .now) _ _ _ _ _ (t .search .inv .2) in
+    ⊎-elim (λ w. (omega arith, omega arith, omega arith, change)) (λ w. (omega arith, omega arith, omega arith, change)) (c .before .search-test .came)
+
+returns-3 : tie.Need-returns-3 Inv-loop μ-loop Inv-search μ-search
+returns-3 c =
+    let t = c .before .before .before in
+    let o = t .search in
+    let a = t .before .before .before .args in
+    let z = Z (a .n) (a .m) (a .s) in
+    let pages : 0 < a .m = omega arith in
+    let start : c .before .letter-after2 .result ≡ letter z 0 = c .before .letter-after2 .ensures ∙ letter-same (a .n) (a .m) (a .s) 0 in
+    rw (c .found-at .ensures)
+    (⊎-elim
+    (λ w.
+    let end : o .block ≡ a .n + 1 = omega arith in
+    let U : Upto z (a .marks .now) (a .n + 1) (o .unfinished) (o .torn) (o .top) (o .change) = rw end at (o .inv .2) in
+    let legal = legal-all z (a .marks .now) (rw (c .before .before .before .before .before .before .pre .1, ← end) (o .inv .3)) in
+    rw (w .1, w .2, start)
+    (tells z pages (a .marks .now) _ _ _ _ U legal (eqb (o .top) (letter z 0)) (λ e. eqb-true _ _ e) (λ e. eqb-false _ _ e)))
+    (λ w.
+    let l = w .2 in
+    rw (w .9, w .8 .taken)
+    (ap readingOf (found-second _ _ _ _ _) ∙ reads-nothing
+    ∙ sym (page-second z pages (a .marks .now) (o .block) (l .page) _ _ _ _ (l .whole) (room (record { before = t; search-test = w .0 })) (w .3 .taken) (l .inv .1) _ _ (o .inv .2) (omega arith) (w .8 .taken) (w .7 .taken))))
+    (c .before .before .search-test .came))
+
+pub read-marks-spec : {M : Type 1} → statement M
+read-marks-spec =
+    tie.close
+    (tie.spec
+    Inv-loop
+    μ-loop
+    Inv-search
+    μ-search
+    add-blocks
+    letter-after-requires
+    search-holds
+    mul-first
+    shared-slice-read-letter
+    loop-holds
+    add-mark
+    shared-slice-read-mark
+    is-mark-requires
+    returns
+    add-unfinished
+    add-page
+    loop-less
+    loop-again
+    returns-2
+    add-block
+    search-less
+    search-again
+    letter-after-requires-2
+    found-at-requires
+    returns-3)

@@ -1,0 +1,22 @@
+-- How the search's answer is read as what document 01 says of the marks.
+use mathlib.Core.Bool.{Bool, cond, _||_, not}
+use mathlib.Core.Option.{Option, none, some}
+use Prim.Native.Nat.{ℕ, _+_, _-_, _*_}
+use lib.Dec.{eqb, ltb}
+use Rattle.method.specs.Mend.{Reading}
+use Rattle.recovery.specs.declared.marks.Found.{Found}
+use Rattle.recovery.specs.declared.marks.Found.the-variants.{Nothing, Full, Torn}
+
+-- the place and the block to erase, or none where the marks fit no moment of the move (6)
+unfoldable pub readingOf : Found → Option Reading
+readingOf Nothing = none
+readingOf (Full place) = some (record { place = place; toErase = none })
+readingOf (Torn place block) = some (record { place = place; toErase = some block })
+
+-- What `found_at` makes of the gathered numbers: the four lines of document 01, "The cut". `turn` counts the forward turns and
+-- then the backward ones, each of m writes and an erase.
+unfoldable pub foundAt : (n m : ℕ) (forward : Bool) (unfinished torn change : ℕ) → Found
+foundAt n m forward unfinished torn change =
+    cond (eqb unfinished 0)
+    (cond (eqb change 0 || ltb n change) Nothing (let turn = cond forward (change - 1) (2 * n - change) in Full (turn * (m + 1) + m)))
+    (cond (eqb unfinished 2 || not (eqb (torn + 1) change)) Nothing (let turn = cond forward torn (2 * n - torn) in Torn (turn * (m + 1)) torn))

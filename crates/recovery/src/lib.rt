@@ -1,0 +1,4 @@
+// Recovery after a cut: what the marks tell, and the call mend.
+
+pub mod marks;
+pub mod mend;

@@ -1,0 +1,100 @@
+// How mend reads the marks. Mend is the recovery after a cut.
+
+ghost use mathlib.Core.Path.{_≡_};
+ghost use Prim.Native.Nat.{_+_, _*_, _≤_, _<_};
+ghost use lib.ListN.{length};
+ghost use Rattle.flash.specs.Chip.{isMark};
+ghost use Rattle.method.specs.Mend.{reading};
+ghost use Rattle.recovery.specs.Found.{readingOf, foundAt};
+use flash::ERASED;
+use flash::block::NO_LETTER;
+use walk::letters::letter_after;
+
+// What the marks tell; `readingOf` in specs/ lists the values of each case.
+pub enum Found {
+    // They fit no moment of the move.
+    Nothing,
+    // No block is unfinished.
+    Full { place: usize },
+    // This block is unfinished, and is to be erased.
+    Torn { place: usize, block: usize },
+}
+
+// Whether a mark is a letter or 255.
+pub fn is_mark(mark: u8) -> bool
+    ensures { λ r. ⌜ r ≡ isMark mark ⌝ }
+{
+    (mark < NO_LETTER) | (mark == ERASED)
+}
+
+// What the search has gathered tells: the four lines of document 01, "The cut".
+pub fn found_at(
+    n: usize,
+    m: usize,
+    forward: bool,
+    unfinished: usize,
+    torn: usize,
+    change: usize,
+) -> Found
+    requires { ⌜ (n ≤ 64) × (m ≤ 64) × (torn ≤ n) × (change ≤ n + 1) ⌝ }
+    ensures { λ r. ⌜ r ≡ foundAt n m forward unfinished torn change ⌝ }
+{
+    if unfinished == 0 {
+        if (change == 0) | (n < change) {
+            return Found::Nothing;
+        }
+        let turn = if forward { change - 1 } else { 2 * n - change };
+        return Found::Full {
+            place: turn * (m + 1) + m,
+        };
+    }
+    if (unfinished == 2) | (torn + 1 != change) {
+        return Found::Nothing;
+    }
+    let turn = if forward { torn } else { 2 * n - torn };
+    Found::Torn {
+        place: turn * (m + 1),
+        block: torn,
+    }
+}
+
+// Reads the marks. Blocks that are full bear s + 1 below block `change`, and one other letter, `top`, from there on. The search
+// ends at the second unfinished block, and at anything else that fits no moment of the move.
+pub fn read_marks(n: usize, m: usize, s: usize, marks: &[u8]) -> Found
+    requires { ⌜ (n ≤ 64) × (0 < m) × (m ≤ 64) × (s < 3) ⌝ }
+    requires { ⌜ length (now marks) ≡ (n + 1) * m ⌝ }
+    ensures { λ r. ⌜ readingOf r ≡ reading (record { n = n; m = m; P = 0; s = s }) (now (marks .entry)) ⌝ }
+{
+    let blocks = n + 1;
+    let mut unfinished: usize = 0;
+    let mut torn = 0;
+    let mut top = letter_after(s, 1);
+    let mut change = blocks;
+    'search: for block in 0..blocks {
+        let first = block * m;
+        let letter = marks[first];
+        let mut whole = true;
+        for page in 0..m {
+            let mark = marks[first + page];
+            if !is_mark(mark) {
+                return Found::Nothing;
+            }
+            if whole & ((mark != letter) | (mark == ERASED)) {
+                whole = false;
+                torn = block;
+                unfinished += 1;
+                if unfinished == 2 {
+                    break 'search;
+                }
+            }
+        }
+        if whole & (letter != top) {
+            if change < blocks {
+                return Found::Nothing;
+            }
+            top = letter;
+            change = block;
+        }
+    }
+    found_at(n, m, top == letter_after(s, 0), unfinished, torn, change)
+}

@@ -1,0 +1,3 @@
+pub mod CycleLaws
+pub mod WalkLaws
+pub mod SlotLaws

@@ -1,0 +1,8 @@
+// The cycles of a set, and the walks along them that rebuild an original from the blocks that are full.
+// A function here may have a `requires`: only the crates above call it, and their proofs show it.
+
+pub mod cycles;
+pub mod letters;
+pub mod pages;
+pub mod sizes;
+pub mod walk;

@@ -1,0 +1,171 @@
+// Read's rules 1 to 3: the slots whose pages are summed for an original. They follow from the marks; no byte is looked at.
+ghost use mathlib.Core.Path.{_≡_};
+ghost use mathlib.Core.Bool.{cond, _||_};
+ghost use Prim.Native.Nat.{_+_, _-_, _*_, _≤_, _<_};
+ghost use lib.ListN.{length, getD};
+ghost use Rattle.flash.specs.Lists.{range, any};
+ghost use Rattle.flash.specs.Geometry.{slotOf};
+ghost use Rattle.flash.specs.Chip.{isFull};
+ghost use Rattle.method.specs.Move.{letter};
+ghost use Rattle.method.specs.Cycle as method;
+ghost use Rattle.method.specs.Cycle.{dest, pred};
+ghost use Rattle.method.specs.Read.{goBack, goOn, readSlots};
+ghost use Rattle.walk.specs.Moving.{sizesOf, moveOf, Given, Tells};
+ghost use Rattle.walk.specs.Slots.{Appends};
+use crate::cycles::page_of;
+use crate::cycles::top_of;
+use crate::letters::letter_after;
+use crate::sizes::Sizes;
+use flash::block::is_full;
+use flash::wide::entry;
+use flash::wide::wide;
+
+// Whether the block is full of the letter that comes i after s. Its first mark tells most blocks that are not.
+pub fn full_of(z: Sizes, marks: &[u8], i: usize, block: usize) -> bool
+    requires { ⌜ (1 ≤ z .m) × (z .s < 3) × (i < 3) × (block * z .m + z .m ≤ length (now marks)) ⌝ }
+    ensures { λ r. ⌜ r ≡ isFull (z .m) (now (marks .entry)) block (letter (sizesOf z) i) ⌝ }
+{
+    let m = z.m;
+    let letter = letter_after(z.s, i);
+    if marks[block * m] == letter {
+        is_full(marks, m, block, letter)
+    } else {
+        false
+    }
+}
+
+// Where original k lies: before the move, or after it.
+fn home(list: &[u16], m: usize, k: usize, after: bool) -> usize
+    requires { ⌜ (1 ≤ m) × (m ≤ 64) × (k < length (now list)) × (length (now list) ≤ 4096) ⌝ }
+    ensures { λ r. ⌜ r ≡ slotOf m (cond after (getD (now (list .entry)) k 0) k) ⌝ }
+{
+    if after { entry(list[k]) + m } else { k + m }
+}
+
+// Rule 2's test: c(top) lies in a block full of s + 1, or blocks full of s exist.
+fn goes_back(z: Sizes, marks: &[u8], top: usize) -> bool
+    requires { ⌜ (1 ≤ z .m) × (z .n ≤ 64) × (z .s < 3) × (1 ≤ top) × (top ≤ z .n) × (length (now marks) ≡ (z .n + 1) * z .m) ⌝ }
+    ensures { λ r. ⌜ r ≡ (isFull (z .m) (now (marks .entry)) (top - 1) (letter (sizesOf z) 1) || any (λ block. isFull (z .m) (now (marks .entry)) block (letter (sizesOf z) 0)) (range 0 (z .n + 1))) ⌝ }
+{
+    if full_of(z, marks, 1, top - 1) {
+        return true;
+    }
+    let mut block = 0;
+    while block <= z.n {
+        if full_of(z, marks, 0, block) {
+            return true;
+        }
+        block += 1;
+    }
+    false
+}
+
+// Rule 2, from block v of a set on: goes back until the top, or a block that is full of s.
+fn go_back(
+    z: Sizes,
+    list: &[u16],
+    sets: &[u8],
+    from: &[u8; 4096],
+    marks: &[u8],
+    top: usize,
+    set: usize,
+    start: usize,
+    slots: &mut [usize],
+    at: usize,
+) -> usize
+    requires { ⌜ Given (moveOf z (now list) (now sets)) × Tells (z .n) (z .m) (now from) (pred (moveOf z (now list) (now sets))) ⌝ }
+    requires { ⌜ (length (now marks) ≡ (z .n + 1) * z .m) × (set < z .m) × (1 ≤ start) × (start ≤ z .n) ⌝ }
+    requires { ⌜ (method.top (moveOf z (now list) (now sets)) set start ≡ top) × (length (now slots) ≡ 130) × (at ≤ 65) ⌝ }
+    ensures { λ r. ⌜ Appends (now (slots .entry)) at (goBack (moveOf z (now (list .entry)) (now (sets .entry))) (now (marks .entry)) set (z .n) start) (now (slots .exit)) r ⌝ }
+{
+    let m = z.m;
+    let mut v = start;
+    let mut count = at;
+    let mut turns = 0;
+    while turns < z.n {
+        let entry = (v - 1) * m + set;
+        slots[count] = entry;
+        count += 1;
+        if v == top {
+            return count;
+        }
+        v = wide(from[entry]);
+        if full_of(z, marks, 0, v) {
+            slots[count] = home(list, m, page_of(z, sets, set, v), false);
+            return count + 1;
+        }
+        turns += 1;
+    }
+    count
+}
+
+// Rule 3, from block v of a set on: goes on until the next destination block is full of s + 2.
+fn go_on(
+    z: Sizes,
+    list: &[u16],
+    sets: &[u8],
+    to: &[u8; 4096],
+    marks: &[u8],
+    set: usize,
+    start: usize,
+    slots: &mut [usize],
+    at: usize,
+) -> usize
+    requires { ⌜ Given (moveOf z (now list) (now sets)) × Tells (z .n) (z .m) (now to) (dest (moveOf z (now list) (now sets))) ⌝ }
+    requires { ⌜ (length (now marks) ≡ (z .n + 1) * z .m) × (set < z .m) × (1 ≤ start) × (start ≤ z .n) ⌝ }
+    requires { ⌜ (length (now slots) ≡ 130) × (at ≤ 65) ⌝ }
+    ensures { λ r. ⌜ Appends (now (slots .entry)) at (goOn (moveOf z (now (list .entry)) (now (sets .entry))) (now (marks .entry)) set (z .n) start) (now (slots .exit)) r ⌝ }
+{
+    let m = z.m;
+    let mut v = start;
+    let mut count = at;
+    let mut turns = 0;
+    while turns < z.n {
+        v = wide(to[(v - 1) * m + set]);
+        let entry = (v - 1) * m + set;
+        slots[count] = entry;
+        count += 1;
+        if full_of(z, marks, 2, wide(to[entry])) {
+            slots[count] = home(list, m, page_of(z, sets, set, v), true);
+            return count + 1;
+        }
+        turns += 1;
+    }
+    count
+}
+
+// The slots of original k are put behind the first `at`; how many there are then. "Start with v = k's block, in k's set."
+pub fn read_slots(
+    z: Sizes,
+    list: &[u16],
+    sets: &[u8],
+    to: &[u8; 4096],
+    from: &[u8; 4096],
+    marks: &[u8],
+    k: usize,
+    slots: &mut [usize],
+    at: usize,
+) -> usize
+    requires { ⌜ Given (moveOf z (now list) (now sets)) ⌝ }
+    requires { ⌜ Tells (z .n) (z .m) (now to) (dest (moveOf z (now list) (now sets))) × Tells (z .n) (z .m) (now from) (pred (moveOf z (now list) (now sets))) ⌝ }
+    requires { ⌜ (length (now marks) ≡ (z .n + 1) * z .m) × (k < z .n * z .m) × (length (now slots) ≡ 130) × (at ≤ 65) ⌝ }
+    ensures { λ r. ⌜ Appends (now (slots .entry)) at (readSlots (moveOf z (now (list .entry)) (now (sets .entry))) (now (marks .entry)) k) (now (slots .exit)) r ⌝ }
+{
+    let m = z.m;
+    let v = k / m + 1;
+    let set = wide(sets[k]);
+    if full_of(z, marks, 0, v) {
+        slots[at] = home(list, m, k, false);
+        return at + 1;
+    }
+    if full_of(z, marks, 2, wide(to[(v - 1) * m + set])) {
+        slots[at] = home(list, m, k, true);
+        return at + 1;
+    }
+    let top = top_of(z, to, set, v);
+    if goes_back(z, marks, top) {
+        go_back(z, list, sets, from, marks, top, set, v, slots, at)
+    } else {
+        go_on(z, list, sets, to, marks, set, v, slots, at)
+    }
+}
