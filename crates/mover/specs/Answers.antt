@@ -1,9 +1,10 @@
--- What run returns and leaves, as the fields of the definition's answer.
+-- What run and read return and leave, as the fields of the definition's answer.
 use mathlib.Core.Path.{_≡_}
 use mathlib.Core.List.{List}
 use Prim.Native.Nat.{ℕ}
-use Rattle.method.specs.Answers.{RunAnswer}
+use Rattle.method.specs.Answers.{RunAnswer, ReadAnswer}
 use Rattle.mover.specs.declared.run.Ran.{Ran}
+use Rattle.mover.specs.declared.read.Rebuilt.{Rebuilt}
 
 pub record Answers (answer : RunAnswer) (ran : Ran) (store marks work : List ℕ) : Type 0 where
   pub number-is : ran .number ≡ answer .number
@@ -14,4 +15,9 @@ pub record Answers (answer : RunAnswer) (ran : Ran) (store marks work : List ℕ
   pub finished-is : ran .finished ≡ answer .finished
   pub store-is : store ≡ answer .chip .store
   pub marks-is : marks ≡ answer .chip .marks
+  pub work-is : work ≡ answer .work
+
+pub record ReadIs (answer : ReadAnswer) (r : Rebuilt) (work : List ℕ) : Type 0 where
+  pub number-is : r .number ≡ answer .number
+  pub count-is : r .count ≡ answer .count
   pub work-is : work ≡ answer .work

@@ -5,6 +5,7 @@ ghost use Prim.Native.Nat.{_+_, _*_, _≤_, _<_};
 ghost use lib.ListN.{length};
 ghost use Rattle.flash.specs.Chip.{isMark};
 ghost use Rattle.method.specs.Mend.{reading};
+ghost use Rattle.method.specs.Answers.{fitsNone};
 ghost use Rattle.recovery.specs.Found.{readingOf, foundAt};
 use flash::ERASED;
 use flash::block::NO_LETTER;
@@ -97,4 +98,17 @@ pub fn read_marks(n: usize, m: usize, s: usize, marks: &[u8]) -> Found
         }
     }
     found_at(n, m, top == letter_after(s, 0), unfinished, torn, change)
+}
+
+// Whether the marks fit no moment of the move: number 6.
+pub fn fits_none(n: usize, m: usize, s: usize, marks: &[u8]) -> bool
+    requires { ⌜ (n ≤ 64) × (0 < m) × (m ≤ 64) × (s < 3) ⌝ }
+    requires { ⌜ length (now marks) ≡ (n + 1) * m ⌝ }
+    ensures { λ r. ⌜ r ≡ fitsNone (reading (record { n = n; m = m; P = 0; s = s }) (now (marks .entry))) ⌝ }
+{
+    match read_marks(n, m, s, marks) {
+        Found::Nothing => true,
+        Found::Full { place: _ } => false,
+        Found::Torn { place: _, block: _ } => false,
+    }
 }

@@ -1,0 +1,57 @@
+-- The answer of read, case by case.
+use mathlib.Core.Path.{_≡_, refl, sym, ap, _∙_}
+use mathlib.Core.Logic.{_≢_}
+use mathlib.Core.Bool.{Bool, true, false, cond}
+use mathlib.Core.List.{List, [], _∷_}
+use Prim.Native.Nat.{ℕ}
+use native.Mathlib.Omega.{arith}
+use lib.Dec.{leb}
+use lib.ListN.{length}
+use borrow.Author.Tests.{ne-eqb}
+use Rattle.flash.specs.Tables.{Row, firstFit, numberOr0, refusal}
+use Rattle.flash.specs.Geometry.{originalCount}
+use Rattle.flash.specs.Chip.{Chip}
+use Rattle.method.specs.Move.{Move}
+use Rattle.method.specs.Mend.{reading}
+use Rattle.method.specs.Read.{readSlots, readPage}
+use Rattle.method.specs.Answers.{fitsNone, moveRows, readRows, readAnswer}
+use Rattle.mover.specs.Answers.{ReadIs}
+use Rattle.mover.specs.declared.read.Rebuilt.{Rebuilt}
+use Rattle.mover.proofs.RefusalLaws.{move-then}
+
+last-rows : (unfit beyond : Bool) → refusal (record { fits = unfit; gives = 6 } ∷ record { fits = beyond; gives = 7 } ∷ []) ≡ cond unfit 6 (cond beyond 7 0)
+unfolding refusal firstFit numberOr0
+last-rows true beyond = refl
+last-rows false true = refl
+last-rows false false = refl
+
+module _ (M : Move) (chip : Chip) (work : List ℕ) (k : ℕ) where
+  abbrev Refused : ℕ → Rebuilt → Type 0
+  Refused x r = r ≡ record { number = x; count = 0 } → ReadIs (readAnswer M chip work k) r work
+
+  refused-answer : (x : ℕ) (r : Rebuilt) → x ≢ 0 → refusal (readRows M chip work k) ≡ x → Refused x r
+  unfolding readAnswer
+  refused-answer x r ne e f = rw (e, ne-eqb x 0 ne, f) (record { number-is = refl; count-is = refl; work-is = refl })
+
+  -- rows 1 to 4 decide
+  pub refused-by-move : (x : ℕ) (r : Rebuilt) → x ≡ refusal (moveRows M chip work []) → x ≢ 0 → Refused x r
+  unfolding readRows
+  refused-by-move x r e ne = refused-answer x r ne (move-then M chip work _ ∙ rw (← e, ne-eqb x 0 ne))
+
+  -- and else rows 6 and 7
+  module _ (e : 0 ≡ refusal (moveRows M chip work [])) where
+    by-rest : (unfit beyond : Bool) → unfit ≡ fitsNone (reading (M .sizes) (chip .marks)) → beyond ≡ leb (originalCount (M .sizes)) k
+        → refusal (readRows M chip work k) ≡ cond unfit 6 (cond beyond 7 0)
+    unfolding readRows
+    by-rest unfit beyond f g = move-then M chip work _ ∙ rw (← e, ← f, ← g) (last-rows unfit beyond)
+
+    pub refused-6 : (beyond : Bool) (r : Rebuilt) → true ≡ fitsNone (reading (M .sizes) (chip .marks)) → beyond ≡ leb (originalCount (M .sizes)) k → Refused 6 r
+    refused-6 beyond r f g = refused-answer 6 r (λ z. absurd (omega arith)) (by-rest true beyond f g)
+
+    pub refused-7 : (r : Rebuilt) → false ≡ fitsNone (reading (M .sizes) (chip .marks)) → true ≡ leb (originalCount (M .sizes)) k → Refused 7 r
+    refused-7 r f g = refused-answer 7 r (λ z. absurd (omega arith)) (by-rest false true f g)
+
+    pub rebuilt : (count : ℕ) (after : List ℕ) → false ≡ fitsNone (reading (M .sizes) (chip .marks)) → false ≡ leb (originalCount (M .sizes)) k
+        → count ≡ length (readSlots M (chip .marks) k) → after ≡ readPage M chip k → ReadIs (readAnswer M chip work k) (record { number = 0; count = count }) after
+    unfolding readAnswer
+    rebuilt count after f g h i = rw (by-rest false false f g) (record { number-is = refl; count-is = h; work-is = i })

@@ -1,0 +1,85 @@
+// Read: an original page, also in mid-move and between a cut and the recovery.
+ghost use mathlib.Core.Path.{_≡_};
+ghost use Prim.Native.Nat.{_*_, _<_};
+ghost use lib.ListN.{length};
+ghost use Rattle.method.specs.Read.{readSlots, readPage};
+ghost use Rattle.method.specs.Answers.{readAnswer};
+ghost use Rattle.walk.specs.Moving.{moveOf, Given};
+ghost use Rattle.mover.specs.Steps.{Lent};
+ghost use Rattle.mover.specs.Answers.{ReadIs};
+use crate::refusals::move_refusal;
+use flash::sizes::original_count;
+use recovery::marks::fits_none;
+use walk::cycles::follow;
+use walk::pages::sum_pages;
+use walk::sizes::Sizes;
+use walk::walk::read_slots;
+
+// What a read returns: the refusal number, and how many stored pages were summed, 0 with a refusal.
+pub struct Rebuilt {
+    pub number: u32,
+    pub count: u32,
+}
+
+fn refused(number: u32) -> Rebuilt
+    ensures { λ r. ⌜ r ≡ record { number = number; count = 0 } ⌝ }
+{
+    Rebuilt { number, count: 0 }
+}
+
+// Rebuilds original k in the work page; how many stored pages were summed.
+fn rebuild(
+    z: Sizes,
+    list: &[u16],
+    sets: &[u8],
+    store: &[u8],
+    marks: &[u8],
+    work: &mut [u8],
+    k: usize,
+) -> usize
+    requires { ⌜ Given (moveOf z (now list) (now sets)) × Lent (moveOf z (now list) (now sets)) (now store) (now marks) (now work) × (k < z .n * z .m) ⌝ }
+    ensures { λ r. ⌜ (r ≡ length (readSlots (moveOf z (now (list .entry)) (now (sets .entry))) (now (marks .entry)) k)) × (r < 66) ⌝ }
+    ensures { λ _. ⌜ now (work .exit) ≡ readPage (moveOf z (now (list .entry)) (now (sets .entry))) (record { store = now (store .entry); marks = now (marks .entry) }) k ⌝ }
+{
+    let mut to = [0u8; 4096];
+    let mut from = [0u8; 4096];
+    follow(z, list, sets, &mut to, &mut from);
+    let mut slots = [0usize; 130];
+    let count = read_slots(z, list, sets, &to, &from, marks, k, &mut slots, 0);
+    sum_pages(store, z.p, &slots, count, work);
+    count
+}
+
+// Read: checks in the table's order, then the sum. A refused read changes nothing that is lent.
+pub fn read(
+    n: usize,
+    m: usize,
+    p: usize,
+    s: usize,
+    list: &[u16],
+    sets: &[u8],
+    store: &[u8],
+    marks: &[u8],
+    work: &mut [u8],
+    k: usize,
+) -> Rebuilt
+    ensures { λ r. ⌜ ReadIs (readAnswer (moveOf (record { n = n; m = m; p = p; s = s }) (now (list .entry)) (now (sets .entry))) (record { store = now (store .entry); marks = now (marks .entry) }) (now (work .entry)) k) r (now (work .exit)) ⌝ }
+{
+    let number = move_refusal(n, m, p, s, list, sets, store, marks, work);
+    if number != 0 {
+        return refused(number);
+    }
+    let unfit = fits_none(n, m, s, marks);
+    let beyond = original_count(n, m) <= k;
+    if unfit {
+        return refused(6);
+    }
+    if beyond {
+        return refused(7);
+    }
+    let count = rebuild(Sizes { n, m, p, s }, list, sets, store, marks, work, k);
+    Rebuilt {
+        number: 0,
+        count: count as u32,
+    }
+}

@@ -1,0 +1,35 @@
+use borrow.Author.Needs.{needs}
+use mathlib.Core.Path.{_≡_, sym, ap, _∙_}
+use Rattle.method.specs.Answers.{fitsNone}
+use Rattle.recovery.specs.Found.{readingOf}
+use Rattle.recovery.proofs.marks.fits_none.Statement.{statement}
+use Rattle.recovery.proofs.marks.fits_none.Tie as tie
+
+read-marks-requires : tie.Need-read-marks-requires
+read-marks-requires c κs = search needs
+
+enum-told : tie.Need-enum-told
+enum-told c = search needs
+
+enum-told-2 : tie.Need-enum-told-2
+enum-told-2 c = search needs
+
+enum-told-3 : tie.Need-enum-told-3
+enum-told-3 c = search needs
+
+returns : tie.Need-returns
+unfolding fitsNone readingOf
+returns c = ap fitsNone (ap readingOf (sym (c .enum-told .given .1)) ∙ c .before .before .read-marks .ensures)
+
+returns-2 : tie.Need-returns-2
+unfolding fitsNone readingOf
+returns-2 c = ap fitsNone (ap readingOf (sym (c .enum-told2 .given .1)) ∙ c .before .before .read-marks .ensures)
+
+returns-3 : tie.Need-returns-3
+unfolding fitsNone readingOf
+returns-3 c = ap fitsNone (ap readingOf (sym (c .enum-told3 .given .1)) ∙ c .before .before .read-marks .ensures)
+
+pub fits-none-spec : {M : Type 1} → statement M
+fits-none-spec =
+    tie.close
+    (tie.spec read-marks-requires enum-told enum-told-2 enum-told-3 returns returns-2 returns-3)
