@@ -5,3 +5,4 @@ pub mod RunLaws
 pub mod RefusalLaws
 pub mod StandLaws
 pub mod ReadLaws
+pub mod ToldLaws
