@@ -1,0 +1,26 @@
+// The step at a place, for a C program that drives the chip.
+
+ghost use mathlib.Core.Path.{_≡_};
+ghost use Rattle.mover.specs.Operation.{operationAnswer};
+use mover::operation::operation;
+
+#[no_mangle]
+pub extern "C" fn mover_operation(
+    n: u32,
+    m: u32,
+    s: u32,
+    place: u32,
+    kind: &mut u32,
+    block: &mut u32,
+    page: &mut u32,
+    mark: &mut u32,
+) -> u32
+    ensures { λ r. ⌜ record { number = r; kind = now (kind .exit); block = now (block .exit); page = now (page .exit); mark = now (mark .exit) } ≡ operationAnswer (record { n = n; m = m; P = 1; s = s }) place ⌝ }
+{
+    let told = operation(n as usize, m as usize, s as usize, place as usize);
+    *kind = told.kind;
+    *block = told.block;
+    *page = told.page;
+    *mark = told.mark;
+    told.number
+}
