@@ -1,7 +1,7 @@
 -- The refusals of the split call, row by row.
 use mathlib.Core.Path.{_≡_, refl, sym, _∙_}
 use mathlib.Core.Logic.{_≢_}
-use mathlib.Core.Bool.{Bool, true, false, not, _&&_}
+use mathlib.Core.Bool.{Bool, true, false, not, _&&_, _||_}
 use mathlib.Core.List.{List, _∷_}
 use Prim.Native.Nat.{ℕ, suc, _≤_}
 use native.Mathlib.Nat.{mul-le-mul}
@@ -10,7 +10,7 @@ use lib.Dec.{eqb, leb, ltb}
 use lib.ListN.{length}
 use borrow.Author.Tests.{eqb-true, eq-eqb, ne-eqb, le-leb, leb-true, not-true, not-false}
 use Rattle.flash.specs.Tables.{Row, firstFit, numberOr0, refusal}
-use Rattle.flash.specs.Geometry.{Sizes, isLetter, inRange, originalCount, listLength, setsLength}
+use Rattle.flash.specs.Geometry.{Sizes, isLetter, inRange, originalCount}
 use Rattle.split.specs.OneToOne.{badList, isOneToOne}
 use Rattle.split.specs.Rule.{splitByRule}
 use Rattle.split.specs.Answer.{splitRows, splitAnswer, SplitAnswered}
@@ -102,6 +102,14 @@ pub accept : (originals : ℕ) (list : List ℕ) → badList originals list ≡ 
 unfolding isOneToOne
 accept originals list e = rw e
 
+-- the list and the set bytes are of one length
+pub lengths-are : (list sets : List ℕ) (count : ℕ) → (not (eqb (length list) count) || not (eqb (length sets) count)) ≡ false
+    → (length list ≡ count) × (length sets ≡ count)
+lengths-are list sets count e =
+    let list-test = not (eqb (length list) count) in
+    let sets-test = not (eqb (length sets) count) in
+    (eqb-true _ _ (not-false _ (or-left list-test sets-test e)), eqb-true _ _ (not-false _ (or-right list-test sets-test e)))
+
 -- a call carried out fits no row
 pub record Passed (Z : Sizes) (list sets : List ℕ) : Type 0 where
   pub in-range : inRange Z ≡ true
@@ -122,12 +130,11 @@ passed Z list sets e =
     let one = not-fit _ 0 _ e in
     let two = not-fit _ 1 _ (one .1) in
     let three = not-fit _ 2 _ (two .1) in
-    let list-test = not (eqb (length list) (listLength Z)) in
-    let sets-test = not (eqb (length sets) (setsLength Z)) in
+    let lengths = lengths-are list sets (originalCount Z) (two .0) in
     record {
       in-range = not-false (inRange Z) (one .0);
-      listed = eqb-true _ _ (not-false _ (or-left list-test sets-test (two .0)));
-      sized = eqb-true _ _ (not-false _ (or-right list-test sets-test (two .0)));
+      listed = lengths .0;
+      sized = lengths .1;
       good = three .0;
     }
 
