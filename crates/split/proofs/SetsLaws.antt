@@ -16,7 +16,8 @@ use Rattle.split.specs.Rule.{End, source, destination, blockAt}
 use Rattle.split.specs.Mask.{bitAt, FlippedAt}
 use Rattle.split.specs.Accepted.{Accepted}
 use Rattle.split.specs.Ends.{Masks}
-use Rattle.split.proofs.Lists.{false-of, lt-cases}
+use Rattle.flash.proofs.Bools.{fails}
+use Rattle.split.proofs.Lists.{lt-cases}
 use Rattle.split.proofs.SplitLaws.{Proper, set-lt, same-from, same-to, split-of}
 use Rattle.split.proofs.RuleLaws.{blocks}
 use Rattle.split.proofs.MaskedLaws.{is-page, page-is, no-masks, mask-more, bit-page, page-bit}
@@ -57,12 +58,12 @@ module _ (n m : ℕ) (list sets : List ℕ) (A : Accepted n m list) (len : lengt
   block-lt end k h = let b = blocks n m list (A .listed) (A .one-to-one) end k h in let f = A .n-fits in omega arith
 
   pub no-such-set : (k : ℕ) → k < n * m → m ≤ setOf sets k → isSplit n m list sets ≡ false
-  no-such-set k h l = false-of _ (λ split. let s = set-lt n m list sets split k (omega arith) in omega arith)
+  no-such-set k h l = fails (λ split. let s = set-lt n m list sets split k (omega arith) in omega arith)
 
   -- the bit of page k's set is there already
   pub met-twice : (end : End) (masks after : List ℕ) (k : ℕ) → k < n * m → Masks m list sets k end masks
       → (was : Bool) → Flips (blockAt m list end k) (setOf sets k) masks after was → was ≡ true → isSplit n m list sets ≡ false
-  met-twice end masks after k h M was f set = false-of _ (λ split.
+  met-twice end masks after k h M was f set = fails (λ split.
       let r = bit-page m list sets end k masks M (blockAt m list end k) (setOf sets k) (eqb-true _ 1 (sym (f .0) ∙ set)) in
       let l = r .1 in
       let p = page-is m list sets end (blockAt m list end k) (setOf sets k) (r .0) (r .2) in
