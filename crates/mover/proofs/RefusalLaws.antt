@@ -1,21 +1,22 @@
 -- Rows 1 to 4 of the table, and what a move is given that they do not refuse.
 use mathlib.Core.Path.{_≡_, refl, _∙_}
 use mathlib.Core.Logic.{_≢_}
-use mathlib.Core.Bool.{Bool, true, false, cond, not}
+use mathlib.Core.Bool.{Bool, true, false, cond, _&&_, not}
 use mathlib.Core.List.{List, [], _∷_}
 use Prim.Native.Nat.{ℕ, _≤_}
 use native.Mathlib.Omega.{arith}
 use lib.Dec.{eqb}
-use borrow.Author.Tests.{ne-eqb, not-true, not-false}
+use borrow.Author.Tests.{eq-eqb, ne-eqb, le-leb}
 use Rattle.flash.specs.Tables.{Row, firstFit, numberOr0, refusal}
-use Rattle.flash.specs.Geometry.{Sizes, inRange, originalCount}
+use Rattle.flash.specs.Geometry.{inRange, originalCount}
 use Rattle.flash.specs.Chip.{Chip}
+use Rattle.flash.proofs.Bounds.{in-range}
 use Rattle.split.specs.OneToOne.{badList, isOneToOne}
-use Rattle.split.specs.Split.{isSplit}
+use Rattle.split.specs.Split.{isSplit, isCorrectSplit}
 use Rattle.method.specs.Move.{Move}
 use Rattle.method.specs.Place.{lastPlace}
 use Rattle.method.specs.Answers.{badParts, isElsewhere, moveRows, runRows, runCarriedOut, runRefused, runAnswer}
-use Rattle.method.proofs.Accepting.{move-accepted, run-taken}
+use Rattle.method.proofs.Accepting.{parts-ok, move-accepted, run-taken}
 use Rattle.walk.specs.Moving.{Given}
 use Rattle.mover.specs.Steps.{Lent}
 use Rattle.mover.specs.Answers.{Answers}
@@ -56,14 +57,29 @@ module _ (M : Move) (chip : Chip) (work : List ℕ) where
   unfolding moveRows
   move-then rest = rows-then _ _ _ _ rest
 
-  -- a list that is not one-to-one is bad
-  pub bad-list : isOneToOne (originalCount (M .sizes)) (M .list) ≡ false → badList (originalCount (M .sizes)) (M .list) ≡ true
-  unfolding isOneToOne
-  bad-list e = not-false _ e
-
-  pub good-list : isOneToOne (originalCount (M .sizes)) (M .list) ≡ true → badList (originalCount (M .sizes)) (M .list) ≡ false
-  unfolding isOneToOne
-  good-list e = not-true _ e
+  -- Past rows 1 and 2: 0 where there is a split, and else 3 or 4 by the list.
+  pub move-split : inRange (M .sizes) ≡ true → badParts M chip work ≡ false
+      → number ≡ cond (isCorrectSplit (M .sizes .n) (M .sizes .m) (M .list) (M .sets)) 0 (cond (isOneToOne (originalCount (M .sizes)) (M .list)) 4 3)
+  unfolding isCorrectSplit isOneToOne
+  move-split e f =
+      let B = in-range (M .sizes) e in
+      let lengths = parts-ok M chip work f in
+      move-number
+      ∙ rw (
+        e,
+        f,
+        le-leb _ _ (B .n-low),
+        le-leb _ _ (B .n-high),
+        le-leb _ _ (B .m-low),
+        le-leb _ _ (B .m-high),
+        eq-eqb _ _ (lengths .0),
+        eq-eqb _ _ (lengths .1),
+      ) (by-list (badList (originalCount (M .sizes)) (M .list)) (isSplit (M .sizes .n) (M .sizes .m) (M .list) (M .sets)))
+    where
+      by-list : (bad split : Bool) → _≡_ {A = ℕ} (cond bad 3 (cond (not split) 4 0)) (cond (not bad && split) 0 (cond (not bad) 4 3))
+      by-list true split = refl
+      by-list false true = refl
+      by-list false false = refl
 
   -- what a move that is not refused was given
   pub given : number ≡ 0 → Given M × Lent M (chip .store) (chip .marks) work

@@ -46,11 +46,12 @@ pub fn move_refusal(
     if bad_parts(Sizes { n, m, p, s }, list, sets, store, marks, work) {
         return 2;
     }
+    // A split is looked for first, and the list checked with it; only where there is none is it asked which of 3 and 4 it is.
+    if is_split(n, m, list, sets) {
+        return 0;
+    }
     if !check(list, original_count(n, m)) {
         return 3;
     }
-    if !is_split(n, m, list, sets) {
-        return 4;
-    }
-    0
+    4
 }

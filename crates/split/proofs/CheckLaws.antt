@@ -9,7 +9,8 @@ use native.Mathlib.Nat.{not-suc-le-zero}
 use lib.ListN.{length, getD, replicate}
 use Rattle.split.specs.OneToOne.{isOneToOne}
 use Rattle.split.specs.Mask.{bitAt, FlippedAt}
-use Rattle.split.proofs.Lists.{false-of, lt-cases, eq-cases}
+use Rattle.flash.proofs.Bools.{fails}
+use Rattle.split.proofs.Lists.{lt-cases, eq-cases}
 use Rattle.split.proofs.MaskLaws.{zeros-at, no-bits, bit-lt}
 use Rattle.split.proofs.OneToOneLaws.{one-to-one-of, entry-lt, entry-same}
 
@@ -44,10 +45,10 @@ module _ (originals : ℕ) (list seen : List ℕ) (k : ℕ) (S : Seen originals 
 
   module _ (more : k < length list) where
     pub too-large : originals ≤ getD list k 0 → isOneToOne originals list ≡ false
-    too-large h = false-of _ (λ one. let l = entry-lt originals list one k more in omega arith)
+    too-large h = fails (λ one. let l = entry-lt originals list one k more in omega arith)
 
     pub repeated : bitOf seen (getD list k 0) ≡ 1 → isOneToOne originals list ≡ false
-    repeated e = false-of _ (λ one.
+    repeated e = fails (λ one.
         let r = S .only (getD list k 0) e in
         let l = r .1 in
         let s : r .0 ≡ k = entry-same originals list one (r .0) k (omega arith) more (r .2) in

@@ -12,7 +12,10 @@ use borrow.Author.Tests.{eqb-true, eq-eqb, ne-eqb}
 use Rattle.flash.specs.Lists.{range, any}
 use Rattle.split.specs.Split.{setOf}
 use Rattle.split.specs.Rule.{End, source, destination, otherEnd, swapped, blockAt, exchange}
-use Rattle.split.proofs.Lists.{bool-cases, not-both, any-find, any-at, length-range}
+use Rattle.flash.proofs.Bools.{bool-cases, never-both}
+use Rattle.flash.proofs.Searches.{any-of}
+use Rattle.flash.proofs.Ranges.{length-range}
+use Rattle.split.proofs.Lists.{any-find}
 use Rattle.split.proofs.SplitLaws.{Proper}
 use Rattle.split.proofs.Walk.{Coloured, PageAt, metAs, metAs-two, Leads, leads-same, other-twice, path, path-head, path-chain, path-inside, path-closed, path-first, first-page}
 
@@ -61,7 +64,7 @@ module _ (m : ℕ) (list given : List ℕ) (C : Coloured m list given) (a b : �
   In x = any (eqb x) met ≡ true
 
   pub in-at : (i : ℕ) → i < length met → In (getD met i 0)
-  in-at i h = any-at (eqb (getD met i 0)) met i 0 h (eq-eqb (getD met i 0) (getD met i 0) refl)
+  in-at i h = any-of (eqb (getD met i 0)) met i 0 h (eq-eqb (getD met i 0) (getD met i 0) refl)
 
   -- where the page stands in the walk
   pub place : (x : ℕ) → In x → (i : ℕ) × (i < length met) × (getD met i 0 ≡ x)
@@ -164,10 +167,10 @@ module _ (m : ℕ) (list given : List ℕ) (C : Coloured m list given) (a b : �
       go (inr e) (inr f) = C .proper end x y h l v
           (sym (exchange-out m list given a b met x h e) ∙ c ∙ exchange-out m list given a b met y l f)
       go (inl e) (inr f) =
-          absurd (not-both (neighbour-in end x y h l e v
+          absurd (never-both (neighbour-in end x y h l e v
           (sym (exchange-out m list given a b met y l f) ∙ sym c ∙ exchange-in m list given a b met x h e)) f)
       go (inr e) (inl f) =
-          absurd (not-both (neighbour-in end y x l h f (sym v)
+          absurd (never-both (neighbour-in end y x l h f (sym v)
           (sym (exchange-out m list given a b met x h e) ∙ c ∙ exchange-in m list given a b met y l f)) e)
 
   pub after-coloured : a < m → b < m → Coloured m list after
@@ -199,7 +202,7 @@ module _ (m : ℕ) (list given : List ℕ) (C : Coloured m list given) (a b : �
       let s = C .proper destination first x (p .inside) h (p .at-block ∙ sym v)
       (p .in-set ∙ sym (sym (exchange-out m list given a b met x h e) ∙ c)) in
       let f = path-first m list given C a b differ block unused first p in
-      not-both (subst In (f .1 ∙ s) (in-at 0 (f .0))) e)
+      never-both (subst In (f .1 ∙ s) (in-at 0 (f .0))) e)
       (bool-cases (any (eqb x) met))
 
   -- a stays unused at a source where it was: the walk comes to a source by a page of set a

@@ -3,7 +3,7 @@ use mathlib.Core.Path.{_≡_, refl, sym, ap, ap₂, _∙_, subst}
 use mathlib.Core.Logic.{_⊎_, _≢_, ⊎-elim}
 use mathlib.Core.Bool.{true, false, cond, not}
 use mathlib.Core.List.{List, [], _∷_, _++_}
-use Prim.Native.Nat.{ℕ, zero, suc, _+_, _-_, _*_, _%_, _≤_, _<_}
+use Prim.Native.Nat.{ℕ, suc, _+_, _-_, _*_, _%_, _≤_, _<_}
 use native.Mathlib.Nat.{mul-le-mul}
 use native.Mathlib.Numerals.{add-one}
 use native.Mathlib.Omega.{arith}
@@ -20,7 +20,9 @@ use Rattle.split.specs.Mask.{bitAt, lowestZero, FlippedAt}
 use Rattle.split.specs.Accepted.{Accepted}
 use Rattle.split.specs.Ends.{Masks}
 use Rattle.split.specs.Work.{Inverse, Working, Blocked, Exchanged}
-use Rattle.split.proofs.Lists.{bool-cases, first-is, lt-cases, Hit}
+use Rattle.flash.proofs.Bools.{bool-cases}
+use Rattle.flash.proofs.Ranges.{First, first-is}
+use Rattle.split.proofs.Lists.{lt-cases}
 use Rattle.split.proofs.OneToOneLaws.{entry-same}
 use Rattle.split.proofs.SplitLaws.{Proper}
 use Rattle.split.proofs.RuleLaws.{given, Given, used-page, unused-none, lowest}
@@ -83,8 +85,8 @@ module _ (m : ℕ) (list from : List ℕ) (k : ℕ) (sets sources destinations :
     abbrev low : End → ℕ
     low end = lowestUnused m list sofar end (blockAt m list end k)
 
-    lowest-hit : (end : End) → Hit (λ s. not (isUsed m list sofar end (blockAt m list end k) s)) 0 m (low end)
-    lowest-hit end = subst (λ (x : ℕ). Hit (λ s. not (isUsed m list sofar end (blockAt m list end x) s)) 0 m
+    lowest-hit : (end : End) → First (λ s. not (isUsed m list sofar end (blockAt m list end k) s)) 0 m (low end)
+    lowest-hit end = subst (λ (x : ℕ). First (λ s. not (isUsed m list sofar end (blockAt m list end x) s)) 0 m
         (lowestUnused m list sofar end (blockAt m list end x))) (so-far .counted)
         (lowest n m list (W .accepted .listed) (W .accepted .one-to-one) sofar (so-far .coloured) (omega (arith, so-far .counted)) end)
 
@@ -97,9 +99,12 @@ module _ (m : ℕ) (list from : List ℕ) (k : ℕ) (sets sources destinations :
         let fits = W .accepted .m-fits in
         let high = h .high in
         let mask = getD masks (blockAt m list end k) 0 in
-        first-is (λ bit. eqb (bitAt mask bit) 0) 0 64 64 (low end) (omega arith) (omega arith)
-        (eq-eqb _ 0 (zero-bit (low end) (used-bit end masks M (blockAt m list end k) (low end) ∙ not-true _ (h .hit))))
-        (λ s a b. ne-eqb _ 0 (one-bit s (used-bit end masks M (blockAt m list end k) s ∙ not-false _ (h .before s a b)))))
+        first-is (λ bit. eqb (bitAt mask bit) 0) 0 64 64 (low end) (record {
+          low = omega arith;
+          high = omega arith;
+          passes = eq-eqb _ 0 (zero-bit (low end) (used-bit end masks M (blockAt m list end k) (low end) ∙ not-true _ (h .passes)));
+          before = λ s a b. ne-eqb _ 0 (one-bit s (used-bit end masks M (blockAt m list end k) s ∙ not-false _ (h .before s a b)));
+        }))
       where
         zero-bit : (s : ℕ) → eqb (bitAt (getD masks (blockAt m list end k) 0) s) 1 ≡ false
             → bitAt (getD masks (blockAt m list end k) 0) s ≡ 0

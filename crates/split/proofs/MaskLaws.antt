@@ -15,7 +15,8 @@ use lib.Pow.{pow-pos, pow-lt, pow-add, shr-shr, shl-shr}
 use lib.Bits.{bitXor, xor-step, xor-shr, differ}
 use Rattle.flash.specs.Lists.{range, first}
 use Rattle.split.specs.Mask.{bitAt, Flipped, FlippedAt, FlippedBoth}
-use Rattle.split.proofs.Lists.{bool-cases, lt-cases, eq-cases}
+use Rattle.flash.proofs.Bools.{bool-cases}
+use Rattle.split.proofs.Lists.{lt-cases, eq-cases}
 
 pub bit-lt : (mask bit : ℕ) → bitAt mask bit < 2
 bit-lt mask bit = mod-lt (mask / 2 ^ bit) {m = 2} (omega arith)

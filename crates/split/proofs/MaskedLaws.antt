@@ -2,10 +2,9 @@
 use mathlib.Core.Path.{_≡_, refl, sym, ap, _∙_, subst}
 use mathlib.Core.Logic.{_⊎_, inl, inr, _≢_, ⊎-elim}
 use mathlib.Core.Bool.{Bool, true, false, cond, _&&_}
-use mathlib.Core.List.{List, [], _∷_}
+use mathlib.Core.List.{List}
 use Prim.Native.Nat.{ℕ, zero, suc, _+_, _-_, _≤_, _<_}
 use native.Mathlib.Nat.{zero-add}
-use native.Mathlib.Numerals.{add-one}
 use native.Mathlib.Omega.{arith}
 use lib.Dec.{eqb}
 use lib.ListN.{length, getD, set, replicate}
@@ -16,7 +15,10 @@ use Rattle.split.specs.Split.{setOf}
 use Rattle.split.specs.Rule.{End, blockAt, isPageOf}
 use Rattle.split.specs.Mask.{bitAt, FlippedAt, FlippedBoth}
 use Rattle.split.specs.Ends.{Masks}
-use Rattle.split.proofs.Lists.{bool-cases, not-both, false-of, and-left, and-right, and-both, range-snoc, count-append, count-none, count-one, eq-cases}
+use Rattle.flash.proofs.Bools.{bool-cases, never-both, and-left, and-right, fails}
+use Rattle.flash.proofs.Searches.{count-none}
+use Rattle.flash.proofs.Ranges.{none-is, count-more, one-counted}
+use Rattle.split.proofs.Lists.{and-both, eq-cases}
 use Rattle.split.proofs.Pigeon.{seek}
 use Rattle.split.proofs.MaskLaws.{zeros-at, no-bits}
 use Rattle.split.proofs.SplitLaws.{Proper}
@@ -28,10 +30,7 @@ one-if test = cond test 1 0
 count-snoc : (test : ℕ → Bool) (k : ℕ) → count test (range 0 (k + 1)) ≡ count test (range 0 k) + one-if (test k)
 unfolding count
 count-snoc test k =
-    ap (λ (n : ℕ). count test (range 0 n)) (add-one k)
-    ∙ ap (count test) (range-snoc 0 k)
-    ∙ count-append test (range 0 k) ((0 + k) ∷ [])
-    ∙ ap (λ (x : ℕ). count test (range 0 k) + one-if (test x)) (zero-add k)
+    count-more test 0 k ∙ ap (λ (x : ℕ). count test (range 0 k) + one-if (test x)) (zero-add k)
 
 module _ (m : ℕ) (list sets : List ℕ) (end : End) where
   pub is-page : (block set k : ℕ) → blockAt m list end k ≡ block → setOf sets k ≡ set → isPageOf m list sets end block set k ≡ true
@@ -73,7 +72,7 @@ module _ (m : ℕ) (list sets : List ℕ) (end : End) where
       elsewhere : (block set k : ℕ) → isPageOf m list sets end block set k ≡ false
           → (block ≢ blockAt m list end k) ⊎ (set ≢ setOf sets k)
       elsewhere block set k q = ⊎-elim
-          (λ (p : block ≡ blockAt m list end k). inr (λ s. not-both (is-page block set k (sym p) (sym s)) q))
+          (λ (p : block ≡ blockAt m list end k). inr (λ s. never-both (is-page block set k (sym p) (sym s)) q))
           (λ (p : block ≢ blockAt m list end k). inl p)
           (eq-cases block (blockAt m list end k))
 
@@ -84,7 +83,7 @@ module _ (m : ℕ) (list sets : List ℕ) (end : End) where
     bit-page block set e = ⊎-elim
         (λ (r : (x : ℕ) × (x < k) × (isPageOf m list sets end block set x ≡ true)). r)
         (λ (f : (x : ℕ) → x < k → isPageOf m list sets end block set x ≡ false).
-        let z = count-none (isPageOf m list sets end block set) 0 k (λ x a b. f x (omega arith)) in
+        let z = count-none (isPageOf m list sets end block set) (range 0 k) (none-is (isPageOf m list sets end block set) 0 k (λ x a b. f x (omega arith))) in
         let b = M block set in
         absurd (omega arith))
         (seek (isPageOf m list sets end block set) k)
@@ -94,8 +93,12 @@ module _ (m : ℕ) (list sets : List ℕ) (end : End) where
         → bitAt (getD masks block 0) set ≡ 1
     page-bit proper block set x h e =
         let p = page-is block set x e in
-        let one = count-one (isPageOf m list sets end block set) 0 k x (omega arith) (omega arith) e (λ y a b t.
-        let q = page-is block set y t in proper y x (omega arith) h (q .0 ∙ sym (p .0)) (q .1 ∙ sym (p .1))) in
+        let one = one-counted (isPageOf m list sets end block set) 0 k x (record {
+          low = omega arith;
+          high = omega arith;
+          passes = e;
+          others = λ y a b t. let q = page-is block set y t in proper y x (omega arith) h (q .0 ∙ sym (p .0)) (q .1 ∙ sym (p .1));
+        }) in
         let b = M block set in
         omega arith
 
@@ -173,7 +176,7 @@ module _ (m : ℕ) (list sets : List ℕ) (end : End) (k : ℕ) (masks after : L
   changed-else block s x ne = page-else m list sets end p other block s x ne
 
   not-page : (of : List ℕ) (block s : ℕ) → (block ≢ blockAt m list end p) ⊎ (s ≢ setOf of p) → isPageOf m list of end block s p ≡ false
-  not-page of block s ne = false-of _ (λ e.
+  not-page of block s ne = fails (λ e.
       let q = page-is m list of end block s p e in
       ⊎-elim (λ (r : block ≢ blockAt m list end p). r (sym (q .0))) (λ (r : s ≢ setOf of p). r (sym (q .1))) ne)
 

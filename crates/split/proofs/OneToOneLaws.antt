@@ -10,7 +10,9 @@ use lib.ListN.{length, getD}
 use borrow.Author.Tests.{eqb-true, eq-eqb, leb-true, leb-false, not-true}
 use Rattle.flash.specs.Lists.{any}
 use Rattle.split.specs.OneToOne.{metTwice, badList, isOneToOne}
-use Rattle.split.proofs.Lists.{not-both, false-of, or-left, or-right, any-none, any-find}
+use Rattle.flash.proofs.Bools.{never-both, fails, or-false-left, or-false-right}
+use Rattle.flash.proofs.Searches.{none-at}
+use Rattle.split.proofs.Lists.{any-find}
 use Rattle.split.proofs.Pigeon.{onto}
 
 abbrev pub Distinct : List ℕ → Type 0
@@ -21,12 +23,12 @@ unfolding metTwice
 distinct-at [] e i j h l q = absurd (not-suc-le-zero h)
 distinct-at (x ∷ xs) e zero zero h l q = refl
 distinct-at (x ∷ xs) e zero (suc j) h l q =
-    absurd (not-both (eq-eqb x (getD xs j 0) q) (any-none (eqb x) xs (or-left (any (eqb x) xs) (metTwice xs) e) j 0 (omega arith)))
+    absurd (never-both (eq-eqb x (getD xs j 0) q) (none-at (eqb x) xs j 0 (or-false-left (any (eqb x) xs) (metTwice xs) e) (omega arith)))
 distinct-at (x ∷ xs) e (suc i) zero h l q =
-    absurd (not-both (eq-eqb x (getD xs i 0) (sym q))
-    (any-none (eqb x) xs (or-left (any (eqb x) xs) (metTwice xs) e) i 0 (omega arith)))
+    absurd (never-both (eq-eqb x (getD xs i 0) (sym q))
+    (none-at (eqb x) xs i 0 (or-false-left (any (eqb x) xs) (metTwice xs) e) (omega arith)))
 distinct-at (x ∷ xs) e (suc i) (suc j) h l q =
-    ap suc (distinct-at xs (or-right (any (eqb x) xs) (metTwice xs) e) i j (omega arith) (omega arith) q)
+    ap suc (distinct-at xs (or-false-right (any (eqb x) xs) (metTwice xs) e) i j (omega arith) (omega arith) q)
 
 distinct-of : (list : List ℕ) → Distinct list → metTwice list ≡ false
 unfolding metTwice
@@ -34,7 +36,7 @@ distinct-of [] d = refl
 distinct-of (x ∷ xs) d = rw (fresh, distinct-of xs later)
   where
     fresh : any (eqb x) xs ≡ false
-    fresh = false-of (any (eqb x) xs) (λ t.
+    fresh = fails (λ t.
         let r = any-find (eqb x) xs 0 t in
         let z : 0 ≡ suc (r .0) = d 0 (suc (r .0)) (omega arith) (omega (arith, r .1)) (eqb-true x (getD xs (r .0) 0) (r .2)) in
         omega arith)
@@ -48,7 +50,7 @@ module _ (originals : ℕ) (list : List ℕ) where
   one-to-one-of below distinct = rw (small, distinct-of list distinct)
     where
       small : any (leb originals) list ≡ false
-      small = false-of (any (leb originals) list) (λ t.
+      small = fails (λ t.
           let r = any-find (leb originals) list 0 t in
           let a = leb-true originals (getD list (r .0) 0) (r .2) in
           let b = below (r .0) (r .1) in
@@ -62,11 +64,11 @@ module _ (originals : ℕ) (list : List ℕ) where
     pub entry-lt : (k : ℕ) → k < length list → getD list k 0 < originals
     unfolding badList
     entry-lt k h = leb-false originals (getD list k 0)
-        (any-none (leb originals) list (or-left (any (leb originals) list) (metTwice list) good) k 0 h)
+        (none-at (leb originals) list k 0 (or-false-left (any (leb originals) list) (metTwice list) good) h)
 
     pub entry-same : Distinct list
     unfolding badList
-    entry-same = distinct-at list (or-right (any (leb originals) list) (metTwice list) good)
+    entry-same = distinct-at list (or-false-right (any (leb originals) list) (metTwice list) good)
 
     pub entry-onto : length list ≡ originals → (x : ℕ) → x < originals → (k : ℕ) × (k < originals) × (getD list k 0 ≡ x)
     entry-onto e = onto originals (λ k. getD list k 0) (λ k h. entry-lt k (omega arith))

@@ -14,7 +14,9 @@ use Rattle.flash.specs.Geometry.{blockOf}
 use Rattle.split.specs.OneToOne.{isOneToOne}
 use Rattle.split.specs.Split.{sourceBlock, destBlock, setOf, isSplit}
 use Rattle.split.specs.Rule.{End, source, destination, blockAt, isPageOf, isUsed, lowestUnused, pagesMet, exchange, giveNext, setsGiven, splitByRule}
-use Rattle.split.proofs.Lists.{bool-cases, not-both, any-range-at, any-range-find, first-cases, Hit, Missed, lt-cases}
+use Rattle.flash.proofs.Bools.{bool-cases, never-both}
+use Rattle.flash.proofs.Ranges.{any-is, First}
+use Rattle.split.proofs.Lists.{any-range-find, Missed, first-cases, lt-cases}
 use Rattle.split.proofs.Pigeon.{crowded}
 use Rattle.split.proofs.OneToOneLaws.{entry-lt, entry-same}
 use Rattle.split.proofs.SplitLaws.{some-page, block-range, split-of}
@@ -33,7 +35,7 @@ module _ (m : ℕ) (list given : List ℕ) where
   unfolding isUsed
   unused-none end block set e k p =
       let h = p .inside in
-      not-both (any-range-at (isPageOf m list given end block set) 0 (length given) k (omega arith) (omega arith)
+      never-both (any-is (isPageOf m list given end block set) 0 (length given) k (omega arith) (omega arith)
       (page-test m list given end block set k p)) e
 
   -- one page more, with a set that neither of its blocks uses
@@ -133,11 +135,11 @@ module _ (n m : ℕ) (list : List ℕ) (listed : length list ≡ n * m) (accepte
             let e : page i ≡ k = same (page i) k (omega arith) room (p .at-block) r in
             omega arith
 
-    pub lowest : (end : End) → Hit (λ set. not (isUsed m list given end (blockAt m list end k) set)) 0 m
+    pub lowest : (end : End) → First (λ set. not (isUsed m list given end (blockAt m list end k) set)) 0 m
         (lowestUnused m list given end (blockAt m list end k))
     unfolding lowestUnused
     lowest end = ⊎-elim
-        (λ (h : Hit (λ set. not (isUsed m list given end (blockAt m list end k) set)) 0 m
+        (λ (h : First (λ set. not (isUsed m list given end (blockAt m list end k) set)) 0 m
         (lowestUnused m list given end (blockAt m list end k))). h)
         (λ (h : Missed (λ set. not (isUsed m list given end (blockAt m list end k) set)) 0 m m
         (lowestUnused m list given end (blockAt m list end k))).
@@ -149,7 +151,7 @@ module _ (n m : ℕ) (list : List ℕ) (listed : length list ≡ n * m) (accepte
 
     pub lowest-unused : (end : End) → isUsed m list given end (blockAt m list end k)
         (lowestUnused m list given end (blockAt m list end k)) ≡ false
-    lowest-unused end = not-true _ (lowest end .hit)
+    lowest-unused end = not-true _ (lowest end .passes)
 
     pub lowest-none : (end : End) (x : ℕ) → PageAt m list given end (blockAt m list end k)
         (lowestUnused m list given end (blockAt m list end k)) x → ⊥

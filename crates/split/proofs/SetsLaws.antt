@@ -1,20 +1,23 @@
--- The check of set bytes: pages with different sets at each block, so far.
-use mathlib.Core.Path.{_≡_, sym, ap, _∙_, subst}
+-- The check of set bytes: pages with different sets at each block, so far; and what is answered for any input.
+use mathlib.Core.Path.{_≡_, refl, sym, ap, _∙_, subst}
 use mathlib.Core.Logic.{_⊎_, inl, inr, _≢_, ⊎-elim}
-use mathlib.Core.Bool.{Bool, true, false}
+use mathlib.Core.Bool.{Bool, true, false, _&&_, _||_, not, and-true, and-false}
 use mathlib.Core.List.{List}
 use Prim.Native.Nat.{ℕ, _+_, _*_, _≤_, _<_}
 use native.Mathlib.Nat.{not-suc-le-zero}
 use native.Mathlib.Omega.{arith}
-use lib.Dec.{eqb}
+use lib.Dec.{eqb, leb}
 use lib.ListN.{length, getD, replicate}
 use borrow.Author.Tests.{eqb-true, eqb-false}
-use Rattle.split.specs.Split.{setOf, isSplit}
+use Rattle.flash.specs.Geometry.{Sizes, isLetter, inRange}
+use Rattle.split.specs.OneToOne.{isOneToOne}
+use Rattle.split.specs.Split.{setOf, isSplit, isCorrectSplit}
 use Rattle.split.specs.Rule.{End, source, destination, blockAt}
 use Rattle.split.specs.Mask.{bitAt, FlippedAt}
 use Rattle.split.specs.Accepted.{Accepted}
 use Rattle.split.specs.Ends.{Masks}
-use Rattle.split.proofs.Lists.{false-of, lt-cases}
+use Rattle.flash.proofs.Bools.{fails}
+use Rattle.split.proofs.Lists.{lt-cases}
 use Rattle.split.proofs.SplitLaws.{Proper, set-lt, same-from, same-to, split-of}
 use Rattle.split.proofs.RuleLaws.{blocks}
 use Rattle.split.proofs.MaskedLaws.{is-page, page-is, no-masks, mask-more, bit-page, page-bit}
@@ -55,12 +58,12 @@ module _ (n m : ℕ) (list sets : List ℕ) (A : Accepted n m list) (len : lengt
   block-lt end k h = let b = blocks n m list (A .listed) (A .one-to-one) end k h in let f = A .n-fits in omega arith
 
   pub no-such-set : (k : ℕ) → k < n * m → m ≤ setOf sets k → isSplit n m list sets ≡ false
-  no-such-set k h l = false-of _ (λ split. let s = set-lt n m list sets split k (omega arith) in omega arith)
+  no-such-set k h l = fails (λ split. let s = set-lt n m list sets split k (omega arith) in omega arith)
 
   -- the bit of page k's set is there already
   pub met-twice : (end : End) (masks after : List ℕ) (k : ℕ) → k < n * m → Masks m list sets k end masks
       → (was : Bool) → Flips (blockAt m list end k) (setOf sets k) masks after was → was ≡ true → isSplit n m list sets ≡ false
-  met-twice end masks after k h M was f set = false-of _ (λ split.
+  met-twice end masks after k h M was f set = fails (λ split.
       let r = bit-page m list sets end k masks M (blockAt m list end k) (setOf sets k) (eqb-true _ 1 (sym (f .0) ∙ set)) in
       let l = r .1 in
       let p = page-is m list sets end (blockAt m list end k) (setOf sets k) (r .0) (r .2) in
@@ -108,3 +111,36 @@ module _ (n m : ℕ) (list sets : List ℕ) (A : Accepted n m list) (len : lengt
             go (inr p) (inl q) = let e : x ≡ k = omega arith in absurd
                 (fresh end y q (sym v ∙ ap (blockAt m list end) e) (sym c ∙ ap (setOf sets) e))
             go (inr p) (inr q) = omega arith
+
+-- ---- any input
+-- sizes that have these blocks and pages, and are in range if these are
+abbrev pub sizes : (n m : ℕ) → Sizes
+sizes n m = record { n = n; m = m; P = 1; s = 0 }
+
+-- the tests in the order of the code
+in-turn : (a b c d e : Bool) → (a && b && c && d && e) ≡ (a && (not (not b || not c) && (d && e)))
+in-turn false b c d e = refl
+in-turn true false c d e = refl
+in-turn true true false d e = refl
+in-turn true true true d e = refl
+
+module _ (n m : ℕ) (list sets : List ℕ) where
+  abbrev off-length : Bool
+  off-length = not (eqb (length list) (n * m)) || not (eqb (length sets) (n * m))
+
+  correct-is : isCorrectSplit n m list sets ≡ (inRange (sizes n m) && (not off-length && (isOneToOne (n * m) list && isSplit n m list sets)))
+  unfolding isCorrectSplit inRange isLetter
+  correct-is =
+      rw (and-true, and-true, and-true)
+      (in-turn (leb 1 n && leb n 64 && leb 1 m && leb m 64) (eqb (length list) (n * m)) (eqb (length sets) (n * m)) (isOneToOne (n * m) list) (isSplit n m list sets))
+
+  pub wrong-sizes : inRange (sizes n m) ≡ false → isCorrectSplit n m list sets ≡ false
+  wrong-sizes e = rw (correct-is, e)
+
+  pub wrong-lengths : off-length ≡ true → isCorrectSplit n m list sets ≡ false
+  wrong-lengths e = rw (correct-is, e, and-false)
+
+  -- with these as they should be, the list and its sets decide
+  pub left-to-sets : inRange (sizes n m) ≡ true → off-length ≡ false
+      → isCorrectSplit n m list sets ≡ (isOneToOne (n * m) list && isSplit n m list sets)
+  left-to-sets e f = rw (correct-is, e, f)

@@ -1,7 +1,7 @@
 -- What a split says: each set has just one page from each data block and just one page to each; and what makes one.
 -- The layer above relies on these laws and on nothing of the rule.
 use mathlib.Core.Path.{_≡_, refl, sym, ap, _∙_}
-use mathlib.Core.Bool.{true, _&&_}
+use mathlib.Core.Bool.{Bool, true, _&&_}
 use mathlib.Core.List.{List}
 use Prim.Native.Nat.{ℕ, zero, suc, _+_, _-_, _*_, _/_, _≤_, _<_}
 use native.Mathlib.Nat.{mul-le-mul-right, suc-mul, div-lt-iff-lt-mul, mul-add-div-right, div-eq-of-lt, mul-zero}
@@ -13,7 +13,10 @@ use Rattle.flash.specs.Lists.{range, all, count, first}
 use Rattle.flash.specs.Geometry.{blockOf}
 use Rattle.split.specs.OneToOne.{isOneToOne}
 use Rattle.split.specs.Split.{sourceBlock, destBlock, setOf, pagesFrom, pagesTo, isSplit}
-use Rattle.split.proofs.Lists.{and-left, and-right, and-both, all-at, all-of, all-range-at, all-range-of, count-one, count-one-at, count-one-same, first-hit}
+use Rattle.flash.proofs.Bools.{and-left, and-right}
+use Rattle.flash.proofs.Searches.{all-at, all-of}
+use Rattle.flash.proofs.Ranges.{all-in, all-is, first-hit, count-one, one-counted}
+use Rattle.split.proofs.Lists.{and-both}
 use Rattle.split.proofs.Pigeon.{onto}
 use Rattle.split.proofs.OneToOneLaws.{entry-lt, entry-same}
 
@@ -49,13 +52,13 @@ place-lt n m b j l h k = omega (arith, mul-le-mul-right {m = suc (b - 1)} {n = n
 module _ (n m : ℕ) (list sets : List ℕ) (split : isSplit n m list sets ≡ true) where
   pub set-lt : (k : ℕ) → k < length sets → setOf sets k < m
   unfolding isSplit setOf
-  set-lt k h = ltb-true (getD sets k 0) m (all-at (λ set. ltb set m) sets (and-left (all (λ set. ltb set m) sets) _ split) k 0 h)
+  set-lt k h = ltb-true (getD sets k 0) m (all-at (λ set. ltb set m) sets k 0 (and-left (all (λ set. ltb set m) sets) _ split) h)
 
   ones : (set block : ℕ) → set < m → 1 ≤ block → block ≤ n
       → (eqb (pagesFrom n m list sets set block) 1 && eqb (pagesTo n m list sets set block) 1) ≡ true
   unfolding isSplit
   ones set block h l u =
-      all-range-at _ 1 n (all-range-at _ 0 m (and-right (all (λ set. ltb set m) sets) _ split) set (omega arith)
+      all-in _ 1 n (all-in _ 0 m (and-right (all (λ set. ltb set m) sets) _ split) set (omega arith)
       (omega arith)) block l (omega arith)
 
   from-one : (set block : ℕ) → set < m → 1 ≤ block → block ≤ n → pagesFrom n m list sets set block ≡ 1
@@ -69,23 +72,23 @@ module _ (n m : ℕ) (list sets : List ℕ) (split : isSplit n m list sets ≡ t
       → count (λ k. eqb (setOf sets k) set && eqb (block k) at) (range 0 (n * m)) ≡ 1) where
     a-page : (set at : ℕ) → set < m → 1 ≤ at → at ≤ n → (k : ℕ) × PageOf (n * m) sets block set at k
     a-page set at h l u =
-        let r = count-one-at _ 0 (n * m) (one set at h l u) in
-        let k = r .0 in (
+        let test : ℕ → Bool = λ k. eqb (setOf sets k) set && eqb (block k) at in
+        let k = first test (range 0 (n * m)) 0 in
+        let r = count-one test 0 (n * m) 0 (one set at h l u) in (
           k,
           record {
-            inside = omega (arith, r .2);
-            in-set = eqb-true (setOf sets k) set (and-left (eqb (setOf sets k) set) (eqb (block k) at) (r .3));
-            at-block = eqb-true (block k) at (and-right (eqb (setOf sets k) set) (eqb (block k) at) (r .3));
+            inside = omega (arith, r .high);
+            in-set = eqb-true (setOf sets k) set (and-left (eqb (setOf sets k) set) (eqb (block k) at) (r .passes));
+            at-block = eqb-true (block k) at (and-right (eqb (setOf sets k) set) (eqb (block k) at) (r .passes));
           },
         )
 
     proper : length sets ≡ n * m → ((k : ℕ) → k < n * m → (1 ≤ block k) × (block k ≤ n)) → Proper (n * m) sets block
     proper len blocks x y h l b s =
         let e = one (setOf sets y) (block y) (set-lt y (omega arith)) (blocks y l .0) (blocks y l .1) in
-        count-one-same (λ k. eqb (setOf sets k) (setOf sets y) && eqb (block k) (block y)) 0 (n * m) e x y (omega arith)
-        (omega arith) (omega arith) (omega arith)
-        (and-both _ _ (eq-eqb (setOf sets x) (setOf sets y) s) (eq-eqb (block x) (block y) b))
-        (and-both _ _ (eq-eqb (setOf sets y) (setOf sets y) refl) (eq-eqb (block y) (block y) refl))
+        let r = count-one (λ k. eqb (setOf sets k) (setOf sets y) && eqb (block k) (block y)) 0 (n * m) 0 e in
+        r .others x (omega arith) (omega arith) (and-both _ _ (eq-eqb (setOf sets x) (setOf sets y) s) (eq-eqb (block x) (block y) b))
+        ∙ sym (r .others y (omega arith) (omega arith) (and-both _ _ (eq-eqb (setOf sets y) (setOf sets y) refl) (eq-eqb (block y) (block y) refl)))
 
   -- each set has a page from each block, and a page to each block
   pub page-from : (set block : ℕ) → set < m → 1 ≤ block → block ≤ n → (k : ℕ) × PageOf (n * m) sets (sourceBlock m) set block k
@@ -121,9 +124,9 @@ module _ (n m : ℕ) (sets : List ℕ) (small : (k : ℕ) → k < n * m → setO
   page-is at j l u h =
       let t = (at - 1) * m + j in
       let r = onto (n * m) place into same t (place-lt n m at j l u h) in
-      let f = first-hit (λ k. eqb (place k) t) 0 (n * m) 0 (r .0) (omega arith) (omega (arith, r .1))
+      let f = first-hit (λ k. eqb (place k) t) 0 (n * m) (r .0) 0 (omega arith) (omega (arith, r .1))
       (eq-eqb (place (r .0)) t (r .2)) in
-      (omega (arith, f .high), eqb-true _ t (f .hit))
+      (omega (arith, f .high), eqb-true _ t (f .passes))
 
   page-at : (at j : ℕ) → 1 ≤ at → at ≤ n → j < m → blockOf m (place (page at j)) ≡ at
   page-at at j l u h = ap (blockOf m) (page-is at j l u h .1) ∙ place-block m at j l h
@@ -147,12 +150,15 @@ module _ (n m : ℕ) (sets : List ℕ) (small : (k : ℕ) → k < n * m → setO
       let k = page at (r .0) in
       let k-lt : k < n * m = page-is at (r .0) l u (r .1) .0 in
       let k-at : blockOf m (place k) ≡ at = page-at at (r .0) l u (r .1) in
-      count-one (λ k. eqb (setOf sets k) set && eqb (blockOf m (place k)) at) 0 (n * m) k (omega arith) (omega arith)
-      (and-both _ _ (eq-eqb (setOf sets k) set (r .2)) (eq-eqb (blockOf m (place k)) at k-at))
-      (λ y a b t.
-      let p = eqb-true (setOf sets y) set (and-left _ (eqb (blockOf m (place y)) at) t) in
-      let q = eqb-true (blockOf m (place y)) at (and-right (eqb (setOf sets y) set) _ t) in
-      proper y k (omega arith) k-lt (q ∙ sym k-at) (p ∙ sym (r .2)))
+      one-counted (λ k. eqb (setOf sets k) set && eqb (blockOf m (place k)) at) 0 (n * m) k (record {
+        low = omega arith;
+        high = omega arith;
+        passes = and-both _ _ (eq-eqb (setOf sets k) set (r .2)) (eq-eqb (blockOf m (place k)) at k-at);
+        others = λ y a b t.
+            let p = eqb-true (setOf sets y) set (and-left _ (eqb (blockOf m (place y)) at) t) in
+            let q = eqb-true (blockOf m (place y)) at (and-right (eqb (setOf sets y) set) _ t) in
+            proper y k (omega arith) k-lt (q ∙ sym k-at) (p ∙ sym (r .2));
+      })
 
 pub split-of : (n m : ℕ) (list sets : List ℕ) → length list ≡ n * m → isOneToOne (n * m) list ≡ true → length sets ≡ n * m
     → ((k : ℕ) → k < n * m → setOf sets k < m) → Proper (n * m) sets (sourceBlock m) → Proper (n * m) sets (destBlock m list)
@@ -161,7 +167,7 @@ unfolding isSplit pagesFrom pagesTo sourceBlock destBlock setOf
 split-of n m list sets listed accepted len small from to =
     and-both _ _
     (all-of (λ set. ltb set m) sets 0 (λ k h. lt-ltb (getD sets k 0) m (small′ k h)))
-    (all-range-of _ 0 m (λ set a h. all-range-of _ 1 n (λ block l u. and-both _ _
+    (all-is _ 0 m (λ set a h. all-is _ 1 n (λ block l u. and-both _ _
     (eq-eqb _ 1 (one-each n m sets small (λ k. k) (λ k h. h) (λ x y h l e. e) from set block (omega arith) l (omega arith)))
     (eq-eqb _ 1 (one-each n m sets small (λ k. getD list k 0) (λ k h. entry-lt (n * m) list accepted k (omega arith))
     (λ x y h l e. entry-same (n * m) list accepted x y (omega arith) (omega arith) e) to set block (omega arith) l (omega arith))))))

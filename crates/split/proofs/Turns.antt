@@ -12,7 +12,8 @@ use borrow.Author.Tests.{eqb-true, eq-eqb, ne-eqb}
 use Rattle.flash.specs.Lists.{any}
 use Rattle.split.specs.Split.{setOf}
 use Rattle.split.specs.Rule.{End, source, destination, otherEnd, swapped, blockAt, exchange}
-use Rattle.split.proofs.Lists.{bool-cases, false-of, any-find, lt-cases, eq-cases}
+use Rattle.flash.proofs.Bools.{bool-cases, fails}
+use Rattle.split.proofs.Lists.{any-find, lt-cases, eq-cases}
 use Rattle.split.proofs.Walk.{Coloured, PageAt, metAs, metAs-same, metAs-two, other-twice, path, path-head, path-chain, path-inside, path-closed, path-first, path-distinct}
 use Rattle.split.proofs.Exchange.{exchange-length, exchange-at, swapped-met, in-at, two}
 
@@ -114,7 +115,7 @@ module _ (m : ℕ) (list given : List ℕ) (C : Coloured m list given) (a b : �
     -- the page still has its set
     pub page-now : setOf sets page ≡ at end
     page-now =
-        let new : any (eqb page) (take i met) ≡ false = false-of _ (λ e.
+        let new : any (eqb page) (take i met) ≡ false = fails (λ e.
         let f = in-front i page e in
         let o = f .1 in
         let j : f .0 ≡ i = path-distinct m list given C a b differ block unused (length given) (f .0) i (f .2) on-path
@@ -126,7 +127,7 @@ module _ (m : ℕ) (list given : List ℕ) (C : Coloured m list given) (a b : �
     not-front : (x : ℕ) → x < length given → blockAt m list (otherEnd end) x ≡ blockAt m list (otherEnd end) page
         → setOf sets x ≡ at (otherEnd end)
         → any (eqb x) (take i met) ≡ false
-    not-front x h v c = false-of _ (λ e.
+    not-front x h v c = fails (λ e.
         let f = in-front i x e in
         let o = f .1 in
         let s : swapped a b (setOf given x) ≡ at (otherEnd end) = sym (sets-front i x sets (T .sets-are x h) e) ∙ c in
@@ -165,7 +166,7 @@ module _ (m : ℕ) (list given : List ℕ) (C : Coloured m list given) (a b : �
           sym (other-twice (p .0)) ∙ ap otherEnd (metAs-same m list given C a b differ (otherEnd (p .0)) end
           (sym (q .was) ∙ ap (setOf given) (sym page-is) ∙ page-as)) in
           let inside : z < length given = q .to .inside in
-          let new : any (eqb z) (take i met) ≡ false = false-of _ (λ e.
+          let new : any (eqb z) (take i met) ≡ false = fails (λ e.
           let g = in-front i z e in
           let o = g .1 in
           let j : g .0 ≡ suc i = path-distinct m list given C a b differ block unused (length given) (g .0) (suc i) (g .2) h (g .3) in

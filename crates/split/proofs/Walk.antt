@@ -14,7 +14,9 @@ use borrow.Author.Tests.{eqb-true, eq-eqb, lt-ltb, le-ltb}
 use Rattle.flash.specs.Lists.{range, first}
 use Rattle.split.specs.Split.{setOf}
 use Rattle.split.specs.Rule.{End, source, destination, otherEnd, blockAt, isPageOf, pagesMet}
-use Rattle.split.proofs.Lists.{not-both, and-left, and-right, and-both, first-cases, Hit, Missed, lt-cases, eq-cases, ne-lt}
+use Rattle.flash.proofs.Bools.{never-both, and-left, and-right}
+use Rattle.flash.proofs.Ranges.{First}
+use Rattle.split.proofs.Lists.{and-both, Missed, first-cases, lt-cases, eq-cases, ne-lt}
 use Rattle.split.proofs.Pigeon.{pigeon, crowded}
 use Rattle.split.proofs.OneToOneLaws.{Distinct}
 use Rattle.split.proofs.SplitLaws.{PageOf, Proper}
@@ -53,11 +55,11 @@ module _ (m : ℕ) (list given : List ℕ) where
   pub page-found : (end : End) (block set : ℕ)
       → PageAt end block set (pageAt end block set) ⊎ ((pageAt end block set ≡ length given) × ((k : ℕ) → PageAt end block set k → ⊥))
   page-found end block set = ⊎-elim
-      (λ (f : Hit _ 0 (length given) (pageAt end block set)). inl (test-page end block set _ (omega (arith, f .high)) (f .hit)))
+      (λ (f : First _ 0 (length given) (pageAt end block set)). inl (test-page end block set _ (omega (arith, f .high)) (f .passes)))
       (λ (f : Missed _ 0 (length given) (length given) (pageAt end block set)). inr (
         f .is,
         λ k p.
-            let h = p .inside in not-both (page-test end block set k p) (f .none k (omega arith) (omega arith)),
+            let h = p .inside in never-both (page-test end block set k p) (f .none k (omega arith) (omega arith)),
       ))
       (first-cases (isPageOf m list given end block set) 0 (length given) (length given))
 

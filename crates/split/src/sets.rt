@@ -2,14 +2,17 @@
 ghost use mathlib.Core.Path.{_≡_};
 ghost use Prim.Native.Nat.{_*_};
 ghost use lib.ListN.{length};
-ghost use Rattle.split.specs.Split.{isSplit};
+ghost use Rattle.split.specs.Split.{isSplit, isCorrectSplit};
 ghost use Rattle.split.specs.Accepted.{Accepted};
 use crate::ends::block_at;
+use crate::list::check;
 use crate::mask::flip;
+use flash::sizes::in_range;
+use flash::sizes::original_count;
 use flash::wide::wide;
 
-// Whether the set bytes are a split of a list that passed the check: no set is met twice at a block, at either end.
-pub fn is_split(n: usize, m: usize, list: &[u16], sets: &[u8]) -> bool
+// Whether no set is met twice at a block, at either end: then the set bytes are a split of a list that passed the check.
+fn sets_differ(n: usize, m: usize, list: &[u16], sets: &[u8]) -> bool
     requires { ⌜ Accepted n m (now list) × (length (now sets) ≡ n * m) ⌝ }
     ensures { λ r. ⌜ r ≡ isSplit n m (now (list .entry)) (now (sets .entry)) ⌝ }
 {
@@ -30,4 +33,22 @@ pub fn is_split(n: usize, m: usize, list: &[u16], sets: &[u8]) -> bool
         k += 1;
     }
     true
+}
+
+// Whether the set bytes are a split of the list.
+pub fn is_split(n: usize, m: usize, list: &[u16], sets: &[u8]) -> bool
+    ensures { λ r. ⌜ r ≡ isCorrectSplit n m (now (list .entry)) (now (sets .entry)) ⌝ }
+{
+    // a page size and a letter that are in range: a split does not depend on them
+    if !in_range(n, m, 1, 0) {
+        return false;
+    }
+    let originals = original_count(n, m);
+    if (list.len() != originals) | (sets.len() != originals) {
+        return false;
+    }
+    if !check(list, originals) {
+        return false;
+    }
+    sets_differ(n, m, list, sets)
 }

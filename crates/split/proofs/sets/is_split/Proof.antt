@@ -1,148 +1,74 @@
-use mathlib.Core.Path.{_≡_, refl, sym}
-use Prim.Native.Nat.{_-_, _<_}
-use native.Mathlib.Omega.{arith}
-use borrow.Author.Needs.{needs}
+use mathlib.Core.Path.{_≡_, sym, _∙_}
+use mathlib.Core.Bool.{true, false, _&&_, _||_, not}
+use Prim.Native.Nat.{_*_}
+use lib.Dec.{eqb}
 use lib.ListN.{length}
-use Rattle.split.specs.Split.{setOf}
-use Rattle.split.specs.Rule.{End, source, destination, blockAt}
-use Rattle.split.proofs.SetsLaws.{Flips, flips-at, SoFar, none-yet, block-lt, no-such-set, met-twice, all-met, one-more}
+use borrow.Author.Needs.{needs}
+use borrow.Author.Tests.{not-true, not-false}
+use Rattle.flash.specs.Geometry.{inRange}
+use Rattle.flash.proofs.Bounds.{in-range}
+use Rattle.split.specs.OneToOne.{isOneToOne}
+use Rattle.split.specs.Split.{isSplit, isCorrectSplit}
+use Rattle.split.proofs.Answers.{lengths-are}
+use Rattle.split.proofs.SetsLaws.{sizes, wrong-sizes, wrong-lengths, left-to-sets}
 use Rattle.split.proofs.sets.is_split.Statement.{statement}
 use Rattle.split.proofs.sets.is_split.Tie as tie
 
-abbrev Inv-loop : tie.InvT-loop
-Inv-loop n m list sets from₀ to₀ k₀ from to k =
-    SoFar n m list sets from to k × (length from ≡ 65) × (length to ≡ 65)
+in-range-requires : tie.Need-in-range-requires
+in-range-requires c κs = search needs
 
-abbrev μ-loop : tie.MeasureT-loop
-μ-loop n m list sets from₀ to₀ k₀ from to k = length list - k
+returns : tie.Need-returns
+returns c = sym (wrong-sizes _ _ _ _ (sym (c .before .in-range .ensures) ∙ not-true _ (c .if1 .taken)))
 
-loop-holds : tie.Need-loop-holds Inv-loop μ-loop
-loop-holds c =
-    let a = c .before .before .args in (none-yet (a .n) (a .m) 65 (a .list .now) (a .sets .now), refl, refl)
+-- the sizes are in range
+ranged : (c : tie.Else1) → (let a = c .before .before .before .before .args in inRange (sizes (a .n) (a .m)) ≡ true)
+ranged c = sym (c .before .in-range .ensures) ∙ not-false _ (c .if1 .left)
 
-shared-slice-read-wide : tie.Need-shared-slice-read-wide Inv-loop μ-loop
-shared-slice-read-wide c = search needs
+original-count-requires : tie.Need-original-count-requires
+original-count-requires c κs = let B = in-range _ (ranged c) in (B .n-high, B .m-high)
 
-wide-requires : tie.Need-wide-requires Inv-loop μ-loop
-wide-requires c κs = search needs
+returns-2 : tie.Need-returns-2
+returns-2 c = sym (wrong-lengths _ _ _ _ (rw (← c .before .original-count .ensures) (c .if2 .taken)))
 
-returns : tie.Need-returns Inv-loop μ-loop
-unfolding setOf
-returns c =
-    let s = c .before in
-    let i = s .before .before in
-    let pre = i .before .before .before .before .pre in
-    sym (no-such-set _ _ _ _ (pre .0) (pre .1) (i .before .loop .k) (omega arith) (omega arith))
+-- the lengths are right
+of-length : (c : tie.Else2) → (let a = c .before .before .before .before .before .before .args in
+    (not (eqb (length (a .list .now)) (a .n * a .m)) || not (eqb (length (a .sets .now)) (a .n * a .m))) ≡ false)
+of-length c = rw (← c .before .original-count .ensures) (c .if2 .left)
 
-slice-aggregate-flip : tie.Need-slice-aggregate-flip Inv-loop μ-loop
-slice-aggregate-flip c = search needs
+check-requires : tie.Need-check-requires
+check-requires c κs = search needs
 
-block-at-requires : tie.Need-block-at-requires Inv-loop μ-loop
-block-at-requires c κs = search needs
+-- what the check of the list answers
+checked : (c : tie.After-check) → (let a = c .before .before .before .before .before .before .before .args in c .check .result ≡ isOneToOne (a .n * a .m) (a .list .now))
+checked c = rw (← c .before .before .original-count .ensures) (c .check .ensures)
 
--- the mask of a block is in its table
-fits : (i : tie.In-loop Inv-loop μ-loop) (end : End)
-    → (let a = i .before .before .before .before .args in blockAt (a .m) (a .list .now) end (i .before .loop .k) < 65)
-fits i end =
-    let start = i .before .before .before .before in
-    block-lt (start .args .n) (start .args .m) (start .args .list .now) (start .args .sets .now) (start .pre .0)
-    (start .pre .1) end (i .before .loop .k) (omega arith)
+-- so the list and its sets decide
+decided : (c : tie.After-check) → (let a = c .before .before .before .before .before .before .before .args in
+    isCorrectSplit (a .n) (a .m) (a .list .now) (a .sets .now) ≡ (c .check .result && isSplit (a .n) (a .m) (a .list .now) (a .sets .now)))
+decided c = rw (checked c) (left-to-sets _ _ _ _ (ranged (c .before .before .before)) (of-length (c .before)))
 
-flip-requires : tie.Need-flip-requires Inv-loop μ-loop
-flip-requires c κs = omega (arith, fits (c .before .before .before .before .before) source)
+returns-3 : tie.Need-returns-3
+returns-3 c = sym (decided (c .before) ∙ rw (not-true (c .before .check .result) (c .if3 .taken)))
 
--- what the flips of page k's bits tell and leave
-from-flips : (c : tie.After-flip Inv-loop μ-loop)
-    → (let i = c .before .before .before .before .before .before in
-    let a = i .before .before .before .before .args in
-    Flips (blockAt (a .m) (a .list .now) source (i .before .loop .k)) (setOf (a .sets .now) (i .before .loop .k))
-    (i .before .loop .from) (c .flip .last .0) (c .flip .result))
-unfolding setOf
-from-flips c = flips-at (c .before .block-at .ensures) (c .before .before .before .before .wide .ensures) (c .flip .ensures)
+sets-differ-requires : tie.Need-sets-differ-requires
+sets-differ-requires c κs =
+    let B = in-range _ (ranged (c .before .before .before .before)) in
+    let a = c .before .before .before .before .before .before .before .before .args in
+    let lengths = lengths-are (a .list .now) (a .sets .now) _ (of-length (c .before .before)) in
+    (record { some-pages = B .m-low; n-fits = B .n-high; m-fits = B .m-high; listed = lengths .0; one-to-one = sym (checked (c .before)) ∙ not-false _ (c .if3 .left) }, lengths .1)
 
-to-flips : (c : tie.After-flip2 Inv-loop μ-loop)
-    → (let i = c .before .before .before .before .before .before .before .before .before .before .before in
-    let a = i .before .before .before .before .args in
-    Flips (blockAt (a .m) (a .list .now) destination (i .before .loop .k)) (setOf (a .sets .now) (i .before .loop .k))
-    (i .before .loop .to) (c .flip2 .last .0) (c .flip2 .result))
-unfolding setOf
-to-flips c =
-    flips-at (c .before .block-at2 .ensures)
-    (c .before .before .before .before .before .before .before .before .before .wide .ensures) (c .flip2 .ensures)
-
-returns-2 : tie.Need-returns-2 Inv-loop μ-loop
-returns-2 c =
-    let f = c .before .before in
-    let i = f .before .before .before .before .before .before in
-    let start = i .before .before .before .before in
-    sym (met-twice _ _ _ _ (start .pre .0) (start .pre .1) source _ _ (i .before .loop .k) (omega arith)
-    (i .before .loop .inv .0 .from-masks) _ (from-flips f) (c .if2 .taken))
-
-slice-aggregate-flip-2 : tie.Need-slice-aggregate-flip-2 Inv-loop μ-loop
-slice-aggregate-flip-2 c = search needs
-
-block-at-requires-2 : tie.Need-block-at-requires-2 Inv-loop μ-loop
-block-at-requires-2 c κs = search needs
-
-flip-requires-2 : tie.Need-flip-requires-2 Inv-loop μ-loop
-flip-requires-2 c κs = omega (
-  arith,
-  fits
-      (c .before .before .before .before .before .before .before .before .before .before) destination,
-)
-
-returns-3 : tie.Need-returns-3 Inv-loop μ-loop
-returns-3 c =
-    let t = c .before .before in
-    let i = t .before .before .before .before .before .before .before .before .before .before .before in
-    let start = i .before .before .before .before in
-    sym (met-twice _ _ _ _ (start .pre .0) (start .pre .1) destination _ _ (i .before .loop .k) (omega arith)
-    (i .before .loop .inv .0 .to-masks) _ (to-flips t) (c .if3 .taken))
-
-add-k : tie.Need-add-k Inv-loop μ-loop
-add-k c = search needs
-
-loop-less : tie.Need-loop-less Inv-loop μ-loop
-loop-less c = search needs
-
-loop-again : tie.Need-loop-again Inv-loop μ-loop
-unfolding setOf
-loop-again c =
-    let t = c .before .before in
-    let f = t .before .before .before .before .before in
-    let i = f .before .before .before .before .before .before in
-    let start = i .before .before .before .before in (
-      one-more _ _ _ _ (start .pre .0) (start .pre .1) _ _ _ (i .before .loop .inv .0) (omega arith) (omega arith) _ _ _ _
-          (from-flips f) (to-flips t)
-          (t .before .before .before .if2 .left) (c .if3 .left),
-      omega (arith, f .flip .kept .0),
-      omega (arith, t .flip2 .kept .0),
-    )
-
-returns-4 : tie.Need-returns-4 Inv-loop μ-loop
-returns-4 c =
-    let pre = c .before .before .before .before .pre in
-    sym (all-met _ _ _ _ (pre .0) (pre .1) _ _ _ (c .before .loop .inv .0) (omega arith))
+returns-4 : tie.Need-returns-4
+returns-4 c = c .sets-differ .ensures ∙ sym (decided (c .before .before) ∙ rw (not-false (c .before .before .check .result) (c .before .if3 .left)))
 
 pub is-split-spec : {M : Type 1} → statement M
 is-split-spec =
     tie.close
     (tie.spec
-    Inv-loop
-    μ-loop
-    loop-holds
-    shared-slice-read-wide
-    wide-requires
+    in-range-requires
     returns
-    slice-aggregate-flip
-    block-at-requires
-    flip-requires
+    original-count-requires
     returns-2
-    slice-aggregate-flip-2
-    block-at-requires-2
-    flip-requires-2
+    check-requires
     returns-3
-    add-k
-    loop-less
-    loop-again
+    sets-differ-requires
     returns-4)
