@@ -142,7 +142,10 @@ static inline void mover_send(uint8_t *list, uint32_t k, uint32_t number)
 /* The sizes and lent parts of a move, gathered once. Each part must have the length that the functions above give. With it a
  * move, or the rest of one after a power cut, is
  *
- *     if (mover_split_move(&move) == MOVER_DONE && mover_mend_move(&move, &at) == MOVER_DONE)
+ *     number = mover_split_move(&move);
+ *     if (number == MOVER_DONE)
+ *         number = mover_mend_move(&move, &at);
+ *     if (number == MOVER_DONE)
  *         number = mover_run_move(&move, at.place, UINT32_MAX, &at);
  */
 struct mover_move {
