@@ -1,20 +1,35 @@
 /* The proved page mover, for C.
  *
- * Every call is total: it takes any numbers and any lengths, tests them, and either carries out the request and returns 0, or
- * returns the first number of the table below that fits and changes nothing that was lent. A lent part is a pointer and its
- * length in bytes; NULL goes with length 0. Lent parts of one call must not overlap. No call allocates or keeps anything.
+ * A flash has n data blocks and one spare block, m pages a block. A move sends every page of the data blocks to a place of its
+ * own, by a list. It is a row of 2 * n * (m + 1) steps; a step writes one page or erases one block. Power may fail at any moment:
+ * recovery brings the move to a place from which it goes on, and every original page can be read all the time.
  *
- * n            data blocks, 1 to 64; the spare block is block 0
- * m            pages a block, 1 to 64
- * page_bytes   bytes a page, 1 to 4096
- * s            the letter that marks the data blocks before the move: 0, 1 or 2
- * list         where each page goes: n * m entries of two bytes, low byte first; entry k is the page number, 0 to n * m - 1,
- *              where original page k goes, which is page k % m of block k / m + 1
- * sets         n * m bytes, the set of each page
- * store        (n + 1) * m pages of page_bytes bytes, block after block, the spare first
- * marks        (n + 1) * m bytes, one a page: 0, 1 or 2, or 255 where nothing is written
- * work         page_bytes bytes that the call works in
- * place        how many steps of the move are done, 0 to 2 * n * (m + 1)
+ * Every call is total: it takes any numbers and any lengths, tests them, and either carries out the request and returns 0, or
+ * returns the first refusal number that fits. No call allocates, prints or keeps anything.
+ *
+ * Numbers in
+ *   n            data blocks, 1 to 64; they are blocks 1 to n, and the spare is block 0
+ *   m            pages a block, 1 to 64
+ *   page_bytes   bytes a page, 1 to 4096
+ *   s            the letter that marks the data blocks before the move, 0, 1 or 2; after it they are marked (s + 2) % 3, which is
+ *                the s of the next move
+ *   place        how many steps of the move are done, 0 to 2 * n * (m + 1)
+ *   budget       how many steps to take at most, any number
+ *   original     an original page, 0 to n * m - 1: number k is page k % m of block k / m + 1 before the move
+ *
+ * Lent parts: a pointer and a length in bytes, which must be exact. NULL goes with length 0.
+ *   list         2 * n * m bytes: entry k, two bytes, low byte first, is the page number 0 to n * m - 1 where original k goes
+ *   sets         n * m bytes: the set of each original, 0 to m - 1, as mover_split fills them; the same through the whole move
+ *   store        (n + 1) * m * page_bytes bytes: the pages, block after block, the spare first
+ *   marks        (n + 1) * m bytes, one a page in the same order: 0, 1 or 2 where a page is written, 255 where none is
+ *   work         page_bytes bytes to work in
+ *
+ * Before a move the pages of blocks 1 to n have mark s, and those of block 0 have mark 255 and bytes 255 throughout.
+ *
+ * No two lent parts of a call may overlap, nor may a lent part and a number out, nor two numbers out. A number out is a pointer that
+ * must not be NULL. This is all that a caller has to take care of; the rest is tested.
+ *
+ * After a refusal every number out is 0, and every lent byte is as it was.
  */
 #ifndef MOVER_H
 #define MOVER_H
@@ -32,29 +47,160 @@ enum mover_refusal {
     MOVER_BAD_LIST = 3,      /* a list entry at or above n * m, or met twice */
     MOVER_BAD_SPLIT = 4,     /* the sets aren't a split of the list */
     MOVER_BAD_PLACE = 5,     /* place above 2 * n * (m + 1), marks other than that place has, or a page marked 255 not blank */
-    MOVER_BAD_MARKS = 6      /* marks fit no moment of the move */
+    MOVER_BAD_MARKS = 6,     /* marks fit no moment of the move */
+    MOVER_BAD_ORIGINAL = 7   /* original number at or above n * m */
 };
 
-/* Splits a list into m sets, each with one page from each data block and one page to each, and fills `sets` with the set of each
- * page. Returns 0, or 1, 2 or 3; then `sets` is as it was. */
+/* What the step at a place does. */
+enum mover_kind {
+    MOVER_WRITE = 0,         /* writes a page with its mark */
+    MOVER_ERASE = 1,         /* erases a block */
+    MOVER_END = 2            /* nothing: the move is finished */
+};
+
+/* Splits the list into m sets, each with one page from each data block and one page to each, and fills `sets`. What was in `sets`
+ * does not matter. The same list always gives the same sets, so they need not be kept over a power cut.
+ * Returns 0, or 1, 2 or 3. */
 uint32_t mover_split(uint32_t n, uint32_t m, uint32_t page_bytes, uint32_t s,
                      const uint8_t *list, uint64_t list_len, uint8_t *sets, uint64_t sets_len);
 
-/* Carries out steps of the move, from the place where it stands: as many as `budget`, or up to the last one. A write puts one page
- * and its mark, an erase clears one block. Sets *place_reached to where the next run goes on, *steps to the steps taken, of which
- * *writes and *erases, and *finished to 1 once the place is the last, else to 0. `work` is left with the last page written, or as
- * it was. Returns 0, or 1, 2, 3, 4 or 5; then every number is 0, and all that was lent is as it was. */
+/* Takes steps of the move from `place` on: `budget` of them, or up to the last one if that is sooner. A budget of 0 only tests.
+ *   *place_reached  the place after the last step taken, where the next run goes on
+ *   *steps          the steps taken, of which *writes wrote a page and *erases erased a block
+ *   *finished       1 if the place reached is 2 * n * (m + 1), else 0
+ * Changes `store`, `marks` and `work`; `work` is left with the last page written, or as it was if none was.
+ * Returns 0, or 1, 2, 3, 4 or 5. */
 uint32_t mover_run(uint32_t n, uint32_t m, uint32_t page_bytes, uint32_t s,
                    const uint8_t *list, uint64_t list_len, const uint8_t *sets, uint64_t sets_len,
                    uint8_t *store, uint64_t store_len, uint8_t *marks, uint64_t marks_len, uint8_t *work, uint64_t work_len,
                    uint32_t place, uint32_t budget,
                    uint32_t *place_reached, uint32_t *steps, uint32_t *writes, uint32_t *erases, uint32_t *finished);
 
-/* Recovery after a power cut. Reads the marks, erases the block that is unfinished, if there is one, and sets *place to where the
- * move goes on and *erases to 0 or 1. Returns 0, or 1, 2 or 6; then both numbers are 0, and store and marks are as they were. */
+/* Recovery, to be called after every power cut before the next run. Reads the marks and erases the block that is unfinished, if
+ * there is one; it may itself be cut, and called again.
+ *   *place   where the move goes on; 2 * n * (m + 1) if it is finished
+ *   *erases  1 if a block was erased, else 0; it is the block that mover_operation tells of at *place
+ * Changes only that block's bytes and marks.
+ * Returns 0, or 1, 2 or 6. */
 uint32_t mover_mend(uint32_t n, uint32_t m, uint32_t page_bytes, uint32_t s,
                     uint8_t *store, uint64_t store_len, uint8_t *marks, uint64_t marks_len,
                     uint32_t *place, uint32_t *erases);
+
+/* Reads an original at any moment of the move, also after a cut and before recovery: puts it into `work`.
+ *   *count   how many stored pages were summed for it, 1 to n
+ * Changes only `work`.
+ * Returns 0, or 1, 2, 3, 4, 6 or 7. */
+uint32_t mover_read(uint32_t n, uint32_t m, uint32_t page_bytes, uint32_t s,
+                    const uint8_t *list, uint64_t list_len, const uint8_t *sets, uint64_t sets_len,
+                    const uint8_t *store, uint64_t store_len, const uint8_t *marks, uint64_t marks_len,
+                    uint8_t *work, uint64_t work_len, uint32_t original, uint32_t *count);
+
+/* Tells the step at a place, for a program that has to do it on a chip.
+ *   *kind    a mover_kind
+ *   *block   the block to write in or to erase, 0 to n
+ *   *page    the page to write, 0 to m - 1
+ *   *mark    the mark to write with it, 0, 1 or 2
+ * A number that does not apply is 0: page and mark of an erase, and all three at the end.
+ * Returns 0, or 1 if n, m or s is out of its range, or 5 if the place is above 2 * n * (m + 1). */
+uint32_t mover_operation(uint32_t n, uint32_t m, uint32_t s, uint32_t place,
+                         uint32_t *kind, uint32_t *block, uint32_t *page, uint32_t *mark);
+
+/* How long the lent parts are, in bytes. */
+static inline uint64_t mover_list_bytes(uint32_t n, uint32_t m)
+{
+    return 2 * (uint64_t)n * m;
+}
+
+static inline uint64_t mover_sets_bytes(uint32_t n, uint32_t m)
+{
+    return (uint64_t)n * m;
+}
+
+static inline uint64_t mover_marks_bytes(uint32_t n, uint32_t m)
+{
+    return ((uint64_t)n + 1) * m;
+}
+
+static inline uint64_t mover_store_bytes(uint32_t n, uint32_t m, uint32_t page_bytes)
+{
+    return mover_marks_bytes(n, m) * page_bytes;
+}
+
+/* The place after the last step. */
+static inline uint32_t mover_last_place(uint32_t n, uint32_t m)
+{
+    return 2 * n * (m + 1);
+}
+
+/* Entry k of a list becomes `number`: original k is to go to page number % m of block number / m + 1. */
+static inline void mover_send(uint8_t *list, uint32_t k, uint32_t number)
+{
+    list[2 * (uint64_t)k] = (uint8_t)(number & 255);
+    list[2 * (uint64_t)k + 1] = (uint8_t)(number >> 8 & 255);
+}
+
+/* The sizes and lent parts of a move, gathered once. Each part must have the length that the functions above give. With it a
+ * move, or the rest of one after a power cut, is
+ *
+ *     number = mover_split_move(&move);
+ *     if (number == MOVER_DONE)
+ *         number = mover_mend_move(&move, &at);
+ *     if (number == MOVER_DONE)
+ *         number = mover_run_move(&move, at.place, UINT32_MAX, &at);
+ */
+struct mover_move {
+    uint32_t n, m, page_bytes, s;
+    const uint8_t *list;
+    uint8_t *sets, *store, *marks, *work;
+};
+
+/* How a call left the move: the place reached, and what it took. */
+struct mover_state {
+    uint32_t place, steps, writes, erases, finished;
+};
+
+/* The step at a place. */
+struct mover_step {
+    uint32_t kind, block, page, mark;
+};
+
+static inline uint32_t mover_split_move(const struct mover_move *move)
+{
+    return mover_split(move->n, move->m, move->page_bytes, move->s, move->list, mover_list_bytes(move->n, move->m), move->sets,
+                       mover_sets_bytes(move->n, move->m));
+}
+
+static inline uint32_t mover_run_move(const struct mover_move *move, uint32_t place, uint32_t budget, struct mover_state *state)
+{
+    return mover_run(move->n, move->m, move->page_bytes, move->s, move->list, mover_list_bytes(move->n, move->m), move->sets,
+                     mover_sets_bytes(move->n, move->m), move->store, mover_store_bytes(move->n, move->m, move->page_bytes),
+                     move->marks, mover_marks_bytes(move->n, move->m), move->work, move->page_bytes, place, budget, &state->place,
+                     &state->steps, &state->writes, &state->erases, &state->finished);
+}
+
+/* As mover_mend: sets place and erases, an erase being a step, and finished if the place is the last. */
+static inline uint32_t mover_mend_move(const struct mover_move *move, struct mover_state *state)
+{
+    uint32_t number = mover_mend(move->n, move->m, move->page_bytes, move->s, move->store,
+                                 mover_store_bytes(move->n, move->m, move->page_bytes), move->marks,
+                                 mover_marks_bytes(move->n, move->m), &state->place, &state->erases);
+    state->steps = state->erases;
+    state->writes = 0;
+    state->finished = number == MOVER_DONE && state->place == mover_last_place(move->n, move->m) ? 1 : 0;
+    return number;
+}
+
+static inline uint32_t mover_read_move(const struct mover_move *move, uint32_t original, uint32_t *count)
+{
+    return mover_read(move->n, move->m, move->page_bytes, move->s, move->list, mover_list_bytes(move->n, move->m), move->sets,
+                      mover_sets_bytes(move->n, move->m), move->store, mover_store_bytes(move->n, move->m, move->page_bytes),
+                      move->marks, mover_marks_bytes(move->n, move->m), move->work, move->page_bytes, original, count);
+}
+
+static inline uint32_t mover_step_of(const struct mover_move *move, uint32_t place, struct mover_step *step)
+{
+    return mover_operation(move->n, move->m, move->s, place, &step->kind, &step->block, &step->page, &step->mark);
+}
 
 #ifdef __cplusplus
 }

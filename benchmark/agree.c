@@ -1,0 +1,81 @@
+/* The two movers do the same work only if they give the same answers, refusals and odd bytes included. */
+#include "agree.h"
+#include "../examples/demo/random.h"
+
+#include <string.h>
+
+/* One fault, or none: a size, a length, an entry, a set, a mark, a byte. */
+static void spoil(struct scene *z, uint64_t *random)
+{
+    switch (random_below(random, 24)) {
+    case 0: z->n = random_below(random, 3) * 40; break;
+    case 1: z->m = random_below(random, 3) * 40; break;
+    case 2: z->page_bytes = random_below(random, 2) * 5000; break;
+    case 3: z->s = random_below(random, 4); break;
+    case 4: z->list_len -= 1 + random_below(random, 2); break;
+    case 5: z->sets_len -= 1; break;
+    case 6: z->store_len -= 1; break;
+    case 7: z->marks_len -= 1; break;
+    case 8: z->list[random_below(random, (uint32_t)z->list_len)] = (uint8_t)random_below(random, 256); break;
+    case 9: z->sets[random_below(random, (uint32_t)z->sets_len)] = (uint8_t)random_below(random, 256); break;
+    case 10: z->sets[random_below(random, (uint32_t)z->sets_len)] = (uint8_t)random_below(random, z->m); break;
+    case 11: z->marks[random_below(random, (uint32_t)z->marks_len)] = 255; break;
+    case 12: z->marks[random_below(random, (uint32_t)z->marks_len)] = (uint8_t)random_below(random, 5); break;
+    case 13: z->store[random_below(random, (uint32_t)z->store_len)] = (uint8_t)random_below(random, 256); break;
+    case 14: memset(z->marks + random_below(random, z->n + 1) * z->m, 255, z->m); break;
+    default: break;
+    }
+}
+
+static struct answer any_call(const struct mover *mover, struct scene *z, uint32_t call, uint32_t number, uint32_t budget)
+{
+    switch (call) {
+    case 0: return call_split(mover, z);
+    case 1: return call_run(mover, z, number, budget);
+    case 2: return call_mend(mover, z);
+    default: return call_read(mover, z, number);
+    }
+}
+
+/* Makes a move that stands somewhere. */
+static void make_standing(struct scene *z, const struct mover *mover, uint32_t place, uint32_t n, uint32_t m, uint64_t *random)
+{
+    scene_make(z, n, m, 1 + random_below(random, 40), RANDOM, random);
+    z->s = random_below(random, 3);
+    memset(z->marks + m, (int)z->s, (size_t)n * m);
+    call_split(mover, z);
+    call_run(mover, z, 0, place);
+}
+
+/* One request, with the same fault for both. */
+static int agree_once(const struct mover *a, const struct mover *b, uint64_t *random)
+{
+    struct scene scene, first, second;
+    struct answer one, two;
+    uint32_t n = 1 + random_below(random, 6), m = 1 + random_below(random, 5), last = 2 * n * (m + 1);
+    uint32_t place = random_below(random, last + 1), call = random_below(random, 4), budget = random_below(random, last + 3);
+    uint32_t number = call == 3 ? random_below(random, n * m + 1) : random_below(random, 8) == 0 ? random_below(random, last + 3) : place;
+    uint64_t same_fault;
+    int same;
+    make_standing(&scene, a, place, n, m, random);
+    scene_copy(&first, &scene);
+    scene_copy(&second, &scene);
+    same_fault = *random;
+    spoil(&first, random);
+    spoil(&second, &same_fault);
+    one = any_call(a, &first, call, number, budget);
+    two = any_call(b, &second, call, number, budget);
+    same = memcmp(&one, &two, sizeof one) == 0 && scene_same(&first, &second);
+    scene_free(&scene);
+    scene_free(&first);
+    scene_free(&second);
+    return same;
+}
+
+uint32_t disagreements(const struct mover *a, const struct mover *b, uint32_t requests, uint64_t *random)
+{
+    uint32_t different = 0;
+    for (uint32_t i = 0; i < requests; i++)
+        different += !agree_once(a, b, random);
+    return different;
+}

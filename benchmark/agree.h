@@ -1,0 +1,9 @@
+#ifndef AGREE_H
+#define AGREE_H
+
+#include "scene.h"
+
+/* Makes so many small requests of all kinds, good and faulty, of both movers. Returns how many were answered differently. */
+uint32_t disagreements(const struct mover *a, const struct mover *b, uint32_t requests, uint64_t *random);
+
+#endif

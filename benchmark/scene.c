@@ -1,0 +1,115 @@
+#include "scene.h"
+#include "../examples/demo/random.h"
+#include "mover.h"
+
+#include <stdio.h>
+#include <stdlib.h>
+#include <string.h>
+
+struct answer call_split(const struct mover *mover, struct scene *z)
+{
+    struct answer answer = {0, {0}};
+    answer.number = mover->split(z->n, z->m, z->page_bytes, z->s, z->list, z->list_len, z->sets, z->sets_len);
+    return answer;
+}
+
+struct answer call_run(const struct mover *mover, struct scene *z, uint32_t place, uint32_t budget)
+{
+    struct answer a;
+    a.number = mover->run(z->n, z->m, z->page_bytes, z->s, z->list, z->list_len, z->sets, z->sets_len, z->store, z->store_len, z->marks,
+                          z->marks_len, z->work, z->work_len, place, budget, &a.out[0], &a.out[1], &a.out[2], &a.out[3], &a.out[4]);
+    return a;
+}
+
+struct answer call_mend(const struct mover *mover, struct scene *z)
+{
+    struct answer a = {0, {0}};
+    a.number = mover->mend(z->n, z->m, z->page_bytes, z->s, z->store, z->store_len, z->marks, z->marks_len, &a.out[0], &a.out[1]);
+    return a;
+}
+
+struct answer call_read(const struct mover *mover, struct scene *z, uint32_t original)
+{
+    struct answer a = {0, {0}};
+    a.number = mover->read(z->n, z->m, z->page_bytes, z->s, z->list, z->list_len, z->sets, z->sets_len, z->store, z->store_len,
+                           z->marks, z->marks_len, z->work, z->work_len, original, &a.out[0]);
+    return a;
+}
+
+static uint8_t *take(uint64_t bytes)
+{
+    uint8_t *part = malloc(bytes);
+    if (part == NULL) {
+        fprintf(stderr, "bench: no memory\n");
+        exit(2);
+    }
+    return part;
+}
+
+static void make_parts(struct scene *z)
+{
+    z->list_len = mover_list_bytes(z->n, z->m);
+    z->sets_len = mover_sets_bytes(z->n, z->m);
+    z->store_len = mover_store_bytes(z->n, z->m, z->page_bytes);
+    z->marks_len = mover_marks_bytes(z->n, z->m);
+    z->work_len = z->page_bytes;
+    z->list = take(z->list_len);
+    z->sets = take(z->sets_len);
+    z->store = take(z->store_len);
+    z->marks = take(z->marks_len);
+    z->work = take(z->work_len);
+}
+
+static void make_list(struct scene *z, enum order order, uint64_t *random)
+{
+    uint32_t numbers[64 * 64], count = z->n * z->m;
+    for (uint32_t k = 0; k < count; k++) {
+        uint32_t other = order == RANDOM ? random_below(random, k + 1) : k;
+        numbers[k] = numbers[other];
+        numbers[other] = order == RANDOM ? k : (k + z->m) % count;
+    }
+    for (uint32_t k = 0; k < count; k++)
+        mover_send(z->list, k, numbers[k]);
+}
+
+void scene_make(struct scene *z, uint32_t n, uint32_t m, uint32_t page_bytes, enum order order, uint64_t *random)
+{
+    z->n = n;
+    z->m = m;
+    z->page_bytes = page_bytes;
+    z->s = 0;
+    make_parts(z);
+    make_list(z, order, random);
+    memset(z->sets, 0, z->sets_len);
+    memset(z->store, 255, z->store_len);
+    memset(z->marks, 255, z->marks_len);
+    memset(z->work, 0, page_bytes);
+    random_bytes(random, z->store + (uint64_t)m * page_bytes, (uint64_t)n * m * page_bytes);
+    memset(z->marks + m, 0, (size_t)n * m);
+}
+
+void scene_copy(struct scene *to, const struct scene *from)
+{
+    *to = *from;
+    make_parts(to);
+    memcpy(to->list, from->list, from->list_len);
+    memcpy(to->sets, from->sets, from->sets_len);
+    memcpy(to->store, from->store, from->store_len);
+    memcpy(to->marks, from->marks, from->marks_len);
+    memcpy(to->work, from->work, from->work_len);
+}
+
+void scene_free(struct scene *z)
+{
+    free(z->list);
+    free(z->sets);
+    free(z->store);
+    free(z->marks);
+    free(z->work);
+}
+
+int scene_same(const struct scene *a, const struct scene *b)
+{
+    return memcmp(a->sets, b->sets, a->sets_len) == 0 && memcmp(a->store, b->store, a->store_len) == 0
+        && memcmp(a->marks, b->marks, a->marks_len) == 0 && memcmp(a->work, b->work, a->work_len) == 0;
+}

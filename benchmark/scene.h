@@ -1,0 +1,45 @@
+/* A move to measure: sizes, list, split and a store, with room for what a call returns. */
+#ifndef SCENE_H
+#define SCENE_H
+
+#include <stdint.h>
+
+struct scene {
+    uint32_t n, m, page_bytes, s;
+    uint64_t list_len, sets_len, store_len, marks_len, work_len;
+    uint8_t *list, *sets, *store, *marks, *work;
+};
+
+/* The library, or the mover by hand. */
+struct mover {
+    const char *name;
+    uint32_t (*split)(uint32_t, uint32_t, uint32_t, uint32_t, const uint8_t *, uint64_t, uint8_t *, uint64_t);
+    uint32_t (*run)(uint32_t, uint32_t, uint32_t, uint32_t, const uint8_t *, uint64_t, const uint8_t *, uint64_t, uint8_t *, uint64_t,
+                    uint8_t *, uint64_t, uint8_t *, uint64_t, uint32_t, uint32_t, uint32_t *, uint32_t *, uint32_t *, uint32_t *,
+                    uint32_t *);
+    uint32_t (*mend)(uint32_t, uint32_t, uint32_t, uint32_t, uint8_t *, uint64_t, uint8_t *, uint64_t, uint32_t *, uint32_t *);
+    uint32_t (*read)(uint32_t, uint32_t, uint32_t, uint32_t, const uint8_t *, uint64_t, const uint8_t *, uint64_t, const uint8_t *,
+                     uint64_t, const uint8_t *, uint64_t, uint8_t *, uint64_t, uint32_t, uint32_t *);
+};
+
+/* All that a call returns: the refusal number, then the numbers out. */
+struct answer {
+    uint32_t number, out[5];
+};
+
+struct answer call_split(const struct mover *mover, struct scene *scene);
+struct answer call_run(const struct mover *mover, struct scene *scene, uint32_t place, uint32_t budget);
+struct answer call_mend(const struct mover *mover, struct scene *scene);
+struct answer call_read(const struct mover *mover, struct scene *scene, uint32_t original);
+
+enum order { RANDOM, ONE_CYCLE };
+
+/* A scene at rest with random pages; ends the program if there is no memory. */
+void scene_make(struct scene *scene, uint32_t n, uint32_t m, uint32_t page_bytes, enum order order, uint64_t *random);
+void scene_copy(struct scene *to, const struct scene *from);
+void scene_free(struct scene *scene);
+
+/* Whether two scenes hold the same bytes. */
+int scene_same(const struct scene *a, const struct scene *b);
+
+#endif

@@ -1,0 +1,20 @@
+/* The example of include/mover.h, on document 01's first case: 2 blocks of 2 pages of one byte, pages 1 and 2 trade places. */
+#include <mover.h>
+#include <string.h>
+
+int main(void)
+{
+    static const uint8_t list[8] = {0, 0, 2, 0, 1, 0, 3, 0}, due[6] = {255, 255, 1, 4, 2, 8};
+    uint8_t sets[4], store[6] = {255, 255, 1, 2, 4, 8}, marks[6] = {255, 255, 0, 0, 0, 0}, work[1];
+    struct mover_move move = {2, 2, 1, 0, list, sets, store, marks, work};
+    struct mover_state at;
+    uint32_t number;
+
+    number = mover_split_move(&move);
+    if (number == MOVER_DONE)
+        number = mover_mend_move(&move, &at);
+    if (number == MOVER_DONE)
+        number = mover_run_move(&move, at.place, UINT32_MAX, &at);
+
+    return number != MOVER_DONE || memcmp(store, due, sizeof store) != 0;
+}
