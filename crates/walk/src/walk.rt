@@ -158,7 +158,8 @@ pub fn read_slots(
         slots[at] = home(list, m, k, false);
         return at + 1;
     }
-    if full_of(z, marks, 2, wide(to[(v - 1) * m + set])) {
+    let next = wide(to[(v - 1) * m + set]);
+    if full_of(z, marks, 2, next) {
         slots[at] = home(list, m, k, true);
         return at + 1;
     }
