@@ -136,11 +136,70 @@ static void mends_checked(void)
     mends("s = 3", torn, torn_marks, 4, 3, MOVER_BAD_SIZES, 0, 0, -1);
 }
 
+/* The call puts a page of one byte in the work page, or refuses and leaves it; the byte behind it must stay. */
+static void reads(const char *what, uint32_t n, uint32_t m, const uint8_t *list, const uint8_t *sets, const uint8_t *store,
+                  const uint8_t *marks, uint64_t work_len, uint32_t original, uint32_t number, uint32_t count, uint8_t page)
+{
+    uint8_t work[] = {77, 99};
+    uint32_t got, got_count = 77;
+    uint64_t slots = ((uint64_t)n + 1) * m;
+    got = mover_read(n, m, 1, 0, list, 2 * (uint64_t)n * m, sets, (uint64_t)n * m, store, slots, marks, slots, work, work_len, original,
+                     &got_count);
+    check(what, got == number && got_count == count && work[0] == page && work[1] == 99);
+}
+
+static void reads_checked(void)
+{
+    static const uint8_t p1[] = {0, 0, 2, 0, 1, 0, 3, 0}, sets[] = {1, 0, 0, 1}, no_split[] = {0, 0, 1, 1};
+    static const uint8_t twice[] = {0, 0, 2, 0, 2, 0, 3, 0};
+    static const uint8_t rest[] = {255, 255, 1, 2, 4, 8}, rest_marks[] = {255, 255, 0, 0, 0, 0};
+    static const uint8_t torn[] = {6, 1, 4, 77, 4, 8}, torn_marks[] = {1, 1, 1, 255, 0, 0};
+    static const uint8_t end[] = {255, 255, 1, 4, 2, 8}, end_marks[] = {255, 255, 2, 2, 2, 2}, odd_marks[] = {1, 1, 1, 3, 0, 0};
+    static const uint8_t turn[] = {1, 0, 2, 0, 0, 0}, only[] = {0, 0, 0}, cut[] = {5, 3, 77, 4}, cut_marks[] = {1, 1, 255, 0};
+
+    reads("at rest", 2, 2, p1, sets, rest, rest_marks, 1, 3, MOVER_DONE, 1, 8);
+    reads("in a torn block's place, by a cycle of one", 2, 2, p1, sets, torn, torn_marks, 1, 0, MOVER_DONE, 1, 1);
+    reads("in a torn block's place, by the block above", 2, 2, p1, sets, torn, torn_marks, 1, 1, MOVER_DONE, 2, 2);
+    reads("at the end", 2, 2, p1, sets, end, end_marks, 1, 1, MOVER_DONE, 1, 2);
+    reads("between cut and recovery, two pages", 3, 1, turn, only, cut, cut_marks, 1, 0, MOVER_DONE, 2, 1);
+    reads("between cut and recovery, three pages", 3, 1, turn, only, cut, cut_marks, 1, 1, MOVER_DONE, 3, 2);
+    reads("no such original", 2, 2, p1, sets, rest, rest_marks, 1, 4, MOVER_BAD_ORIGINAL, 0, 77);
+    reads("marks that fit nothing", 2, 2, p1, sets, torn, odd_marks, 1, 0, MOVER_BAD_MARKS, 0, 77);
+    reads("6 before 7", 2, 2, p1, sets, torn, odd_marks, 1, 4, MOVER_BAD_MARKS, 0, 77);
+    reads("no split", 2, 2, p1, no_split, rest, rest_marks, 1, 0, MOVER_BAD_SPLIT, 0, 77);
+    reads("an entry met twice", 2, 2, twice, sets, rest, rest_marks, 1, 0, MOVER_BAD_LIST, 0, 77);
+    reads("work page too short", 2, 2, p1, sets, rest, rest_marks, 0, 0, MOVER_BAD_LENGTH, 0, 77);
+    reads("n = 0", 0, 2, p1, sets, rest, rest_marks, 1, 0, MOVER_BAD_SIZES, 0, 77);
+}
+
+/* The call tells the step at a place of a move of 3 blocks of one page with s = 2. */
+static void tells(const char *what, uint32_t n, uint32_t place, uint32_t number, uint32_t kind, uint32_t block, uint32_t page,
+                  uint32_t mark)
+{
+    uint32_t got[5] = {77, 77, 77, 77, 77};
+    got[0] = mover_operation(n, 1, 2, place, &got[1], &got[2], &got[3], &got[4]);
+    check(what, got[0] == number && got[1] == kind && got[2] == block && got[3] == page && got[4] == mark);
+}
+
+static void tells_checked(void)
+{
+    tells("the first write", 3, 0, MOVER_DONE, MOVER_WRITE, 0, 0, 0);
+    tells("the first erase", 3, 1, MOVER_DONE, MOVER_ERASE, 1, 0, 0);
+    tells("the last erase forward", 3, 5, MOVER_DONE, MOVER_ERASE, 3, 0, 0);
+    tells("the first write backward", 3, 6, MOVER_DONE, MOVER_WRITE, 3, 0, 1);
+    tells("the last erase", 3, 11, MOVER_DONE, MOVER_ERASE, 0, 0, 0);
+    tells("no step left", 3, 12, MOVER_DONE, MOVER_END, 0, 0, 0);
+    tells("past the end", 3, 13, MOVER_BAD_PLACE, 0, 0, 0, 0);
+    tells("n = 65", 65, 13, MOVER_BAD_SIZES, 0, 0, 0, 0);
+}
+
 int main(void)
 {
     splits_checked();
     runs_checked();
     mends_checked();
+    reads_checked();
+    tells_checked();
     printf("%u passed, %u failed\n", passed, failed);
     return failed != 0 || passed == 0;
 }

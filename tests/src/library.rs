@@ -1,6 +1,6 @@
 //! The proved library, through its C interface.
 
-use crate::harness::interface::Calls;
+use crate::harness::interface::{Calls, OperationCall};
 
 extern "C" {
     fn mover_split(
@@ -48,14 +48,45 @@ extern "C" {
         place: *mut u32,
         erases: *mut u32,
     ) -> u32;
+    fn mover_read(
+        n: u32,
+        m: u32,
+        page_bytes: u32,
+        s: u32,
+        list: *const u8,
+        list_len: u64,
+        sets: *const u8,
+        sets_len: u64,
+        store: *const u8,
+        store_len: u64,
+        marks: *const u8,
+        marks_len: u64,
+        work: *mut u8,
+        work_len: u64,
+        original: u32,
+        count: *mut u32,
+    ) -> u32;
+    fn mover_operation(
+        n: u32,
+        m: u32,
+        s: u32,
+        place: u32,
+        kind: *mut u32,
+        block: *mut u32,
+        page: *mut u32,
+        mark: *mut u32,
+    ) -> u32;
 }
 
-/// The calls that the library has by now.
 pub fn calls() -> Calls {
     Calls {
-        split: Some(mover_split),
-        run: Some(mover_run),
-        mend: Some(mover_mend),
-        read: None,
+        split: mover_split,
+        run: mover_run,
+        mend: mover_mend,
+        read: mover_read,
     }
+}
+
+pub fn operation() -> OperationCall {
+    mover_operation
 }

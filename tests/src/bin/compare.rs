@@ -2,6 +2,8 @@
 
 use mover_tests::checks::tally::Tally;
 use mover_tests::harness::compare::check_mover;
+use mover_tests::harness::operations::{compare_operations, told_by};
+use mover_tests::library;
 use mover_tests::random::seed_from_environment;
 use std::process::ExitCode;
 
@@ -9,11 +11,10 @@ fn main() -> ExitCode {
     let seed = seed_from_environment();
     println!("seed {seed}");
     let mut tally = Tally::default();
-    check_mover(
-        &mut tally,
-        "the library",
-        &mover_tests::library::calls(),
-        seed,
+    check_mover(&mut tally, "the library", &library::calls(), seed);
+    tally.check(
+        "the library, the step at every place",
+        compare_operations(told_by(library::operation())),
     );
     tally.finish()
 }

@@ -4,8 +4,10 @@
 use mover_tests::checks::tally::Tally;
 use mover_tests::faults::all_faults;
 use mover_tests::faults::exports::{calls, Clean};
+use mover_tests::faults::operations::faulty_tellings;
 use mover_tests::faults::programs::faulty_programs;
 use mover_tests::harness::compare::{check_mover, first_difference};
+use mover_tests::harness::operations::compare_operations;
 use mover_tests::harness::programs::compare_program;
 use mover_tests::random::seed_from_environment;
 use mover_tests::simulator::rules::Correct;
@@ -16,7 +18,7 @@ fn main() -> ExitCode {
     let seed = seed_from_environment();
     println!("seed {seed}");
     let mut tally = Tally::default();
-    // A difference in these two would be a fault of the harness.
+    // A difference in these would be a fault of the harness.
     check_mover(
         &mut tally,
         "the simulator itself",
@@ -25,6 +27,10 @@ fn main() -> ExitCode {
     );
     let itself = compare_program(seed, |input| step_program(input).into_bytes());
     tally.check("the simulator's step program itself", itself);
+    tally.check(
+        "the simulator's steps themselves",
+        compare_operations(|_, _, due| due),
+    );
     faults_reported(&mut tally, seed);
     tally.finish()
 }
@@ -33,6 +39,10 @@ fn faults_reported(tally: &mut Tally, seed: u64) {
     for fault in all_faults() {
         let found = first_difference(&fault.calls, seed).map(|(family, _)| family);
         reported(tally, fault.name, found);
+    }
+    for fault in faulty_tellings() {
+        let found = compare_operations(fault.told).err();
+        reported(tally, fault.name, found.map(|_| "the step at a place"));
     }
     for fault in faulty_programs() {
         let found = compare_program(seed, fault.answer).err();

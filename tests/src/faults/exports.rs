@@ -34,10 +34,10 @@ impl Manners for Clean {}
 
 pub fn calls<R: Rules, M: Manners>() -> Calls {
     Calls {
-        split: Some(split::<R, M>),
-        run: Some(run::<R, M>),
-        mend: Some(mend::<R, M>),
-        read: Some(read::<R, M>),
+        split: split::<R, M>,
+        run: run::<R, M>,
+        mend: mend::<R, M>,
+        read: read::<R, M>,
     }
 }
 

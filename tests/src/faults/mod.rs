@@ -2,6 +2,7 @@
 
 pub mod exports;
 mod manners;
+pub mod operations;
 pub mod programs;
 mod reading;
 mod recovery;

@@ -57,12 +57,10 @@ impl<'a> Comparer<'a> {
         if self.trace {
             println!("{request}");
         }
-        if let Some(given) = drive(self.calls, request) {
-            if let Some(what) = difference(given, &due) {
-                return Err(Box::new(shrink(self.calls, request.clone(), what)));
-            }
-            self.compared[request.call as usize] += 1;
+        if let Some(what) = difference(drive(self.calls, request), &due) {
+            return Err(Box::new(shrink(self.calls, request.clone(), what)));
         }
+        self.compared[request.call as usize] += 1;
         Ok(due)
     }
 
@@ -106,17 +104,17 @@ fn random_of(seed: u64, family: usize) -> Random {
     Random::new(seed.wrapping_mul(1000).wrapping_add(family as u64))
 }
 
-/// Compares with all families; each in which a call was compared is a check.
+/// Compares with all families; each is a check, and one that compares nothing
+/// fails.
 pub fn check_mover(tally: &mut Tally, name: &str, calls: &Calls, seed: u64) {
     let mut comparer = Comparer::new(calls);
     for (index, family) in FAMILIES.iter().enumerate() {
         let before = comparer.all_compared();
         let outcome = (family.cases)(&mut comparer, &mut random_of(seed, index));
+        let mut outcome = outcome.map_err(|difference| difference.to_string());
         if outcome.is_ok() && comparer.all_compared() == before {
-            println!("nothing to compare: {}", family.name);
-            continue;
+            outcome = Err("nothing was compared".into());
         }
-        let outcome = outcome.map_err(|difference| difference.to_string());
         tally.check(&format!("{name}, {}", family.name), outcome);
     }
     comparer.print_counts();

@@ -35,8 +35,8 @@ impl Loan {
     }
 }
 
-/// The mover's answer, or what it damaged; `None` if it lacks the call.
-pub fn drive(calls: &Calls, request: &Request) -> Option<Result<Answer, String>> {
+/// The mover's answer, or what it damaged.
+pub fn drive(calls: &Calls, request: &Request) -> Result<Answer, String> {
     let mut loan = Loan::new(&request.parts);
     let mut outs = Outs::junk();
     let returned = match request.call {
@@ -44,8 +44,8 @@ pub fn drive(calls: &Calls, request: &Request) -> Option<Result<Answer, String>>
         Call::Run => drive_run(calls, request, &mut loan, outs.pointers()),
         Call::Mend => drive_mend(calls, request, &mut loan, outs.pointers()),
         Call::Read => drive_read(calls, request, &mut loan, outs.pointers()),
-    }?;
-    Some(collect(request.call, returned, loan, outs))
+    };
+    collect(request.call, returned, loan, outs)
 }
 
 fn collect(call: Call, returned: u32, loan: Loan, outs: Outs) -> Result<Answer, String> {
@@ -74,12 +74,11 @@ fn collect(call: Call, returned: u32, loan: Loan, outs: Outs) -> Result<Answer, 
     Ok(Answer { numbers, parts })
 }
 
-fn drive_split(calls: &Calls, request: &Request, loan: &mut Loan) -> Option<u32> {
-    let split = calls.split?;
+fn drive_split(calls: &Calls, request: &Request, loan: &mut Loan) -> u32 {
     let sizes = &request.sizes;
     // All parts are live buffers of the lengths given.
-    let returned = unsafe {
-        split(
+    unsafe {
+        (calls.split)(
             sizes.n,
             sizes.m,
             sizes.page_bytes,
@@ -89,21 +88,14 @@ fn drive_split(calls: &Calls, request: &Request, loan: &mut Loan) -> Option<u32>
             loan.sets.pointer(),
             loan.sets.length(),
         )
-    };
-    Some(returned)
+    }
 }
 
-fn drive_run(
-    calls: &Calls,
-    request: &Request,
-    loan: &mut Loan,
-    outs: [*mut u32; 5],
-) -> Option<u32> {
-    let run = calls.run?;
+fn drive_run(calls: &Calls, request: &Request, loan: &mut Loan, outs: [*mut u32; 5]) -> u32 {
     let sizes = &request.sizes;
     // All parts are live buffers of the lengths given.
-    let returned = unsafe {
-        run(
+    unsafe {
+        (calls.run)(
             sizes.n,
             sizes.m,
             sizes.page_bytes,
@@ -126,21 +118,14 @@ fn drive_run(
             outs[3],
             outs[4],
         )
-    };
-    Some(returned)
+    }
 }
 
-fn drive_mend(
-    calls: &Calls,
-    request: &Request,
-    loan: &mut Loan,
-    outs: [*mut u32; 5],
-) -> Option<u32> {
-    let mend = calls.mend?;
+fn drive_mend(calls: &Calls, request: &Request, loan: &mut Loan, outs: [*mut u32; 5]) -> u32 {
     let sizes = &request.sizes;
     // All parts are live buffers of the lengths given.
-    let returned = unsafe {
-        mend(
+    unsafe {
+        (calls.mend)(
             sizes.n,
             sizes.m,
             sizes.page_bytes,
@@ -152,21 +137,14 @@ fn drive_mend(
             outs[0],
             outs[1],
         )
-    };
-    Some(returned)
+    }
 }
 
-fn drive_read(
-    calls: &Calls,
-    request: &Request,
-    loan: &mut Loan,
-    outs: [*mut u32; 5],
-) -> Option<u32> {
-    let read = calls.read?;
+fn drive_read(calls: &Calls, request: &Request, loan: &mut Loan, outs: [*mut u32; 5]) -> u32 {
     let sizes = &request.sizes;
     // All parts are live buffers of the lengths given.
-    let returned = unsafe {
-        read(
+    unsafe {
+        (calls.read)(
             sizes.n,
             sizes.m,
             sizes.page_bytes,
@@ -184,6 +162,5 @@ fn drive_read(
             request.original,
             outs[0],
         )
-    };
-    Some(returned)
+    }
 }

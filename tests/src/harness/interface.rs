@@ -67,11 +67,22 @@ pub type ReadCall = unsafe extern "C" fn(
     count: *mut u32,
 ) -> u32;
 
-/// The calls of a mover; one that it does not have yet is `None`.
+pub type OperationCall = unsafe extern "C" fn(
+    n: u32,
+    m: u32,
+    s: u32,
+    place: u32,
+    kind: *mut u32,
+    block: *mut u32,
+    page: *mut u32,
+    mark: *mut u32,
+) -> u32;
+
+/// The calls of a mover.
 #[derive(Clone, Copy)]
 pub struct Calls {
-    pub split: Option<SplitCall>,
-    pub run: Option<RunCall>,
-    pub mend: Option<MendCall>,
-    pub read: Option<ReadCall>,
+    pub split: SplitCall,
+    pub run: RunCall,
+    pub mend: MendCall,
+    pub read: ReadCall,
 }

@@ -6,5 +6,6 @@ pub mod drive;
 pub mod families;
 pub mod interface;
 pub mod lent;
+pub mod operations;
 pub mod programs;
 pub mod shrink;

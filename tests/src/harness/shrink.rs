@@ -18,7 +18,7 @@ pub fn shrink(calls: &Calls, request: Request, what: String) -> Difference {
 
 fn plainer_failure(calls: &Calls, request: &Request) -> Option<Difference> {
     let failing = |request: Request| {
-        let what = difference(drive(calls, &request)?, &answer(&request))?;
+        let what = difference(drive(calls, &request), &answer(&request))?;
         Some(Difference { request, what })
     };
     plainer(request).into_iter().find_map(failing)
