@@ -1,14 +1,20 @@
--- Laws of the list as bytes: its entries, and how many they are.
+-- Laws of the list as bytes: its entries, how many they are, and what a call answers for them.
 use mathlib.Core.Path.{_≡_, refl, sym, ap, ap₂, _∙_}
-use mathlib.Core.Bool.{false}
+use mathlib.Core.Logic.{⊎-elim, _≢_}
+use mathlib.Core.Bool.{Bool, true, false, cond, _||_}
 use mathlib.Core.List.{List, [], _∷_, _++_}
-use Prim.Native.Nat.{ℕ, zero, suc, _+_, _*_, _/_, _%_, _<_}
-use native.Mathlib.Nat.{not-suc-le-zero, div-add-mod', mod-lt}
+use Prim.Native.Nat.{ℕ, zero, suc, _+_, _*_, _/_, _%_, _≤_, _<_}
+use native.Mathlib.Nat.{not-suc-le-zero, div-add-mod', mod-lt, mul-le-mul}
 use native.Mathlib.Omega.{arith}
+use lib.Dec.{ltb}
 use lib.ListN.{length, getD, take}
 use lib.Seq.{take-suc, take-all}
-use borrow.Author.Tests.{eqb-false, ne-eqb}
-use Rattle.c_api.specs.Bytes.{entriesOf, isOdd}
+use borrow.Author.Tests.{eqb-false, ltb-true, ltb-false}
+use Rattle.flash.specs.Geometry.{Sizes, inRange, originalCount}
+use Rattle.flash.proofs.Bools.{bool-cases, or-false-left, or-false-right}
+use Rattle.flash.proofs.Bounds.{in-range}
+use Rattle.split.proofs.Answers.{small}
+use Rattle.c_api.specs.Bytes.{entriesOf, isOdd, entriesWithin}
 
 pub entries-length : (count : ℕ) (bytes : List ℕ) → length bytes ≡ 2 * count → length (entriesOf bytes) ≡ count
 unfolding entriesOf
@@ -39,14 +45,55 @@ entries-more bytes count i e h =
 pub all-entries : (bytes : List ℕ) (count : ℕ) → length bytes ≡ 2 * count → take count (entriesOf bytes) ≡ entriesOf bytes
 all-entries bytes count e = take-all count (entriesOf bytes) (omega (arith, entries-length count bytes e))
 
-pub even-bytes : (bytes : List ℕ) (count : ℕ) → length bytes ≡ 2 * count → isOdd bytes ≡ false
+even-bytes : (bytes : List ℕ) → isOdd bytes ≡ false → length bytes ≡ 2 * (length bytes / 2)
 unfolding isOdd
-even-bytes bytes count e = ne-eqb (length bytes % 2) 1 (omega arith)
-
--- an even number of bytes that is not right gives a list that is not right
-pub wrong-length : (bytes : List ℕ) (count : ℕ) → isOdd bytes ≡ false → (length bytes ≡ 2 * count → ⊥) → length (entriesOf bytes) ≡ count → ⊥
-unfolding isOdd
-wrong-length bytes count even ne e =
+even-bytes bytes even =
     let not-one = eqb-false (length bytes % 2) 1 even in
-    let halves : length bytes ≡ 2 * (length bytes / 2) = omega (arith, div-add-mod' (length bytes) 2, mod-lt (length bytes) {m = 2} (omega arith)) in
-    ne (omega (arith, halves, entries-length (length bytes / 2) bytes halves))
+    omega (arith, div-add-mod' (length bytes) 2, mod-lt (length bytes) {m = 2} (omega arith))
+
+-- ---- bytes that are a list, with room for its entries
+module _ (room : ℕ) (bytes : List ℕ) where
+  abbrev no-list : Bool
+  no-list = isOdd bytes || ltb room (length bytes / 2)
+
+  pub no-entries : no-list ≡ true → entriesWithin room bytes ≡ []
+  unfolding entriesWithin
+  no-entries e = rw e
+
+  pub entries-within : no-list ≡ false → entriesWithin room bytes ≡ entriesOf bytes
+  unfolding entriesWithin
+  entries-within e = rw e
+
+  pub within : no-list ≡ false → (length bytes ≡ 2 * (length bytes / 2)) × (length bytes / 2 ≤ room)
+  within e = (
+    even-bytes bytes (or-false-left (isOdd bytes) (ltb room (length bytes / 2)) e),
+    ltb-false room (length bytes / 2) (or-false-right (isOdd bytes) (ltb room (length bytes / 2)) e),
+  )
+
+-- A call that refuses every list of another length alike answers for these entries what it answers for the bytes.
+pub answer-within : {A : Type 0} (Z : Sizes) (answer : List ℕ → A) (refused : A)
+    → ((list : List ℕ) → (inRange Z ≡ true → length list ≢ originalCount Z) → answer list ≡ refused)
+    → (bytes : List ℕ) → answer (entriesWithin 4096 bytes) ≡ cond (isOdd bytes) refused (answer (entriesOf bytes))
+answer-within Z answer refused refuses bytes =
+    ⊎-elim
+    (λ (none : no-list 4096 bytes ≡ true).
+    ⊎-elim
+    (λ (odd : isOdd bytes ≡ true). rw odd (nothing none))
+    (λ (even : isOdd bytes ≡ false). rw even (nothing none ∙ sym (too-long even (rw even at none))))
+    (bool-cases (isOdd bytes)))
+    (λ (fits : no-list 4096 bytes ≡ false).
+    rw (entries-within 4096 bytes fits, or-false-left (isOdd bytes) (ltb 4096 (length bytes / 2)) fits))
+    (bool-cases (no-list 4096 bytes))
+  where
+    nothing : no-list 4096 bytes ≡ true → answer (entriesWithin 4096 bytes) ≡ refused
+    nothing none = refuses (entriesWithin 4096 bytes) (λ ranged e.
+        let B = in-range Z ranged in
+        let some : 1 * 1 ≤ originalCount Z = mul-le-mul (B .n-low) (B .m-low) in
+        let z = rw (no-entries 4096 bytes none) at e in
+        absurd (omega arith))
+
+    too-long : isOdd bytes ≡ false → ltb 4096 (length bytes / 2) ≡ true → answer (entriesOf bytes) ≡ refused
+    too-long even long = refuses (entriesOf bytes) (λ ranged e.
+        let over = ltb-true 4096 (length bytes / 2) long in
+        let count = entries-length (length bytes / 2) bytes (even-bytes bytes even) in
+        absurd (omega (arith, small Z ranged)))

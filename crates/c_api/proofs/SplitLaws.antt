@@ -1,34 +1,38 @@
--- What the exported split answers in each of its cases.
-use mathlib.Core.Path.{_≡_}
+-- What the exported split answers is what the call answers for the entries decoded.
+use mathlib.Core.Path.{_≡_, ap, _∙_}
 use mathlib.Core.Logic.{⊎-elim, _≢_}
-use mathlib.Core.Bool.{true, false}
+use mathlib.Core.Bool.{true, false, cond}
 use mathlib.Core.List.{List}
-use Prim.Native.Nat.{ℕ, _*_}
+use Prim.Native.Nat.{ℕ}
 use lib.ListN.{length}
 use Rattle.flash.specs.Geometry.{Sizes, inRange, originalCount}
 use Rattle.flash.proofs.Bools.{bool-cases}
-use Rattle.split.specs.Answer.{splitAnswer}
+use Rattle.split.specs.Answer.{SplitAnswer, splitAnswer, SplitAnswered}
 use Rattle.split.proofs.Answers.{gives-1, gives-2-list}
-use Rattle.c_api.specs.Bytes.{entriesOf, isOdd}
-use Rattle.c_api.specs.SplitExport.{splitOfBytes}
-use Rattle.c_api.proofs.BytesLaws.{even-bytes, wrong-length}
+use Rattle.c_api.specs.Bytes.{entriesWithin}
+use Rattle.c_api.specs.SplitExport.{splitOfBytes, SplitExported}
+use Rattle.c_api.proofs.BytesLaws.{answer-within}
 
 module _ (Z : Sizes) (list sets : List ℕ) where
-  -- a refusal leaves the set bytes
-  pub split-1 : inRange Z ≡ false → splitOfBytes Z list sets ≡ record { number = 1; sets = sets }
-  unfolding splitOfBytes splitAnswer
-  split-1 e = ⊎-elim
-      (λ (o : isOdd list ≡ true). rw (o, e))
-      (λ (o : isOdd list ≡ false). rw (o, gives-1 Z (entriesOf list) sets e))
-      (bool-cases (isOdd list))
+  -- a list of another length is refused alike whatever its entries
+  split-refuses-list : (entries : List ℕ) → (inRange Z ≡ true → length entries ≢ originalCount Z)
+      → splitAnswer Z entries sets ≡ record { number = cond (inRange Z) 2 1; sets = sets }
+  unfolding splitAnswer
+  split-refuses-list entries other = ⊎-elim
+      (λ (e : inRange Z ≡ true). rw (gives-2-list Z entries sets e (other e), e))
+      (λ (e : inRange Z ≡ false). rw (gives-1 Z entries sets e, e))
+      (bool-cases (inRange Z))
 
-  pub split-2 : inRange Z ≡ true → length list ≢ 2 * originalCount Z → splitOfBytes Z list sets ≡ record { number = 2; sets = sets }
-  unfolding splitOfBytes splitAnswer
-  split-2 e ne = ⊎-elim
-      (λ (o : isOdd list ≡ true). rw (o, e))
-      (λ (o : isOdd list ≡ false). rw (o, gives-2-list Z (entriesOf list) sets e (wrong-length list (originalCount Z) o ne)))
-      (bool-cases (isOdd list))
-
-  pub split-decoded : length list ≡ 2 * originalCount Z → splitOfBytes Z list sets ≡ splitAnswer Z (entriesOf list) sets
+  decoded : splitAnswer Z (entriesWithin 4096 list) sets ≡ splitOfBytes Z list sets
   unfolding splitOfBytes
-  split-decoded e = rw (even-bytes list (originalCount Z) e)
+  decoded =
+      answer-within Z (λ entries. splitAnswer Z entries sets) (record { number = cond (inRange Z) 2 1; sets = sets }) split-refuses-list list
+
+  pub exported : (entries after : List ℕ) (number : ℕ) → entries ≡ entriesWithin 4096 list → SplitAnswered Z entries sets number after
+      → SplitExported Z list sets number after
+  exported entries after number e A =
+      let answer = ap (λ (list : List ℕ). splitAnswer Z list sets) e ∙ decoded in
+      record {
+        number-is = A .number-is ∙ ap (λ (x : SplitAnswer). x .number) answer;
+        sets-is = A .sets-are ∙ ap (λ (x : SplitAnswer). x .sets) answer;
+      }

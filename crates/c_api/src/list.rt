@@ -3,7 +3,7 @@
 ghost use mathlib.Core.Path.{_≡_};
 ghost use Prim.Native.Nat.{_+_, _*_, _≤_};
 ghost use lib.ListN.{length, take};
-ghost use Rattle.c_api.specs.Bytes.{entriesOf};
+ghost use Rattle.c_api.specs.Bytes.{entriesWithin};
 
 fn word(low: u8, high: u8) -> u16
     ensures { λ r. ⌜ r ≡ low + high * 256 ⌝ }
@@ -11,11 +11,14 @@ fn word(low: u8, high: u8) -> u16
     (low as u16) + (high as u16) * 256
 }
 
-// The first entries of `list` become those of the bytes.
-pub fn decode(bytes: &[u8], list: &mut [u16], count: usize)
-    requires { ⌜ (length (now bytes) ≡ 2 * count) × (count ≤ length (now list)) ⌝ }
-    ensures { λ _. ⌜ take count (now (list .exit)) ≡ entriesOf (now (bytes .entry)) ⌝ }
+// Decodes a list and returns how many entries it has: none where the bytes are no list or there is no room for it.
+pub fn decode(bytes: &[u8], list: &mut [u16]) -> usize
+    ensures { λ r. ⌜ (r ≤ length (now (list .entry))) × (take r (now (list .exit)) ≡ entriesWithin (length (now (list .entry))) (now (bytes .entry))) ⌝ }
 {
+    let count = bytes.len() / 2;
+    if (bytes.len() % 2 == 1) | (list.len() < count) {
+        return 0;
+    }
     let mut i = 0;
     while i < count {
         let low = bytes[2 * i];
@@ -23,4 +26,5 @@ pub fn decode(bytes: &[u8], list: &mut [u16], count: usize)
         list[i] = word(low, high);
         i += 1;
     }
+    count
 }

@@ -1,6 +1,5 @@
 // The recovery call for C.
 
-ghost use mathlib.Core.Path.{_≡_};
 ghost use Rattle.c_api.specs.MendExport.{MendExported};
 use recovery::mend::mend;
 

@@ -45,4 +45,4 @@ pub mod MendEvents
 pub mod Demand
 pub mod Example
 pub mod AnswerBounds
-pub mod RunRefusals
+pub mod ListRefusals

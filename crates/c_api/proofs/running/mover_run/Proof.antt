@@ -1,10 +1,26 @@
--- `mover_run` meets its contract: it hands on what the call returned.
+-- `mover_run` meets its contract: it hands on what the call returned for the entries decoded.
+use mathlib.Core.Path.{sym}
+use native.Mathlib.Omega.{arith}
 use borrow.Author.Needs.{needs}
+use lib.Seq.{length-take-le}
+use Rattle.c_api.proofs.RunLaws.{exported}
 use Rattle.c_api.proofs.running.mover_run.Statement.{statement}
 use Rattle.c_api.proofs.running.mover_run.Tie as tie
 
-run-bytes-requires : tie.Need-run-bytes-requires
-run-bytes-requires c κs = search needs
+slice-aggregate-decode : tie.Need-slice-aggregate-decode
+slice-aggregate-decode c = search needs
+
+decode-requires : tie.Need-decode-requires
+decode-requires c κs = search needs
+
+array-share-prefix-entries : tie.Need-array-share-prefix-entries
+array-share-prefix-entries c = search needs
+
+slice-aggregate-run : tie.Need-slice-aggregate-run
+slice-aggregate-run c = let d = c .before .before .decode in sym (length-take-le _ (d .last .1 .0) (omega (arith, d .ensures .0, d .kept .1 .0)))
+
+run-requires : tie.Need-run-requires
+run-requires c κs = search needs
 
 same-length : tie.Need-same-length
 same-length c = search needs
@@ -17,19 +33,18 @@ same-length-3 c = search needs
 
 returns : tie.Need-returns
 returns c =
-    let A = c .before .before .before .before .before .before .run-bytes .ensures in
-    record {
-      number-is = A .number-is;
-      store-is = A .store-is;
-      marks-is = A .marks-is;
-      work-is = A .work-is;
-      place-is = A .place-is;
-      steps-is = A .steps-is;
-      writes-is = A .writes-is;
-      erases-is = A .erases-is;
-      finished-is = A .finished-is;
-    }
+    exported _ _ _ _ _ _ _ _ _ _ _ _ (c .before .before .before .before .before .before .before .before .before .before .before .before .decode .ensures .1) (c .before .before .before .before .before .before .run .ensures)
 
 pub mover-run-spec : {M : Type 1} → statement M
 mover-run-spec =
-    tie.close (tie.spec run-bytes-requires same-length same-length-2 same-length-3 returns)
+    tie.close
+    (tie.spec
+    slice-aggregate-decode
+    decode-requires
+    array-share-prefix-entries
+    slice-aggregate-run
+    run-requires
+    same-length
+    same-length-2
+    same-length-3
+    returns)
