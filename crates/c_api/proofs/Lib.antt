@@ -2,3 +2,4 @@ pub mod BytesLaws
 pub mod SplitLaws
 pub mod MendLaws
 pub mod RunLaws
+pub mod ReadLaws

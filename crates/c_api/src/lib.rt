@@ -2,5 +2,6 @@
 mod list;
 pub mod mending;
 pub mod operation;
+pub mod reading;
 pub mod running;
 pub mod splitting;

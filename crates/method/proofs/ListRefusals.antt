@@ -12,7 +12,11 @@ use Rattle.flash.specs.Geometry.{inRange, listLength}
 use Rattle.flash.specs.Chip.{Chip}
 use Rattle.flash.proofs.Bools.{bool-cases}
 use Rattle.method.specs.Move.{Move}
-use Rattle.method.specs.Answers.{badParts, moveRows, runRows, runRefused, runAnswer}
+use Rattle.method.specs.Answers.{badParts, moveRows, runRows, runRefused, runAnswer, readRows, ReadAnswer, readAnswer}
+
+not-zero : (ranged : Bool) → eqb (cond ranged 2 1) 0 ≡ false
+not-zero true = refl
+not-zero false = refl
 
 module _ (M : Move) (chip : Chip) (work : List ℕ) (other : inRange (M .sizes) ≡ true → length (M .list) ≢ listLength (M .sizes)) where
   -- in the rows that run and read share
@@ -26,7 +30,7 @@ module _ (M : Move) (chip : Chip) (work : List ℕ) (other : inRange (M .sizes) 
   pub run-refuses-list : (place budget : ℕ) → runAnswer M chip work place budget ≡ runRefused (cond (inRange (M .sizes)) 2 1) chip work
   unfolding runAnswer runRows
   run-refuses-list place budget = rw (list-refused _, not-zero (inRange (M .sizes)))
-    where
-      not-zero : (ranged : Bool) → eqb (cond ranged 2 1) 0 ≡ false
-      not-zero true = refl
-      not-zero false = refl
+
+  pub read-refuses-list : (k : ℕ) → readAnswer M chip work k ≡ record { number = cond (inRange (M .sizes)) 2 1; count = 0; work = work }
+  unfolding readAnswer readRows
+  read-refuses-list k = rw (list-refused _, not-zero (inRange (M .sizes)))
