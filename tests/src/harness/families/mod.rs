@@ -3,6 +3,7 @@
 mod limits;
 mod nonsense;
 mod other_splits;
+mod papers;
 mod random_moves;
 mod refusals;
 mod small_moves;
@@ -19,7 +20,7 @@ pub struct Family {
     pub cases: fn(&mut Comparer, &mut Random) -> Outcome,
 }
 
-pub const FAMILIES: [Family; 9] = [
+pub const FAMILIES: [Family; 10] = [
     Family {
         name: "refusals, one and two at once",
         cases: refusals::cases,
@@ -43,6 +44,10 @@ pub const FAMILIES: [Family; 9] = [
     Family {
         name: "splits made by another rule",
         cases: other_splits::cases,
+    },
+    Family {
+        name: "the papers' lists, page by page",
+        cases: papers::cases,
     },
     Family {
         name: "random moves",
