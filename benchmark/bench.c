@@ -23,12 +23,13 @@ static const struct mover movers[BOTH] = {
 };
 
 static uint64_t seed = 1;
-static uint32_t rounds = 9;
+static uint32_t rounds = 15;
 
+/* Processor time: what other programs take away does not count. */
 static double now(void)
 {
     struct timespec t;
-    clock_gettime(CLOCK_MONOTONIC, &t);
+    clock_gettime(CLOCK_PROCESS_CPUTIME_ID, &t);
     return (double)t.tv_sec * 1e9 + (double)t.tv_nsec;
 }
 
