@@ -133,8 +133,7 @@ pub enum Request {
 }
 
 // Reads the input.
-pub fn read(text: &[u8], numbers: &mut [u32]) -> Request
-    requires { ⌜ 4160 ≤ length (now numbers) ⌝ }
+pub fn read(text: &[u8], numbers: &mut [u32; MOST_NUMBERS]) -> Request
     ensures { λ r. ⌜ askedAs (now (numbers .exit)) r ≡ reading (now (text .entry)) ⌝ }
 {
     let SizesRead::Sizes { n, m, p, s, next } = read_sizes(text) else {
