@@ -3,7 +3,7 @@ ghost use Prim.Native.Nat.{_+_, _≤_, _<_};
 ghost use lib.ListN.{length};
 ghost use Rattle.method.specs.Place.{operationAt};
 ghost use Rattle.listing.specs.Lines.{Printed};
-ghost use Rattle.steps.specs.Output.{stepLine};
+ghost use Rattle.steplist.specs.Output.{stepLine};
 use listing::lines::put_erase;
 use listing::lines::put_write;
 use mover::place::Op;

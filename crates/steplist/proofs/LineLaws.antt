@@ -8,7 +8,7 @@ use Rattle.listing.specs.Lines.{writeLine, eraseLine}
 use Rattle.mover.specs.declared.place.Op.{Op}
 use Rattle.mover.specs.declared.place.Op.the-variants.{Write, Erase, Done}
 use Rattle.mover.specs.Place.{opOf}
-use Rattle.steps.specs.Output.{stepLine}
+use Rattle.steplist.specs.Output.{stepLine}
 
 abbrev pub opLine : (place : ℕ) → (work : List ℕ) → Op → List ℕ
 opLine place work (Write isBackward block page mark) = writeLine place block page work

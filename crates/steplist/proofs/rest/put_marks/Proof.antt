@@ -2,10 +2,10 @@ use native.Mathlib.Omega.{arith}
 use mathlib.Core.Path.{sym}
 use lib.ListN.{length}
 use lib.Seq.{length-take-le}
-use Rattle.steps.proofs.RestLaws.{marks-filled}
+use Rattle.steplist.proofs.RestLaws.{marks-filled}
 use borrow.Author.Needs.{needs}
-use Rattle.steps.proofs.rest.put_marks.Statement.{statement}
-use Rattle.steps.proofs.rest.put_marks.Tie as tie
+use Rattle.steplist.proofs.rest.put_marks.Statement.{statement}
+use Rattle.steplist.proofs.rest.put_marks.Tie as tie
 
 fill-requires : tie.Need-fill-requires
 fill-requires c κs = search needs

@@ -1,8 +1,9 @@
-// The step program so far: its output as a definition, the line of one step, and the store that it moves.
+// The step program on slices: its output as a definition, and the code that makes it.
 pub mod line;
+pub mod listed;
 pub mod rest;
 
-ghost use Rattle.steps.specs.Example.{Example};
+ghost use Rattle.steplist.specs.Example.{Example};
 
 // The theorem about the definitions, as the contract of a function that does nothing: the check demands its proof.
 pub fn claims()

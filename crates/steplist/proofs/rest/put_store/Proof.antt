@@ -1,7 +1,7 @@
-use Rattle.steps.proofs.RestLaws.{spare-is, store-filled}
+use Rattle.steplist.proofs.RestLaws.{spare-is, store-filled}
 use borrow.Author.Needs.{needs}
-use Rattle.steps.proofs.rest.put_store.Statement.{statement}
-use Rattle.steps.proofs.rest.put_store.Tie as tie
+use Rattle.steplist.proofs.rest.put_store.Statement.{statement}
+use Rattle.steplist.proofs.rest.put_store.Tie as tie
 
 sub-put-bytes : tie.Need-sub-put-bytes
 sub-put-bytes c = search needs

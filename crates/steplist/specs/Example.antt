@@ -2,7 +2,7 @@
 use mathlib.Core.Path.{_≡_}
 use mathlib.Core.List.{List, [], _∷_}
 use Prim.Native.Nat.{ℕ}
-use Rattle.steps.specs.Output.{output}
+use Rattle.steplist.specs.Output.{output}
 
 -- `3 1 1 0 1 2 0 1 2 4`
 abbrev pub input : List ℕ

@@ -1,10 +1,10 @@
 use Rattle.flash.specs.Geometry.{Sizes}
 use Rattle.method.specs.Place.{operationAt}
 use Rattle.listing.proofs.PrintLaws.{nothing-printed}
-use Rattle.steps.proofs.LineLaws.{line-told}
+use Rattle.steplist.proofs.LineLaws.{line-told}
 use borrow.Author.Needs.{needs}
-use Rattle.steps.proofs.line.put_line.Statement.{statement}
-use Rattle.steps.proofs.line.put_line.Tie as tie
+use Rattle.steplist.proofs.line.put_line.Statement.{statement}
+use Rattle.steplist.proofs.line.put_line.Tie as tie
 
 operation-requires : tie.Need-operation-requires
 operation-requires c κs = search needs
