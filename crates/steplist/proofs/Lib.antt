@@ -1,5 +1,6 @@
 pub mod Exampled
 pub mod LengthLaws
 pub mod LineLaws
+pub mod ListingLaws
 pub mod RestLaws
 pub mod StepLaws

@@ -30,6 +30,10 @@ pub record Listable (M : Move) (run : Running) (place : ℕ) : Type 0 where
 abbrev pub mostLine : ℕ
 mostLine = 149
 
+-- room for the lines of 2 × 8 × 9 steps and the end line
+abbrev pub mostOutput : ℕ
+mostOutput = 32768
+
 -- a step was taken at a place, and its line was printed
 pub record Stepped (M : Move) (place : ℕ) (run : Running) (before : List ℕ) (at : ℕ) (shown : Shown) (out store marks work : List ℕ) : Type 0 where
   pub left : runningOf store marks work ≡ step M place run

@@ -26,12 +26,16 @@ stepLines M (suc count) place run =
     let after = step M place run in
     stepLine place (operationAt (M .sizes) place) (after .work) ++ stepLines M count (suc place) after
 
+-- the lines of all steps, and the end line
+unfoldable pub moveLines : Move → Running → List ℕ
+moveLines M start =
+    let counts = tally (operations (M .sizes)) in
+    stepLines M (lastPlace (M .sizes)) 0 start ++ endLine (counts .writes) (counts .erases)
+
 -- "The spare is blank.": the move of a store at rest, by the split that the split call makes
 unfoldable pub listed : Sizes → (list bytes : List ℕ) → List ℕ
 listed Z list bytes =
-    let M : Move = record { sizes = Z; list = list; sets = splitByRule (Z .n) (Z .m) list } in
-    let counts = tally (operations Z) in
-    stepLines M (lastPlace Z) 0 (record { chip = atRest Z bytes; work = replicate (Z .P) 0 }) ++ endLine (counts .writes) (counts .erases)
+    moveLines (record { sizes = Z; list = list; sets = splitByRule (Z .n) (Z .m) list }) (record { chip = atRest Z bytes; work = replicate (Z .P) 0 })
 
 -- "A bad list gives `refused 3`." An entry above 16 bits is at or above n × m, as any other too large.
 unfoldable pub answered : Reading → List ℕ
