@@ -1,14 +1,20 @@
 -- What the loop over the steps is given, and how far it has come.
 use mathlib.Core.Path.{_≡_}
+use mathlib.Core.Bool.{true, false}
 use mathlib.Core.List.{List}
 use Prim.Native.Nat.{ℕ, _*_, _≤_}
-use lib.ListN.{length, take}
+use lib.Dec.{leb}
+use lib.ListN.{length, take, replicate}
+use Rattle.flash.specs.Lists.{all}
 use Rattle.flash.specs.Tables.{refusal}
-use Rattle.flash.specs.Geometry.{Sizes}
+use Rattle.flash.specs.Geometry.{Sizes, originalCount, storeLength, marksLength}
+use Rattle.split.specs.OneToOne.{badList}
+use Rattle.split.specs.Rule.{splitByRule}
 use Rattle.method.specs.Move.{Move}
 use Rattle.method.specs.Place.{operationAt}
 use Rattle.method.specs.Step.{Running, step, steps, tally, operationsFrom}
 use Rattle.method.specs.Answers.{runRows}
+use Rattle.listing.specs.Request.{isAllowed}
 use Rattle.listing.specs.Lines.{Printed}
 use Rattle.steplist.specs.declared.listed.Shown.{Shown}
 use Rattle.steplist.specs.Output.{stepLine, stepLines}
@@ -49,3 +55,18 @@ pub record Shows (M : Move) (start : Running) (place at writes erases : ℕ) (ou
   pub at-high : at ≤ mostLine * place
   pub writes-is : writes ≡ tally (operationsFrom M 0 place) .writes
   pub erases-is : erases ≡ tally (operationsFrom M 0 place) .erases
+
+-- a request within the limits whose list was accepted and split
+pub record Accepted (Z : Sizes) (list sets bytes : List ℕ) : Type 0 where
+  pub allowed : isAllowed Z ≡ true
+  pub list-length : length list ≡ originalCount Z
+  pub good : badList (originalCount Z) list ≡ false
+  pub sets-is : sets ≡ splitByRule (Z .n) (Z .m) list
+  pub bytes-length : length bytes ≡ originalCount Z * Z .P
+  pub bytes-fit : all (λ byte. leb byte 255) bytes ≡ true
+
+-- the parts that are lent for it: those that are filled first, and the work page
+pub record Empty (Z : Sizes) (store marks work : List ℕ) : Type 0 where
+  pub store-length : length store ≡ storeLength Z
+  pub marks-length : length marks ≡ marksLength Z
+  pub work-is : work ≡ replicate (Z .P) 0

@@ -1,4 +1,5 @@
 // The step program on slices: its output as a definition, and the code that makes it.
+pub mod answer;
 pub mod line;
 pub mod listed;
 pub mod rest;

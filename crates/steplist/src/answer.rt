@@ -1,0 +1,34 @@
+// The answer to an input.
+ghost use mathlib.Core.Path.{_≡_};
+ghost use Prim.Native.Nat.{_≤_};
+ghost use lib.ListN.{length, take};
+ghost use Rattle.steplist.specs.Output.{listed};
+ghost use Rattle.steplist.specs.Listing.{mostOutput, Accepted, Empty};
+use crate::listed::put_listing;
+use crate::rest::put_marks;
+use crate::rest::put_store;
+use flash::sizes::slot_count;
+use flash::sizes::store_length;
+
+// Fills the store and the marks as they are at rest, and lists the move.
+fn put_from_rest(
+    out: &mut [u8],
+    n: usize,
+    m: usize,
+    p: usize,
+    s: usize,
+    list: &[u16],
+    sets: &[u8],
+    originals: &[u32],
+    store: &mut [u8],
+    marks: &mut [u8],
+    work: &mut [u8],
+) -> usize
+    requires { ⌜ Accepted (record { n = n; m = m; P = p; s = s }) (now list) (now sets) (now originals) × Empty (record { n = n; m = m; P = p; s = s }) (now store) (now marks) (now work) × (mostOutput ≤ length (now out)) ⌝ }
+    ensures { λ r. ⌜ take r (now (out .exit)) ≡ listed (record { n = n; m = m; P = p; s = s }) (now (list .entry)) (now (originals .entry)) ⌝ }
+    ensures { λ r. ⌜ r ≤ mostOutput ⌝ }
+{
+    put_store(originals, m * p, store);
+    put_marks(m, s as u8, marks);
+    put_listing(out, n, m, p, s, list, sets, store, marks, work)
+}
