@@ -13,6 +13,20 @@ drop-replicate m n v h =
     ∙ ap (drop m) (sym (replicate-append-replicate m (n - m) v))
     ∙ drop-at (replicate m v) (replicate (n - m) v) m (length-replicate {A = ℕ} m v)
 
+-- the front of a list of one value
+front-same : (count most v : ℕ) → count ≤ most → take count (replicate most v) ≡ replicate count v
+front-same count most v h =
+    let e : count + (most - count) ≡ most = omega arith in
+    ap (λ (k : ℕ). take count (replicate k v)) (sym e)
+    ∙ ap (take count) (sym (replicate-append-replicate count (most - count) v))
+    ∙ take-at (replicate count v) (replicate (most - count) v) count (length-replicate {A = ℕ} count v)
+
+pub zeros-taken : (count most : ℕ) → count ≤ most → take count (replicate {A = ℕ} most 0) ≡ replicate count 0
+zeros-taken count most h = front-same count most 0 h
+
+pub zeros-length : (count most : ℕ) → count ≤ most → length (take count (replicate {A = ℕ} most 0)) ≡ count
+zeros-length count most h = ap length (zeros-taken count most h) ∙ length-replicate {A = ℕ} count 0
+
 pub front-filled : (m v : ℕ) (old front : List ℕ) → m ≤ length old → front ≡ replicate (length (take m old)) v → front ++ drop m old ≡ replicate m v ++ drop m old
 front-filled m v old front h e = rw (e, length-take-le m old h)
 

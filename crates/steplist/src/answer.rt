@@ -32,3 +32,45 @@ fn put_from_rest(
     put_marks(m, s as u8, marks);
     put_listing(out, n, m, p, s, list, sets, store, marks, work)
 }
+
+// The largest lent parts: 9 × 8 slots of 64 bytes.
+const MOST_STORE: usize = 4608;
+
+const MOST_SLOTS: usize = 72;
+
+const MOST_PAGE: usize = 64;
+
+// Lists the move of an accepted request.
+fn put_accepted(
+    out: &mut [u8],
+    n: usize,
+    m: usize,
+    p: usize,
+    s: usize,
+    list: &[u16],
+    sets: &[u8],
+    originals: &[u32],
+) -> usize
+    requires { ⌜ Accepted (record { n = n; m = m; P = p; s = s }) (now list) (now sets) (now originals) × (mostOutput ≤ length (now out)) ⌝ }
+    ensures { λ r. ⌜ take r (now (out .exit)) ≡ listed (record { n = n; m = m; P = p; s = s }) (now (list .entry)) (now (originals .entry)) ⌝ }
+    ensures { λ r. ⌜ r ≤ mostOutput ⌝ }
+{
+    let mut store = [0u8; MOST_STORE];
+    let mut marks = [0u8; MOST_SLOTS];
+    let mut work = [0u8; MOST_PAGE];
+    let size = store_length(n, m, p);
+    let slots = slot_count(n, m);
+    put_from_rest(
+        out,
+        n,
+        m,
+        p,
+        s,
+        list,
+        sets,
+        originals,
+        &mut store[..size],
+        &mut marks[..slots],
+        &mut work[..p],
+    )
+}
