@@ -85,7 +85,8 @@ fn is_allowed(n: usize, m: usize, p: usize, s: usize) -> bool
     (1 <= n) & (n <= 8) & (1 <= m) & (m <= 8) & (1 <= p) & (p <= 64) & (s < 3)
 }
 
-fn numbers_due(count: usize, p: usize) -> usize
+// How many numbers follow the sizes: the entries, and p bytes for each.
+pub fn numbers_due(count: usize, p: usize) -> usize
     requires { ⌜ (count ≤ 64) × (p ≤ 64) ⌝ }
     ensures { λ r. ⌜ (r ≡ count + count * p) × (r ≤ 4160) ⌝ }
 {

@@ -14,7 +14,7 @@ use Rattle.flash.proofs.Bools.{bool-cases}
 use Rattle.method.specs.Place.{Pass, forward, backward, Operation, write, erase, operationAt, passAt, filling, filled, lastPlace}
 use Rattle.method.proofs.Places.{nextBlock, page-cases, pages-in, filling-in, operation-writes, operation-erases}
 use Rattle.listing.specs.Digits.{placesUpTo, places, decimal, hex}
-use Rattle.listing.specs.Lines.{writeLine, eraseLine, endLine}
+use Rattle.listing.specs.Lines.{writeLine, eraseLine, endLine, refusedLine}
 use Rattle.listing.proofs.DigitLaws.{length-digits, one-place}
 use Rattle.listing.proofs.PrintLaws.{length-hex}
 use Rattle.steplist.specs.Output.{stepLine}
@@ -50,6 +50,10 @@ erase-short step block h k = simp length-append (omega (arith, decimal-short ste
 pub end-short : (writes erases : ℕ) → writes < 1000 → erases < 1000 → length (endLine writes erases) ≤ 149
 unfolding endLine
 end-short writes erases h k = simp length-append (omega (arith, decimal-short writes h, decimal-short erases k))
+
+pub refused-short : (number : ℕ) → number < 1000 → length (refusedLine number) ≤ 149
+unfolding refusedLine
+refused-short number h = simp length-append (omega (arith, decimal-short number h))
 
 -- "It allows n and m to 8": at most 2 × 8 × 9 steps
 pub few-steps : (Z : Sizes) → Z .n ≤ 8 → Z .m ≤ 8 → lastPlace Z ≤ 144

@@ -1,4 +1,6 @@
+pub mod AskedLaws
 pub mod Exampled
+pub mod JudgeLaws
 pub mod LengthLaws
 pub mod LineLaws
 pub mod ListingLaws

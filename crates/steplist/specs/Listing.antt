@@ -4,7 +4,7 @@ use mathlib.Core.Bool.{true, false}
 use mathlib.Core.List.{List}
 use Prim.Native.Nat.{ℕ, _*_, _≤_}
 use lib.Dec.{leb}
-use lib.ListN.{length, take, replicate}
+use lib.ListN.{length, take, drop, replicate}
 use Rattle.flash.specs.Lists.{all}
 use Rattle.flash.specs.Tables.{refusal}
 use Rattle.flash.specs.Geometry.{Sizes, originalCount, storeLength, marksLength}
@@ -14,7 +14,7 @@ use Rattle.method.specs.Move.{Move}
 use Rattle.method.specs.Place.{operationAt}
 use Rattle.method.specs.Step.{Running, step, steps, tally, operationsFrom}
 use Rattle.method.specs.Answers.{runRows}
-use Rattle.listing.specs.Request.{isAllowed}
+use Rattle.listing.specs.Request.{isAllowed, numbersDue}
 use Rattle.listing.specs.Lines.{Printed}
 use Rattle.steplist.specs.declared.listed.Shown.{Shown}
 use Rattle.steplist.specs.Output.{stepLine, stepLines}
@@ -56,7 +56,19 @@ pub record Shows (M : Move) (start : Running) (place at writes erases : ℕ) (ou
   pub writes-is : writes ≡ tally (operationsFrom M 0 place) .writes
   pub erases-is : erases ≡ tally (operationsFrom M 0 place) .erases
 
--- a request within the limits whose list was accepted and split
+-- a request within the limits whose numbers stand at the front of an area
+pub record Asked (Z : Sizes) (numbers : List ℕ) : Type 0 where
+  pub allowed : isAllowed Z ≡ true
+  pub bytes-fit : all (λ byte. leb byte 255) (drop (originalCount Z) (take (numbersDue Z) numbers)) ≡ true
+
+-- a request within the limits, with as many numbers as are due and bytes to 255
+pub record Readable (Z : Sizes) (list bytes : List ℕ) : Type 0 where
+  pub allowed : isAllowed Z ≡ true
+  pub list-length : length list ≡ originalCount Z
+  pub bytes-length : length bytes ≡ originalCount Z * Z .P
+  pub bytes-fit : all (λ byte. leb byte 255) bytes ≡ true
+
+-- a request whose list was accepted and split
 pub record Accepted (Z : Sizes) (list sets bytes : List ℕ) : Type 0 where
   pub allowed : isAllowed Z ≡ true
   pub list-length : length list ≡ originalCount Z
