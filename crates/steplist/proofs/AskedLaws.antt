@@ -19,7 +19,7 @@ use Rattle.listing.specs.Found.{requestIn, askedAs}
 use Rattle.listing.specs.declared.request.Request.{Request}
 use Rattle.listing.proofs.RequestLaws.{bounded, few-originals}
 use Rattle.steplist.specs.Output.{answered, output}
-use Rattle.steplist.specs.Listing.{Asked, Readable}
+use Rattle.steplist.specs.Listing.{Asked, Readable, Counts}
 
 drop-take : (a b : ℕ) (xs : List ℕ) → a ≤ b → a ≤ length xs → drop a (take b xs) ≡ take (b - a) (drop a xs)
 drop-take a b xs h l =
@@ -105,3 +105,6 @@ asked n m P s text numbers e =
 pub answers : (input numbers : List ℕ) (told known : Request) → askedAs numbers told ≡ reading (withinLimit input) → told ≡ known → answered (askedAs numbers known) ≡ output input
 unfolding output
 answers input numbers told known e q = ap answered (ap (askedAs numbers) (sym q) ∙ e)
+
+pub counts : (count : ℕ) (out : List ℕ) → count ≤ length out → Counts count out
+counts count out h = (h, sym (length-take-le count out h))

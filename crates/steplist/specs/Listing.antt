@@ -82,3 +82,7 @@ pub record Empty (Z : Sizes) (store marks work : List ℕ) : Type 0 where
   pub store-length : length store ≡ storeLength Z
   pub marks-length : length marks ≡ marksLength Z
   pub work-is : work ≡ replicate (Z .P) 0
+
+-- A count of bytes at the front of a part. The second follows from the first; both are what lending the front asks for.
+abbrev pub Counts : (count : ℕ) → (out : List ℕ) → Type 0
+Counts count out = (count ≤ length out) × (count ≡ length (take count out))

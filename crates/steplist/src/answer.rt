@@ -4,7 +4,7 @@ ghost use Prim.Native.Nat.{_*_, _≤_};
 ghost use lib.ListN.{length, take};
 ghost use Rattle.listing.specs.Request.{request};
 ghost use Rattle.steplist.specs.Output.{listed, answered, output};
-ghost use Rattle.steplist.specs.Listing.{mostOutput, Asked, Readable, Accepted, Empty};
+ghost use Rattle.steplist.specs.Listing.{mostOutput, Asked, Readable, Accepted, Empty, Counts};
 ghost use Rattle.listing.specs.Found.{requestIn};
 use crate::listed::put_listing;
 use crate::rest::put_marks;
@@ -156,7 +156,7 @@ fn put_request(
 ) -> usize
     requires { ⌜ Asked (record { n = n; m = m; P = p; s = s }) (now numbers) ⌝ }
     ensures { λ r. ⌜ take r (now (out .exit)) ≡ answered (requestIn (now (numbers .entry)) (record { n = n; m = m; P = p; s = s })) ⌝ }
-    ensures { λ r. ⌜ r ≤ mostOutput ⌝ }
+    ensures { λ r. ⌜ r ≤ length (now (out .exit)) ⌝ }
 {
     put_move(out, n, m, p, s, numbers)
 }
@@ -165,7 +165,7 @@ fn put_request(
 // one, is overwritten.
 pub fn answer(input: &mut [u8], out: &mut [u8; MOST_OUTPUT]) -> usize
     ensures { λ r. ⌜ take r (now (out .exit)) ≡ output (now (input .entry)) ⌝ }
-    ensures { λ r. ⌜ r ≤ mostOutput ⌝ }
+    ensures { λ r. ⌜ Counts r (now (out .exit)) ⌝ }
 {
     let mut numbers = [0u32; MOST_NUMBERS];
     let end = limit(input);
