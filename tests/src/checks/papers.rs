@@ -14,7 +14,7 @@ use crate::simulator::sizes::Sizes;
 type Outcome = Result<(), String>;
 
 /// Paper 002, Example 3: block i moves to entry i.
-const EIGHT: [u16; 8] = [3, 6, 8, 1, 2, 5, 4, 7];
+pub const EIGHT: [u16; 8] = [3, 6, 8, 1, 2, 5, 4, 7];
 /// Paper 000, Example 10: the cycles of Figure 1 (a).
 const FOURTEEN: [u16; 14] = [9, 4, 5, 14, 7, 13, 3, 10, 6, 12, 11, 1, 2, 8];
 /// Paper 003, Example 5: the set of hearts.
