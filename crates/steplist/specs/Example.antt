@@ -1,7 +1,9 @@
--- Document 01's input, and the listing printed there, byte by byte.
+-- Document 01's input, and the listing printed there, byte by byte; and inputs that are not listed.
 use mathlib.Core.Path.{_≡_}
 use mathlib.Core.List.{List, [], _∷_}
 use Prim.Native.Nat.{ℕ}
+use Rattle.listing.specs.Lines.{refusedLine, unreadableLine}
+use Rattle.listing.specs.Examples.{parted}
 use Rattle.steplist.specs.Output.{output}
 
 -- `3 1 1 0 1 2 0 1 2 4`
@@ -38,5 +40,16 @@ listing =
     101 ∷ 110 ∷ 100 ∷ 32 ∷ 54 ∷ 32 ∷ 54 ∷ 10 ∷
     []
 
-unfoldable pub Example : Type 0
-Example = output input ≡ listing
+-- numbers with a space behind each
+abbrev spaced : (numbers : List ℕ) → List ℕ
+spaced numbers = parted 32 numbers
+
+pub record Examples : Type 0 where
+  pub example : output input ≡ listing
+  -- a list that is bad too is not judged where a byte is missing, or is none
+  pub missing-byte : output (spaced (3 ∷ 1 ∷ 1 ∷ 0 ∷ 1 ∷ 1 ∷ 1 ∷ 1 ∷ 2 ∷ [])) ≡ unreadableLine
+  pub no-byte : output (spaced (3 ∷ 1 ∷ 1 ∷ 0 ∷ 1 ∷ 1 ∷ 1 ∷ 1 ∷ 2 ∷ 256 ∷ [])) ≡ unreadableLine
+  pub bad-list : output (spaced (3 ∷ 1 ∷ 1 ∷ 0 ∷ 1 ∷ 1 ∷ 1 ∷ 1 ∷ 2 ∷ 4 ∷ [])) ≡ refusedLine 3
+  -- 16 bits of 65536 would be a good entry
+  pub large-entry : output (spaced (1 ∷ 1 ∷ 1 ∷ 0 ∷ 65536 ∷ 7 ∷ [])) ≡ refusedLine 3
+  pub nine-blocks : output (spaced (9 ∷ 1 ∷ 1 ∷ 0 ∷ [])) ≡ refusedLine 1

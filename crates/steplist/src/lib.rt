@@ -4,9 +4,9 @@ pub mod line;
 pub mod listed;
 pub mod rest;
 
-ghost use Rattle.steplist.specs.Example.{Example};
+ghost use Rattle.steplist.specs.Example.{Examples};
 
-// The theorem about the definitions, as the contract of a function that does nothing: the check demands its proof.
+// The examples, as the contract of a function that does nothing: the check demands their proof.
 pub fn claims()
-    ensures example { λ _. ⌜ Example ⌝ }
+    ensures examples { λ _. ⌜ Examples ⌝ }
 {}
