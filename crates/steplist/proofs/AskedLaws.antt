@@ -19,7 +19,7 @@ use Rattle.listing.specs.Found.{requestIn, askedAs}
 use Rattle.listing.specs.declared.request.Request.{Request}
 use Rattle.listing.proofs.RequestLaws.{bounded, few-originals}
 use Rattle.steplist.specs.Output.{answered, output}
-use Rattle.steplist.specs.Listing.{Asked, Readable, Counts}
+use Rattle.steplist.specs.Given.{Asked, Readable, Counts}
 
 drop-take : (a b : ℕ) (xs : List ℕ) → a ≤ b → a ≤ length xs → drop a (take b xs) ≡ take (b - a) (drop a xs)
 drop-take a b xs h l =

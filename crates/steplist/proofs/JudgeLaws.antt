@@ -3,25 +3,25 @@ use mathlib.Core.Path.{_≡_, refl, sym, ap, _∙_}
 use mathlib.Core.Logic.{⊎-elim, _≢_}
 use mathlib.Core.Bool.{Bool, true, false, not, _||_, true≢false}
 use mathlib.Core.List.{List, [], _∷_}
-use Prim.Native.Nat.{ℕ, _*_, _≤_, _<_}
+use Prim.Native.Nat.{ℕ, _*_, _≤_}
 use native.Mathlib.Omega.{arith}
-use lib.Dec.{leb, eqb}
+use lib.Dec.{leb}
 use lib.ListN.{length}
 use borrow.Author.Tests.{eq-eqb, leb-false, le-leb}
 use Rattle.flash.specs.Lists.{any, all}
-use Rattle.flash.specs.Tables.{refusal}
-use Rattle.flash.specs.Geometry.{Sizes, inRange, originalCount}
+use Rattle.flash.specs.Geometry.{Sizes, inRange}
 use Rattle.flash.proofs.Bools.{bool-cases}
 use Rattle.flash.proofs.Tables.{refusal-skip, refusal-nil}
 use Rattle.flash.proofs.Bounds.{range-in}
-use Rattle.split.specs.OneToOne.{metTwice, badList}
+use Rattle.split.specs.OneToOne.{badList}
 use Rattle.split.specs.Answer.{splitRows, splitAnswer, SplitAnswered}
 use Rattle.split.proofs.Answers.{passed}
 use Rattle.listing.specs.Lines.{refusedLine}
 use Rattle.listing.specs.Request.{isAllowed, request}
 use Rattle.listing.proofs.RequestLaws.{bounded, few-originals}
 use Rattle.steplist.specs.Output.{listed, answered}
-use Rattle.steplist.specs.Listing.{Accepted}
+use Rattle.steplist.specs.Given.{Readable, Accepted}
+use Rattle.steplist.proofs.StartLaws.{in-bounds}
 
 -- "A number such as 65536 is judged before anything is cut to 16 bits": it is at or above n × m
 large-entry : (originals : ℕ) (list : List ℕ) → originals ≤ 65536 → all (λ number. leb number 65535) list ≡ false → any (leb originals) list ≡ true
@@ -48,17 +48,7 @@ module _ (n m P s : ℕ) (allowed : isAllowed (record { n = n; m = m; P = P; s =
       rw (large-entry (n * m) list (omega (arith, few-originals n m (l .few-blocks) (l .few-pages))) e)
 
   in-range : inRange Z ≡ true
-  in-range =
-      let l = bounded n m P s allowed in
-      range-in Z (record {
-        n-low = l .some-blocks;
-        n-high = omega arith;
-        m-low = l .some-pages;
-        m-high = omega arith;
-        P-low = l .some-bytes;
-        P-high = omega arith;
-        s-high = l .letter;
-      })
+  in-range = range-in Z (in-bounds n m P s allowed)
 
   module _ (old sets : List ℕ) (number : ℕ) (list-length : length list ≡ n * m) (sets-length : length old ≡ n * m) (S : SplitAnswered Z list old number sets) where
     -- only row 3 can fit
@@ -81,16 +71,9 @@ module _ (n m P s : ℕ) (allowed : isAllowed (record { n = n; m = m; P = P; s =
       unfolding splitAnswer
       good = passed Z list old (sym (S .number-is) ∙ e) .good
 
-      pub is-split : length bytes ≡ n * m * P → all (λ byte. leb byte 255) bytes ≡ true → Accepted Z list sets bytes
+      pub is-split : Readable Z list bytes → Accepted Z list sets bytes
       unfolding splitAnswer
-      is-split size fit = record {
-        allowed = allowed;
-        list-length = list-length;
-        good = good;
-        sets-is = S .sets-are ∙ rw (eq-eqb _ 0 (sym (S .number-is) ∙ e));
-        bytes-length = size;
-        bytes-fit = fit;
-      }
+      is-split R = record { readable = R; good = good; sets-is = S .sets-are ∙ rw (eq-eqb _ 0 (sym (S .number-is) ∙ e)) }
 
       pub is-listed : (text : List ℕ) → text ≡ listed Z list bytes → text ≡ answered (request Z list bytes)
       unfolding answered

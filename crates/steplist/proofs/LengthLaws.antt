@@ -1,5 +1,5 @@
 -- How long a line can be.
-use mathlib.Core.Path.{_≡_, ap, _∙_}
+use mathlib.Core.Path.{_≡_}
 use mathlib.Core.Logic.{⊎-elim}
 use mathlib.Core.Bool.{true, false}
 use mathlib.Core.List.{List}
@@ -8,12 +8,11 @@ use native.Mathlib.Omega.{arith}
 use native.Mathlib.Nat.{mul-le-mul}
 use lib.Dec.{ltb}
 use lib.ListN.{length, length-append}
-use Rattle.flash.specs.Lists.{concatMap}
 use Rattle.flash.specs.Geometry.{Sizes}
 use Rattle.flash.proofs.Bools.{bool-cases}
-use Rattle.method.specs.Place.{Pass, forward, backward, Operation, write, erase, operationAt, passAt, filling, filled, lastPlace}
-use Rattle.method.proofs.Places.{nextBlock, page-cases, pages-in, filling-in, operation-writes, operation-erases}
-use Rattle.listing.specs.Digits.{placesUpTo, places, decimal, hex}
+use Rattle.method.specs.Place.{Pass, forward, backward, operationAt, passAt, filling, filled, lastPlace}
+use Rattle.method.proofs.Places.{nextBlock, page-cases, filling-in, operation-writes, operation-erases}
+use Rattle.listing.specs.Digits.{placesUpTo, places, decimal}
 use Rattle.listing.specs.Lines.{writeLine, eraseLine, endLine, refusedLine}
 use Rattle.listing.proofs.DigitLaws.{length-digits, one-place}
 use Rattle.listing.proofs.PrintLaws.{length-hex}

@@ -1,31 +1,31 @@
 -- The store that the program fills is at rest, and the run from it is not refused.
-use mathlib.Core.Path.{_≡_, refl, sym, ap, _∙_}
-use mathlib.Core.Bool.{true, false, not}
+use mathlib.Core.Path.{_≡_, ap, _∙_}
+use mathlib.Core.Bool.{true, not}
 use mathlib.Core.List.{List, _++_}
 use Prim.Native.Nat.{ℕ, _+_, _-_, _*_, _≤_, _<_}
 use native.Mathlib.Nat.{add-mul, mul-le-mul-right}
 use native.Mathlib.Omega.{arith}
-use lib.ListN.{length, getD, take, drop, replicate, length-append, length-drop, length-replicate, getD-replicate, List·getD-append}
+use lib.ListN.{length, drop, replicate, length-append, length-drop, length-replicate, getD-replicate, List·getD-append}
 use lib.Seq.{getD-append-add, take-append-le, drop-append-le}
 use Rattle.flash.specs.Lists.{range, all, part}
-use Rattle.flash.specs.Geometry.{Sizes, inRange, slot, originalCount, storeLength, marksLength}
+use Rattle.flash.specs.Geometry.{Sizes, slot, originalCount, storeLength, marksLength}
 use Rattle.flash.specs.Chip.{Chip, pageAt, markAt, isBlank, isFull}
 use Rattle.flash.proofs.Bounds.{Bounds, slot-in-marks}
 use Rattle.flash.proofs.Ranges.{all-is}
 use Rattle.flash.proofs.Parts.{part-fits, part-replicate}
 use Rattle.flash.proofs.Blocks.{full-of}
 use Rattle.flash.proofs.Chips.{blank-of}
-use Rattle.split.specs.OneToOne.{badList, isOneToOne}
-use Rattle.split.specs.Rule.{splitByRule}
+use Rattle.split.specs.OneToOne.{isOneToOne}
 use Rattle.split.proofs.RuleLaws.{rule-split, rule-length}
 use Rattle.method.specs.Move.{Move}
 use Rattle.method.specs.State.{isAtRest, atRest}
-use Rattle.method.specs.Step.{Running}
 use Rattle.method.proofs.Shape as shape
 use Rattle.method.proofs.Accepting.{taken-run}
 use Rattle.method.proofs.Rest.{rest-stands}
+use Rattle.listing.specs.Request.{isAllowed}
 use Rattle.listing.proofs.RequestLaws.{Bounded, bounded}
-use Rattle.steplist.specs.Listing.{moveOf, runningOf, Listable, Accepted}
+use Rattle.steplist.specs.Listing.{moveOf, runningOf, Listable}
+use Rattle.steplist.specs.Given.{Accepted}
 
 module _ (Z : Sizes) (originals : List ℕ) where
   open Sizes Z using (n, m, P, s)
@@ -76,6 +76,20 @@ module _ (Z : Sizes) (originals : List ℕ) where
   unfolding atRest
   marks-size = length-append (replicate m 255) (replicate (n * m) s) ∙ omega (arith, length-replicate {A = ℕ} m 255, length-replicate {A = ℕ} (n * m) s, add-mul n 1 m)
 
+-- the program's limits are within the ranges
+pub in-bounds : (n m P s : ℕ) → isAllowed (record { n = n; m = m; P = P; s = s }) ≡ true → Bounds (record { n = n; m = m; P = P; s = s })
+in-bounds n m P s e =
+    let l = bounded n m P s e in
+    record {
+      n-low = l .some-blocks;
+      n-high = omega arith;
+      m-low = l .some-pages;
+      m-high = omega arith;
+      P-low = l .some-bytes;
+      P-high = omega arith;
+      s-high = l .letter;
+    }
+
 module _ (n m P s : ℕ) (list sets bytes : List ℕ) where
   abbrev Z : Sizes
   Z = record { n = n; m = m; P = P; s = s }
@@ -85,7 +99,7 @@ module _ (n m P s : ℕ) (list sets bytes : List ℕ) where
 
   module _ (A : Accepted Z list sets bytes) where
     limits : Bounded n m P s
-    limits = bounded n m P s (A .allowed)
+    limits = bounded n m P s (A .readable .allowed)
 
     one-to-one : isOneToOne (n * m) list ≡ true
     unfolding isOneToOne
@@ -93,21 +107,12 @@ module _ (n m P s : ℕ) (list sets bytes : List ℕ) where
 
     accepted : shape.Accepted M
     accepted =
-        let l = limits in
         record {
-          ranges = record {
-            n-low = l .some-blocks;
-            n-high = omega arith;
-            m-low = l .some-pages;
-            m-high = omega arith;
-            P-low = l .some-bytes;
-            P-high = omega arith;
-            s-high = l .letter;
-          };
-          list-length = A .list-length;
-          sets-length = ap length (A .sets-is) ∙ rule-length n m list (A .list-length) one-to-one;
+          ranges = in-bounds n m P s (A .readable .allowed);
+          list-length = A .readable .list-length;
+          sets-length = ap length (A .sets-is) ∙ rule-length n m list (A .readable .list-length) one-to-one;
           one-to-one = one-to-one;
-          split = rw (A .sets-is) (rule-split n m list (A .list-length) one-to-one);
+          split = rw (A .sets-is) (rule-split n m list (A .readable .list-length) one-to-one);
         }
 
     pub listable : (work : List ℕ) → length work ≡ P → Listable M (record { chip = atRest Z bytes; work = work }) 0
@@ -119,8 +124,8 @@ module _ (n m P s : ℕ) (list sets bytes : List ℕ) where
           short-pages = l .short-pages;
           taken = taken-run M (atRest Z bytes) work 0 (record {
             accepted = accepted;
-            lent = record { store-length = store-size Z bytes (A .bytes-length); marks-length = marks-size Z bytes; work-length = e };
-            stands = rest-stands M accepted (atRest Z bytes) (store-size Z bytes (A .bytes-length)) (marks-size Z bytes) (is-at-rest Z bytes);
+            lent = record { store-length = store-size Z bytes (A .readable .bytes-length); marks-length = marks-size Z bytes; work-length = e };
+            stands = rest-stands M accepted (atRest Z bytes) (store-size Z bytes (A .readable .bytes-length)) (marks-size Z bytes) (is-at-rest Z bytes);
           });
         }
 

@@ -1,27 +1,21 @@
 -- One step more: what it leaves, counts and prints.
-use mathlib.Core.Path.{_≡_, refl, sym, ap, ap₂, _∙_}
-use mathlib.Core.List.{List, [], _++_, append-assoc, append-nil}
-use Prim.Native.Nat.{ℕ, zero, suc, _+_, _*_, _≤_, _<_}
-use native.Mathlib.Nat.{zero-add, suc-add, add-zero, add-suc}
+use mathlib.Core.Path.{_≡_, refl, ap, ap₂, _∙_}
+use mathlib.Core.List.{List}
+use Prim.Native.Nat.{ℕ, _≤_, _<_}
 use native.Mathlib.Omega.{arith}
-use lib.ListN.{length, take}
-use Rattle.flash.specs.Tables.{refusal}
-use Rattle.flash.specs.Geometry.{Sizes}
+use lib.ListN.{length}
 use Rattle.flash.specs.Chip.{Chip}
 use Rattle.method.specs.Move.{Move}
 use Rattle.method.specs.Place.{writes, forwardTurn, backwardTurn, operations, operationAt, lastPlace}
 use Rattle.method.specs.Step.{Running, step, steps, tally, operationsFrom}
-use Rattle.method.specs.Answers.{RunAnswer, runRows, stepsTaken, runAnswer}
-use Rattle.method.proofs.Runs.{steps-add}
-use Rattle.method.proofs.Tallies.{tally-split, tally-total, steps-tallied}
-use Rattle.method.proofs.Accepting.{RunTaken, run-taken, taken-run}
+use Rattle.method.specs.Answers.{stepsTaken, runAnswer}
+use Rattle.method.proofs.Accepting.{run-taken}
 use Rattle.method.proofs.RunClaims.{answerOf, run-answer, still-taken}
 use Rattle.mover.specs.declared.run.Ran.{Ran}
 use Rattle.mover.specs.Answers.{Answers}
-use Rattle.steplist.specs.Output.{stepLine, stepLines}
-use Rattle.steplist.specs.Listing.{runningOf, Listable, Stepped, Shows}
-use Rattle.steplist.specs.declared.listed.Shown.{Shown}
-use Rattle.steplist.proofs.LengthLaws.{line-short, few-steps}
+use Rattle.steplist.specs.Output.{stepLine}
+use Rattle.steplist.specs.Listing.{runningOf, Listable}
+use Rattle.steplist.proofs.LengthLaws.{line-short}
 
 -- P and s are nothing to the operation of a place
 pub same-operation : (n m P s place : ℕ) → operationAt (record { n = n; m = m; P = 0; s = s }) place ≡ operationAt (record { n = n; m = m; P = P; s = s }) place

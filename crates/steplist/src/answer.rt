@@ -3,9 +3,10 @@ ghost use mathlib.Core.Path.{_≡_};
 ghost use Prim.Native.Nat.{_*_, _≤_};
 ghost use lib.ListN.{length, take};
 ghost use Rattle.listing.specs.Request.{request};
-ghost use Rattle.steplist.specs.Output.{listed, answered, output};
-ghost use Rattle.steplist.specs.Listing.{mostOutput, Asked, Readable, Accepted, Empty, Counts};
 ghost use Rattle.listing.specs.Found.{requestIn};
+ghost use Rattle.steplist.specs.Output.{listed, answered, output};
+ghost use Rattle.steplist.specs.Listing.{mostOutput};
+ghost use Rattle.steplist.specs.Given.{Asked, Readable, Accepted, Empty, Counts};
 use crate::listed::put_listing;
 use crate::rest::put_marks;
 use crate::rest::put_store;
@@ -22,6 +23,22 @@ use listing::request::limit;
 use listing::request::numbers_due;
 use listing::request::read;
 use split::call::split;
+
+// Room for the longest output.
+pub const MOST_OUTPUT: usize = 32768;
+
+// The largest number that an entry of 16 bits holds.
+const MOST_ENTRY: u32 = 65535;
+
+// The most originals: n and m are at most 8.
+const MOST_ORIGINALS: usize = 64;
+
+// The most slots, with the spare's.
+const MOST_SLOTS: usize = 72;
+
+const MOST_PAGE: usize = 64;
+
+const MOST_STORE: usize = 4608;
 
 // Fills the store and the marks as they are at rest, and lists the move.
 fn put_from_rest(
@@ -45,21 +62,6 @@ fn put_from_rest(
     put_marks(m, s as u8, marks);
     put_listing(out, n, m, p, s, list, sets, store, marks, work)
 }
-
-// Room for the longest output.
-pub const MOST_OUTPUT: usize = 32768;
-
-// The largest number that an entry of 16 bits holds.
-const MOST_ENTRY: u32 = 65535;
-
-// The largest lent parts: 8 × 8 originals, 9 × 8 slots of 64 bytes.
-const MOST_ORIGINALS: usize = 64;
-
-const MOST_STORE: usize = 4608;
-
-const MOST_SLOTS: usize = 72;
-
-const MOST_PAGE: usize = 64;
 
 // Lists the move of an accepted request.
 fn put_accepted(

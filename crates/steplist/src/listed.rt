@@ -1,11 +1,8 @@
 // The lines of all steps and the end line.
 ghost use mathlib.Core.Path.{_≡_};
-ghost use mathlib.Core.List.{_++_};
 ghost use Prim.Native.Nat.{_+_, _≤_, _<_};
 ghost use lib.ListN.{length, take};
-ghost use Rattle.method.specs.Place.{lastPlace, operations};
-ghost use Rattle.method.specs.Step.{tally};
-ghost use Rattle.listing.specs.Lines.{endLine};
+ghost use Rattle.method.specs.Place.{lastPlace};
 ghost use Rattle.steplist.specs.Output.{moveLines};
 ghost use Rattle.steplist.specs.Listing.{moveOf, runningOf, Listable, mostLine, mostOutput, Stepped, Shows};
 use crate::line::put_line;

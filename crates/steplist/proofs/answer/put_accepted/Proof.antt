@@ -1,5 +1,5 @@
 use native.Mathlib.Omega.{arith}
-use mathlib.Core.Path.{_≡_, sym, _∙_}
+use mathlib.Core.Path.{sym, _∙_}
 use Prim.Native.Nat.{_+_, _*_, _≤_}
 use Rattle.flash.proofs.Bounds.{product-le}
 use Rattle.listing.proofs.RequestLaws.{Bounded, bounded}
@@ -9,7 +9,7 @@ use Rattle.steplist.proofs.answer.put_accepted.Statement.{statement}
 use Rattle.steplist.proofs.answer.put_accepted.Tie as tie
 
 limits : (c : tie.Start) → (let a = c .args in Bounded (a .n) (a .m) (a .p) (a .s))
-limits c = bounded (c .args .n) (c .args .m) (c .args .p) (c .args .s) (c .pre .0 .allowed)
+limits c = bounded (c .args .n) (c .args .m) (c .args .p) (c .args .s) (c .pre .0 .readable .allowed)
 
 -- the lent parts fit into the arrays
 sizes : (c : tie.After-slot-count) → (c .before .store-length .result ≤ 4608) × (c .slot-count .result ≤ 72)

@@ -31,7 +31,7 @@ put-store-requires c κs = search needs
 cast-put-marks : tie.Need-cast-put-marks
 cast-put-marks c =
     let a = c .before .before .before .before .before .before .before .before .before .before .before .args in
-    omega (arith, bounded (a .n) (a .m) (a .p) (a .s) (c .before .before .before .before .before .before .before .before .before .before .before .pre .0 .allowed))
+    omega (arith, bounded (a .n) (a .m) (a .p) (a .s) (c .before .before .before .before .before .before .before .before .before .before .before .pre .0 .readable .allowed))
 
 put-marks-requires : tie.Need-put-marks-requires
 put-marks-requires c κs = search needs

@@ -62,7 +62,7 @@ put-accepted-requires c κs =
     let start = c .before .before .before .before .before .before .before .before .before .before .before .before .before .before .before .before .before .before .before .before in
     let a = start .args in
     let split = c .before .before .before .before .before .before .split in
-    (rw (c .before .before .before .before .before .before .before .before .before .before .before .put-entries .ensures) (is-split (a .n) (a .m) (a .p) (a .s) (start .pre .0 .allowed) (a .entries .now) (a .originals .now) (a .sets .now) (split .last .1 .1 .1 .1 .1 .0) (split .result) (start .pre .0 .list-length) (start .pre .2) (judged (c .before .before .before .before .before .before)) (c .before .before .before .if2 .left) (start .pre .0 .bytes-length) (start .pre .0 .bytes-fit)), omega arith)
+    (rw (c .before .before .before .before .before .before .before .before .before .before .before .put-entries .ensures) (is-split (a .n) (a .m) (a .p) (a .s) (start .pre .0 .allowed) (a .entries .now) (a .originals .now) (a .sets .now) (split .last .1 .1 .1 .1 .1 .0) (split .result) (start .pre .0 .list-length) (start .pre .2) (judged (c .before .before .before .before .before .before)) (c .before .before .before .if2 .left) (start .pre .0)), omega arith)
 
 same-length-5 : tie.Need-same-length-5
 same-length-5 c = search needs

@@ -1,6 +1,5 @@
 use mathlib.Core.Path.{_∙_}
 use native.Mathlib.Omega.{arith}
-use Rattle.flash.proofs.Bounds.{Bounds}
 use Rattle.method.proofs.Accepting.{run-taken}
 use Rattle.steplist.specs.Listing.{moveOf, runningOf}
 use Rattle.steplist.proofs.StepLaws.{same-operation, OneStep, one-step}
