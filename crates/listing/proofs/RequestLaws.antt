@@ -3,13 +3,13 @@ use mathlib.Core.Path.{_≡_, sym, ap, _∙_}
 use mathlib.Core.Bool.{Bool, true, false, cond, _&&_}
 use mathlib.Core.List.{List, [], _++_}
 use mathlib.Core.Option.{Option, none, some}
-use Prim.Native.Nat.{ℕ, _+_, _-_, _*_, _≤_}
+use Prim.Native.Nat.{ℕ, _+_, _-_, _*_, _≤_, _<_}
 use native.Mathlib.Nat.{mul-le-mul}
 use native.Mathlib.Omega.{arith}
-use lib.Dec.{eqb, leb}
+use lib.Dec.{eqb, leb, ltb}
 use lib.ListN.{length, take, drop, length-drop}
 use lib.Seq.{length-take-le, drop-append-le, take-at}
-use borrow.Author.Tests.{leb-true}
+use borrow.Author.Tests.{leb-true, ltb-true}
 use Rattle.flash.specs.Lists.{all}
 use Rattle.flash.specs.Geometry.{isLetter}
 use Rattle.flash.proofs.Bools.{and-left, and-right}
@@ -18,27 +18,37 @@ use Rattle.listing.specs.Numbers.{numbersIn, Taken, taken}
 use Rattle.listing.specs.Request.{unreadable, refused, isAllowed, exactly, requested, afterSizes, reading}
 use Rattle.listing.specs.Found.{sizesAs, requestIn}
 
--- the bounds among the program's limits that products need
-pub record Bounded (n m P : ℕ) : Type 0 where
+-- the program's limits
+pub record Bounded (n m P s : ℕ) : Type 0 where
+  pub some-blocks : 1 ≤ n
   pub few-blocks : n ≤ 8
+  pub some-pages : 1 ≤ m
   pub few-pages : m ≤ 8
+  pub some-bytes : 1 ≤ P
   pub short-pages : P ≤ 64
+  pub letter : s < 3
 
-pub bounded : (n m P s : ℕ) → isAllowed (record { n = n; m = m; P = P; s = s }) ≡ true → Bounded n m P
-unfolding isAllowed
+pub bounded : (n m P s : ℕ) → isAllowed (record { n = n; m = m; P = P; s = s }) ≡ true → Bounded n m P s
+unfolding isAllowed isLetter
 bounded n m P s e =
     let one : Bool = leb 1 n in
     let two : Bool = one && leb n 8 in
     let three : Bool = two && leb 1 m in
     let four : Bool = three && leb m 8 in
     let five : Bool = four && leb 1 P in
-    let f = and-left (five && leb P 64) (isLetter s) e in
-    let q = and-left four (leb 1 P) (and-left five (leb P 64) f) in
-    let t = and-left two (leb 1 m) (and-left three (leb m 8) q) in
+    let f = and-left (five && leb P 64) (ltb s 3) e in
+    let g = and-left five (leb P 64) f in
+    let q = and-left four (leb 1 P) g in
+    let h = and-left three (leb m 8) q in
+    let t = and-left two (leb 1 m) h in
     record {
+      some-blocks = leb-true 1 n (and-left one (leb n 8) t);
       few-blocks = leb-true n 8 (and-right one (leb n 8) t);
+      some-pages = leb-true 1 m (and-right two (leb 1 m) h);
       few-pages = leb-true m 8 (and-right three (leb m 8) q);
+      some-bytes = leb-true 1 P (and-right four (leb 1 P) g);
       short-pages = leb-true P 64 (and-right five (leb P 64) f);
+      letter = ltb-true s 3 (and-right (five && leb P 64) (ltb s 3) e);
     }
 
 pub few-originals : (n m : ℕ) → n ≤ 8 → m ≤ 8 → n * m ≤ 64

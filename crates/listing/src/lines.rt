@@ -1,10 +1,10 @@
-// The lines of a step and the end line, each printed into a lent part from a position on. Each function answers the next position.
+// The lines that the program writes, each printed into a lent part from a position on. Each function answers the next position.
 ghost use mathlib.Core.List.{_∷_, _++_};
 ghost use Prim.Native.Nat.{_+_, _≤_};
 ghost use lib.ListN.{length};
 ghost use Rattle.flash.specs.Lists.{concatMap};
 ghost use Rattle.listing.specs.Digits.{decimal, hex};
-ghost use Rattle.listing.specs.Lines.{Printed, writeLine, eraseLine, endLine};
+ghost use Rattle.listing.specs.Lines.{Printed, writeLine, eraseLine, endLine, refusedLine, unreadableLine};
 use crate::digits::put_decimal;
 use crate::digits::put_field;
 use crate::digits::put_hex;
@@ -60,4 +60,19 @@ pub fn put_end(out: &mut [u8], at: usize, writes: usize, erases: usize) -> usize
     let past_writes = put_field(out, at, b"end ", writes);
     let past_erases = put_field(out, past_writes, b" ", erases);
     put_text(out, past_erases, b"\n")
+}
+
+pub fn put_refused(out: &mut [u8], at: usize, number: usize) -> usize
+    requires { ⌜ at + length (refusedLine number) ≤ length (now out) ⌝ }
+    ensures { λ r. ⌜ Printed (refusedLine number) (now (out .entry)) at (now (out .exit)) r ⌝ }
+{
+    let past_number = put_field(out, at, b"refused ", number);
+    put_text(out, past_number, b"\n")
+}
+
+pub fn put_unreadable(out: &mut [u8], at: usize) -> usize
+    requires { ⌜ at + length unreadableLine ≤ length (now out) ⌝ }
+    ensures { λ r. ⌜ Printed unreadableLine (now (out .entry)) at (now (out .exit)) r ⌝ }
+{
+    put_text(out, at, b"unreadable\n")
 }

@@ -85,7 +85,8 @@ fn is_allowed(n: usize, m: usize, p: usize, s: usize) -> bool
     (1 <= n) & (n <= 8) & (1 <= m) & (m <= 8) & (1 <= p) & (p <= 64) & (s < 3)
 }
 
-fn numbers_due(count: usize, p: usize) -> usize
+// How many numbers follow the sizes: the entries, and p bytes for each.
+pub fn numbers_due(count: usize, p: usize) -> usize
     requires { ⌜ (count ≤ 64) × (p ≤ 64) ⌝ }
     ensures { λ r. ⌜ (r ≡ count + count * p) × (r ≤ 4160) ⌝ }
 {
@@ -133,8 +134,7 @@ pub enum Request {
 }
 
 // Reads the input.
-pub fn read(text: &[u8], numbers: &mut [u32]) -> Request
-    requires { ⌜ 4160 ≤ length (now numbers) ⌝ }
+pub fn read(text: &[u8], numbers: &mut [u32; MOST_NUMBERS]) -> Request
     ensures { λ r. ⌜ askedAs (now (numbers .exit)) r ≡ reading (now (text .entry)) ⌝ }
 {
     let SizesRead::Sizes { n, m, p, s, next } = read_sizes(text) else {

@@ -22,7 +22,7 @@ end 6 6
 ";
 
 /// Two pages of two bytes a block; the list of P1.
-const TWO_BY_TWO: &str = "2 2 2 1 0 2 1 3 1 16 2 32 4 64 8 128";
+pub const TWO_BY_TWO: &str = "2 2 2 1 0 2 1 3 1 16 2 32 4 64 8 128";
 const TWO_BY_TWO_TEXT: &str = "\
 0 W 0 0 0660
 1 W 0 1 0110

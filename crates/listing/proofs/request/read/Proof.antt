@@ -18,14 +18,14 @@ enum-told : tie.Need-enum-told
 enum-told c = search needs
 
 returns : tie.Need-returns
-returns c = no-sizes (c .before .before .before .before .before .args .text .now) (ap (sizesAs (c .before .before .before .before .before .args .text .now)) (sym (c .enum-told .given .1)) ∙ c .before .before .read-sizes .ensures)
+returns c = no-sizes (c .before .before .before .before .args .text .now) (ap (sizesAs (c .before .before .before .before .args .text .now)) (sym (c .enum-told .given .1)) ∙ c .before .before .read-sizes .ensures)
 
 is-allowed-requires : tie.Need-is-allowed-requires
 is-allowed-requires c κs = search needs
 
 returns-2 : tie.Need-returns-2
 returns-2 c =
-    let text = c .before .before .before .before .before .before .before .before .args .text .now in
+    let text = c .before .before .before .before .before .before .before .args .text .now in
     let v = c .before .before .before .n .given in
     not-allowed text _ _ _ _ (v .0 .1 .1 .1 .1 .0) (ap (sizesAs text) (sym (v .1)) ∙ c .before .before .before .before .before .read-sizes .ensures) (sym (c .before .is-allowed .ensures) ∙ not-true _ (c .if1 .taken))
 
@@ -39,25 +39,19 @@ read-numbers-requires c κs =
     let l = bounded _ _ _ _ (sym (c .before .before .before .is-allowed .ensures) ∙ not-false _ (c .before .before .if1 .left)) in
     omega (arith, few-originals _ _ (l .few-blocks) (l .few-pages))
 
-same-length : tie.Need-same-length
-same-length c = search needs
-
 returns-3 : tie.Need-returns-3
 returns-3 c =
-    let text = c .before .before .before .before .before .before .before .before .before .before .before .before .before .before .args .text .now in
-    let sizes = ap (sizesAs text) (sym (c .before .before .before .before .before .before .before .before .before .n .given .1)) ∙ c .before .before .before .before .before .before .before .before .before .before .before .read-sizes .ensures in
-    let allowed = sym (c .before .before .before .before .before .before .before .is-allowed .ensures) ∙ not-false _ (c .before .before .before .before .before .before .if1 .left) in
-    as-asked text _ _ _ _ (c .before .before .before .before .before .before .before .before .before .n .given .0 .1 .1 .1 .1 .0) sizes (c .before .before .before .before .before .original-count .result) true (c .before .before .before .read-numbers .last .1 .1 .1 .1 .0) allowed (c .before .before .before .before .before .original-count .ensures) (rw (c .if2 .taken) at (c .before .before .before .read-numbers .ensures))
-
-same-length-2 : tie.Need-same-length-2
-same-length-2 c = search needs
+    let text = c .before .before .before .before .before .before .before .before .before .before .before .args .text .now in
+    let sizes = ap (sizesAs text) (sym (c .before .before .before .before .before .before .before .n .given .1)) ∙ c .before .before .before .before .before .before .before .before .before .read-sizes .ensures in
+    let allowed = sym (c .before .before .before .before .before .is-allowed .ensures) ∙ not-false _ (c .before .before .before .before .if1 .left) in
+    as-asked text _ _ _ _ (c .before .before .before .before .before .before .before .n .given .0 .1 .1 .1 .1 .0) sizes (c .before .before .before .original-count .result) true (c .before .read-numbers .last .1 .1 .1 .1 .0) allowed (c .before .before .before .original-count .ensures) (rw (c .if2 .taken) at (c .before .read-numbers .ensures))
 
 returns-4 : tie.Need-returns-4
 returns-4 c =
-    let text = c .before .before .before .before .before .before .before .before .before .before .before .before .before .before .args .text .now in
-    let sizes = ap (sizesAs text) (sym (c .before .before .before .before .before .before .before .before .before .n .given .1)) ∙ c .before .before .before .before .before .before .before .before .before .before .before .read-sizes .ensures in
-    let allowed = sym (c .before .before .before .before .before .before .before .is-allowed .ensures) ∙ not-false _ (c .before .before .before .before .before .before .if1 .left) in
-    as-asked text _ _ _ _ (c .before .before .before .before .before .before .before .before .before .n .given .0 .1 .1 .1 .1 .0) sizes (c .before .before .before .before .before .original-count .result) false (c .before .before .before .read-numbers .last .1 .1 .1 .1 .0) allowed (c .before .before .before .before .before .original-count .ensures) (rw (c .if2 .left) at (c .before .before .before .read-numbers .ensures))
+    let text = c .before .before .before .before .before .before .before .before .before .before .before .args .text .now in
+    let sizes = ap (sizesAs text) (sym (c .before .before .before .before .before .before .before .n .given .1)) ∙ c .before .before .before .before .before .before .before .before .before .read-sizes .ensures in
+    let allowed = sym (c .before .before .before .before .before .is-allowed .ensures) ∙ not-false _ (c .before .before .before .before .if1 .left) in
+    as-asked text _ _ _ _ (c .before .before .before .before .before .before .before .n .given .0 .1 .1 .1 .1 .0) sizes (c .before .before .before .original-count .result) false (c .before .read-numbers .last .1 .1 .1 .1 .0) allowed (c .before .before .before .original-count .ensures) (rw (c .if2 .left) at (c .before .read-numbers .ensures))
 
 pub read-spec : {M : Type 1} → statement M
-read-spec = tie.close (tie.spec read-sizes-requires enum-known-n enum-told returns is-allowed-requires returns-2 original-count-requires read-numbers-requires same-length returns-3 same-length-2 returns-4)
+read-spec = tie.close (tie.spec read-sizes-requires enum-known-n enum-told returns is-allowed-requires returns-2 original-count-requires read-numbers-requires returns-3 returns-4)

@@ -1,0 +1,110 @@
+-- The numbers of a request, cut into its list and its bytes.
+use mathlib.Core.Path.{_≡_, refl, sym, ap, ap₂, _∙_}
+use mathlib.Core.Logic.{⊎-elim}
+use mathlib.Core.Bool.{Bool, true, false, _&&_}
+use mathlib.Core.List.{List, []}
+use mathlib.Core.Option.{Option, none, some}
+use Prim.Native.Nat.{ℕ, _+_, _-_, _*_, _≤_}
+use native.Mathlib.Omega.{arith}
+use lib.Dec.{eqb, leb}
+use lib.ListN.{length, take, drop, length-drop}
+use lib.Seq.{take-take, take-add, drop-at, length-take-le}
+use Rattle.flash.specs.Lists.{all}
+use Rattle.flash.specs.Geometry.{Sizes, originalCount}
+use Rattle.flash.proofs.Bools.{bool-cases, and-left, and-right}
+use Rattle.flash.proofs.Bounds.{product-le}
+use Rattle.listing.specs.Numbers.{numbersIn, Taken, taken}
+use Rattle.listing.specs.Request.{Reading, unreadable, refused, request, isAllowed, sizesOf, numbersDue, exactly, requested, afterSizes, reading, withinLimit}
+use Rattle.listing.specs.Found.{requestIn, askedAs}
+use Rattle.listing.specs.declared.request.Request.{Request}
+use Rattle.listing.proofs.RequestLaws.{bounded, few-originals}
+use Rattle.steplist.specs.Output.{answered, output}
+use Rattle.steplist.specs.Given.{Asked, Readable, Counts}
+
+drop-take : (a b : ℕ) (xs : List ℕ) → a ≤ b → a ≤ length xs → drop a (take b xs) ≡ take (b - a) (drop a xs)
+drop-take a b xs h l =
+    let e : b ≡ a + (b - a) = omega arith in
+    ap (λ (k : ℕ). drop a (take k xs)) e ∙ ap (drop a) (take-add a (b - a) xs) ∙ drop-at (take a xs) (take (b - a) (drop a xs)) a (length-take-le a xs l)
+
+module _ (n m P s count due : ℕ) (numbers : List ℕ) (count-is : count ≡ n * m) (due-is : due ≡ count + count * P) (A : Asked (record { n = n; m = m; P = P; s = s }) numbers) (most : 4160 ≤ length numbers) where
+  abbrev Z : Sizes
+  Z = record { n = n; m = m; P = P; s = s }
+
+  all-due : due ≡ n * m + n * m * P
+  all-due = due-is ∙ rw count-is
+
+  pub room : due ≤ length numbers
+  room =
+      let l = bounded n m P s (A .allowed) in
+      let few = few-originals n m (l .few-blocks) (l .few-pages) in
+      omega (arith, all-due, product-le (n * m) P {c = 64} {d = 64} few (l .short-pages))
+
+  list-is : take (n * m) (take (n * m + n * m * P) numbers) ≡ take count numbers
+  list-is = take-take (n * m) (n * m + n * m * P) numbers (omega arith) ∙ ap (λ (k : ℕ). take k numbers) (sym count-is)
+
+  bytes-are : drop (n * m) (take (n * m + n * m * P) numbers) ≡ take (due - count) (drop count numbers)
+  bytes-are = rw (← all-due, ← count-is) (drop-take count due numbers (omega arith) (omega (arith, room)))
+
+  pub readable : Readable Z (take count numbers) (take (due - count) (drop count numbers))
+  readable =
+      let r = room in
+      let left = length-drop count numbers in
+      let d = all-due in
+      record {
+        allowed = A .allowed;
+        list-length = length-take-le count numbers (omega arith) ∙ count-is;
+        bytes-length = length-take-le (due - count) (drop count numbers) (omega arith) ∙ omega arith;
+        bytes-fit = ap (all (λ byte. leb byte 255)) (sym bytes-are) ∙ A .bytes-fit;
+      }
+
+  pub same-request : request Z (take count numbers) (take (due - count) (drop count numbers)) ≡ requestIn numbers Z
+  same-request = ap₂ {C = Reading} (request Z) (sym list-is) (sym bytes-are)
+
+-- what every request that is read has: sizes within the limits, and bytes to 255
+abbrev isSound : Reading → Bool
+isSound unreadable = true
+isSound refused = true
+isSound (request Z list bytes) = isAllowed Z && all (λ byte. leb byte 255) bytes
+
+due-sound : (Z : Sizes) → isAllowed Z ≡ true → (found : Option Taken) → isSound (requested Z (exactly (originalCount Z) found)) ≡ true
+unfolding requested exactly
+due-sound Z e none = refl
+due-sound Z e (some due) =
+    let fit = all (λ byte. leb byte 255) (drop (originalCount Z) (due .values)) in
+    let over = eqb (length (due .rest)) 0 in
+    ⊎-elim
+    (λ (h : (fit && over) ≡ true).
+    let g = and-left fit over h in
+    rw (h, e, g))
+    (λ (h : (fit && over) ≡ false). rw h)
+    (bool-cases (fit && over))
+
+sizes-sound : (found : Option Taken) → isSound (afterSizes found) ≡ true
+unfolding afterSizes
+sizes-sound none = refl
+sizes-sound (some sizes) =
+    let Z = sizesOf (sizes .values) in
+    ⊎-elim
+    (λ (e : isAllowed Z ≡ true). rw e (due-sound Z e (taken [] (numbersDue Z) (sizes .rest))))
+    (λ (e : isAllowed Z ≡ false). rw e)
+    (bool-cases (isAllowed Z))
+
+pub asked : (n m P s : ℕ) (text numbers : List ℕ) → requestIn numbers (record { n = n; m = m; P = P; s = s }) ≡ reading text → Asked (record { n = n; m = m; P = P; s = s }) numbers
+unfolding reading
+asked n m P s text numbers e =
+    let Z : Sizes = record { n = n; m = m; P = P; s = s } in
+    let bytes = all (λ byte. leb byte 255) (drop (originalCount Z) (take (numbersDue Z) numbers)) in
+    let sound : (isAllowed Z && bytes) ≡ true = ap isSound e ∙ sizes-sound (taken [] 4 (numbersIn text)) in
+    let allowed = and-left (isAllowed Z) bytes sound in
+    record {
+      allowed = allowed;
+      bytes-fit = and-right (isAllowed Z) bytes sound;
+    }
+
+-- what the reader told, and the output
+pub answers : (input numbers : List ℕ) (told known : Request) → askedAs numbers told ≡ reading (withinLimit input) → told ≡ known → answered (askedAs numbers known) ≡ output input
+unfolding output
+answers input numbers told known e q = ap answered (ap (askedAs numbers) (sym q) ∙ e)
+
+pub counts : (count : ℕ) (out : List ℕ) → count ≤ length out → Counts count out
+counts count out h = (h, sym (length-take-le count out h))

@@ -1,0 +1,80 @@
+-- When the list is refused, and when it is split.
+use mathlib.Core.Path.{_≡_, refl, sym, ap, _∙_}
+use mathlib.Core.Logic.{⊎-elim, _≢_}
+use mathlib.Core.Bool.{Bool, true, false, not, _||_, true≢false}
+use mathlib.Core.List.{List, [], _∷_}
+use Prim.Native.Nat.{ℕ, _*_, _≤_}
+use native.Mathlib.Omega.{arith}
+use lib.Dec.{leb}
+use lib.ListN.{length}
+use borrow.Author.Tests.{eq-eqb, leb-false, le-leb}
+use Rattle.flash.specs.Lists.{any, all}
+use Rattle.flash.specs.Geometry.{Sizes, inRange}
+use Rattle.flash.proofs.Bools.{bool-cases}
+use Rattle.flash.proofs.Tables.{refusal-skip, refusal-nil}
+use Rattle.flash.proofs.Bounds.{range-in}
+use Rattle.split.specs.OneToOne.{badList}
+use Rattle.split.specs.Answer.{splitRows, splitAnswer, SplitAnswered}
+use Rattle.split.proofs.Answers.{passed}
+use Rattle.listing.specs.Lines.{refusedLine}
+use Rattle.listing.specs.Request.{isAllowed, request}
+use Rattle.listing.proofs.RequestLaws.{bounded, few-originals}
+use Rattle.steplist.specs.Output.{listed, answered}
+use Rattle.steplist.specs.Given.{Readable, Accepted}
+use Rattle.steplist.proofs.StartLaws.{in-bounds}
+
+-- "A number such as 65536 is judged before anything is cut to 16 bits": it is at or above n × m
+large-entry : (originals : ℕ) (list : List ℕ) → originals ≤ 65536 → all (λ number. leb number 65535) list ≡ false → any (leb originals) list ≡ true
+unfolding all any
+large-entry originals [] h e = absurd (true≢false e)
+large-entry originals (entry ∷ list) h e =
+    ⊎-elim
+    (λ (k : leb entry 65535 ≡ true). rw (large-entry originals list h (rw k at e)) (or-true (leb originals entry)))
+    (λ (k : leb entry 65535 ≡ false). rw (le-leb originals entry (omega (arith, leb-false entry 65535 k))))
+    (bool-cases (leb entry 65535))
+  where
+    or-true : (t : Bool) → (t || true) ≡ true
+    or-true true = refl
+    or-true false = refl
+
+module _ (n m P s : ℕ) (allowed : isAllowed (record { n = n; m = m; P = P; s = s }) ≡ true) (list bytes : List ℕ) where
+  abbrev Z : Sizes
+  Z = record { n = n; m = m; P = P; s = s }
+
+  pub too-large : all (λ number. leb number 65535) list ≡ false → answered (request Z list bytes) ≡ refusedLine 3
+  unfolding answered badList
+  too-large e =
+      let l = bounded n m P s allowed in
+      rw (large-entry (n * m) list (omega (arith, few-originals n m (l .few-blocks) (l .few-pages))) e)
+
+  in-range : inRange Z ≡ true
+  in-range = range-in Z (in-bounds n m P s allowed)
+
+  module _ (old sets : List ℕ) (number : ℕ) (list-length : length list ≡ n * m) (sets-length : length old ≡ n * m) (S : SplitAnswered Z list old number sets) where
+    -- only row 3 can fit
+    good-split : badList (n * m) list ≡ false → number ≡ 0
+    unfolding splitAnswer splitRows
+    good-split e =
+        S .number-is
+        ∙ refusal-skip _ _ (ap not in-range) (refusal-skip _ _ (rw (eq-eqb _ _ list-length, eq-eqb _ _ sets-length)) (refusal-skip _ _ e refusal-nil))
+
+    pub not-split : number ≢ 0 → answered (request Z list bytes) ≡ refusedLine 3
+    unfolding answered
+    not-split ne =
+        ⊎-elim
+        (λ (e : badList (n * m) list ≡ true). rw e)
+        (λ (e : badList (n * m) list ≡ false). absurd (ne (good-split e)))
+        (bool-cases (badList (n * m) list))
+
+    module _ (e : number ≡ 0) where
+      good : badList (n * m) list ≡ false
+      unfolding splitAnswer
+      good = passed Z list old (sym (S .number-is) ∙ e) .good
+
+      pub is-split : Readable Z list bytes → Accepted Z list sets bytes
+      unfolding splitAnswer
+      is-split R = record { readable = R; good = good; sets-is = S .sets-are ∙ rw (eq-eqb _ 0 (sym (S .number-is) ∙ e)) }
+
+      pub is-listed : (text : List ℕ) → text ≡ listed Z list bytes → text ≡ answered (request Z list bytes)
+      unfolding answered
+      is-listed text e = rw good e

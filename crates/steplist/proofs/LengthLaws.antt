@@ -1,0 +1,76 @@
+-- How long a line can be.
+use mathlib.Core.Path.{_≡_}
+use mathlib.Core.Logic.{⊎-elim}
+use mathlib.Core.Bool.{true, false}
+use mathlib.Core.List.{List}
+use Prim.Native.Nat.{ℕ, zero, suc, _+_, _*_, _/_, _≤_, _<_}
+use native.Mathlib.Omega.{arith}
+use native.Mathlib.Nat.{mul-le-mul}
+use lib.Dec.{ltb}
+use lib.ListN.{length, length-append}
+use Rattle.flash.specs.Geometry.{Sizes}
+use Rattle.flash.proofs.Bools.{bool-cases}
+use Rattle.method.specs.Place.{Pass, forward, backward, operationAt, passAt, filling, filled, lastPlace}
+use Rattle.method.proofs.Places.{nextBlock, page-cases, filling-in, operation-writes, operation-erases}
+use Rattle.listing.specs.Digits.{placesUpTo, places, decimal}
+use Rattle.listing.specs.Lines.{writeLine, eraseLine, endLine, refusedLine}
+use Rattle.listing.proofs.DigitLaws.{length-digits, one-place}
+use Rattle.listing.proofs.PrintLaws.{length-hex}
+use Rattle.steplist.specs.Output.{stepLine}
+
+-- ten times the numbers have one digit more
+more-places : (bound k : ℕ) → ((most n : ℕ) → n < bound → placesUpTo most n ≤ k) → (most n : ℕ) → n < bound * 10 → placesUpTo most n ≤ suc k
+unfolding placesUpTo
+more-places bound k few zero n h = omega arith
+more-places bound k few (suc most) n h =
+    ⊎-elim
+    (λ (e : ltb n 10 ≡ true). rw e (omega arith))
+    (λ (e : ltb n 10 ≡ false).
+    let tenth : n / 10 < bound = omega arith in
+    rw e (omega (arith, few most (n / 10) tenth)))
+    (bool-cases (ltb n 10))
+
+three-places : (most n : ℕ) → n < 1000 → placesUpTo most n ≤ 3
+three-places = more-places 100 2 (more-places 10 1 (λ most n h. omega (arith, one-place most n h)))
+
+pub decimal-short : (n : ℕ) → n < 1000 → length (decimal n) ≤ 3
+unfolding decimal places
+decimal-short n h = omega (arith, length-digits 10 (placesUpTo n n) n, three-places n n h)
+
+write-short : (step block page : ℕ) (bytes : List ℕ) → step < 1000 → block < 1000 → page < 1000 → length bytes ≤ 64 → length (writeLine step block page bytes) ≤ 149
+unfolding writeLine
+write-short step block page bytes h k l few =
+    simp length-append (omega (arith, decimal-short step h, decimal-short block k, decimal-short page l, length-hex bytes))
+
+erase-short : (step block : ℕ) → step < 1000 → block < 1000 → length (eraseLine step block) ≤ 149
+unfolding eraseLine
+erase-short step block h k = simp length-append (omega (arith, decimal-short step h, decimal-short block k))
+
+pub end-short : (writes erases : ℕ) → writes < 1000 → erases < 1000 → length (endLine writes erases) ≤ 149
+unfolding endLine
+end-short writes erases h k = simp length-append (omega (arith, decimal-short writes h, decimal-short erases k))
+
+pub refused-short : (number : ℕ) → number < 1000 → length (refusedLine number) ≤ 149
+unfolding refusedLine
+refused-short number h = simp length-append (omega (arith, decimal-short number h))
+
+-- "It allows n and m to 8": at most 2 × 8 × 9 steps
+pub few-steps : (Z : Sizes) → Z .n ≤ 8 → Z .m ≤ 8 → lastPlace Z ≤ 144
+unfolding lastPlace
+few-steps Z h k = mul-le-mul {n₁ = 2 * Z .n} {m₁ = Z .m + 1} {n₂ = 16} {m₂ = 9} (omega arith) (omega arith)
+
+near : (pass : Pass) (block : ℕ) → nextBlock pass block ≤ block + 1
+near forward block = omega arith
+near backward block = omega arith
+
+pub line-short : (Z : Sizes) (place : ℕ) (work : List ℕ) → Z .n ≤ 8 → Z .m ≤ 8 → length work ≤ 64 → place < lastPlace Z → length (stepLine place (operationAt Z place) work) ≤ 149
+unfolding stepLine
+line-short Z place work few-blocks few-pages short h =
+    let small : place < 144 = omega (arith, few-steps Z few-blocks few-pages) in
+    let block : filling Z place ≤ 8 = omega (arith, filling-in Z place (omega arith)) in
+    ⊎-elim
+    (λ (k : filled Z place < Z .m).
+    rw (operation-writes Z place h k) (write-short place (filling Z place) (filled Z place) work (omega arith) (omega arith) (omega arith) short))
+    (λ (k : filled Z place ≡ Z .m).
+    rw (operation-erases Z place h k) (erase-short place (nextBlock (passAt Z place) (filling Z place)) (omega arith) (omega (arith, near (passAt Z place) (filling Z place)))))
+    (page-cases Z place)

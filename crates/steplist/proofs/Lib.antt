@@ -1,0 +1,9 @@
+pub mod AskedLaws
+pub mod Exampled
+pub mod JudgeLaws
+pub mod LengthLaws
+pub mod LineLaws
+pub mod ListingLaws
+pub mod RestLaws
+pub mod StartLaws
+pub mod StepLaws

@@ -1,0 +1,87 @@
+-- The listing step by step: what is shown after one step more.
+use mathlib.Core.Path.{_≡_, refl, sym, ap, _∙_}
+use mathlib.Core.List.{List, _++_, append-assoc, append-nil}
+use Prim.Native.Nat.{ℕ, zero, suc, _+_, _≤_}
+use native.Mathlib.Nat.{zero-add, suc-add, add-zero}
+use native.Mathlib.Omega.{arith}
+use lib.ListN.{take}
+use lib.Seq.{take-length}
+use Rattle.method.specs.Move.{Move}
+use Rattle.method.specs.Place.{operations, operationAt, lastPlace}
+use Rattle.method.specs.Step.{Running, step, steps, tally, operationsFrom}
+use Rattle.method.specs.Claims.{StepsCounted}
+use Rattle.method.proofs.Steps.{steps-counted}
+use Rattle.method.proofs.Runs.{steps-add}
+use Rattle.method.proofs.Tallies.{tally-split, tally-total, steps-tallied}
+use Rattle.method.proofs.Accepting.{run-taken, taken-run}
+use Rattle.method.proofs.RunClaims.{still-taken}
+use Rattle.listing.specs.Lines.{Printed, endLine}
+use Rattle.steplist.specs.declared.listed.Shown.{Shown}
+use Rattle.steplist.specs.Output.{stepLine, stepLines, moveLines}
+use Rattle.steplist.specs.Listing.{runningOf, Listable, Stepped, Shows}
+
+-- the lines of some steps, and then of more
+lines-add : (M : Move) (a b place : ℕ) (run : Running) → stepLines M (a + b) place run ≡ stepLines M a place run ++ stepLines M b (place + a) (steps M a place run)
+unfolding stepLines steps
+lines-add M zero b place run = rw (zero-add b, add-zero place)
+lines-add M (suc a) b place run =
+    let next : suc place + a ≡ place + suc a = omega arith in
+    let after = step M place run in
+    rw (suc-add a b, lines-add M a b (suc place) after, next)
+    (sym (append-assoc (stepLine place (operationAt (M .sizes) place) (after .work)) (stepLines M a (suc place) after) (stepLines M b (place + suc a) (steps M a (suc place) after))))
+
+module _ (M : Move) (start : Running) where
+  -- the line of the step at a place, behind those of the steps before it
+  line-more : (place : ℕ) → stepLines M (place + 1) 0 start ≡ stepLines M place 0 start ++ stepLine place (operationAt (M .sizes) place) (step M place (steps M place 0 start) .work)
+  unfolding stepLines
+  line-more place =
+      lines-add M place 1 0 start ∙ rw (zero-add place, append-nil)
+
+  step-more : (place : ℕ) → steps M (place + 1) 0 start ≡ step M place (steps M place 0 start)
+  unfolding steps
+  step-more place = steps-add M place 1 0 start ∙ rw (zero-add place)
+
+  -- at every place the run goes on
+  pub listable-at : (place : ℕ) (run : Running) → Listable M start 0 → place ≤ lastPlace (M .sizes) → run ≡ steps M place 0 start → Listable M run place
+  listable-at place run L h e =
+      let T = still-taken M (start .chip) (start .work) 0 place (omega arith) (run-taken M (start .chip) (start .work) 0 (L .taken)) in
+      record {
+        few-blocks = L .few-blocks;
+        few-pages = L .few-pages;
+        short-pages = L .short-pages;
+        taken = rw e (taken-run M _ _ place (rw (zero-add place) at T));
+      }
+
+  -- no more is counted than steps were taken
+  pub few-counted : (place at writes erases : ℕ) (out store marks work : List ℕ) → place ≤ lastPlace (M .sizes) → Shows M start place at writes erases out store marks work → (writes ≤ place) × (erases ≤ place)
+  few-counted place at writes erases out store marks work h S =
+      let t = tally-total (operationsFrom M 0 place) in
+      let s = steps-tallied M place 0 (omega arith) in
+      (omega (arith, S .writes-is), omega (arith, S .erases-is))
+
+  pub shows-none : (out : List ℕ) → Shows M start 0 0 0 0 out (start .chip .store) (start .chip .marks) (start .work)
+  unfolding steps stepLines tally operationsFrom
+  shows-none out = record { left = refl; text-is = refl; at-high = omega arith; writes-is = refl; erases-is = refl }
+
+  pub shows-more : (place at writes erases : ℕ) (out store marks work out′ store′ marks′ work′ : List ℕ) (shown : Shown)
+      → Shows M start place at writes erases out store marks work → Stepped M place (runningOf store marks work) out at shown out′ store′ marks′ work′
+      → Shows M start (place + 1) (shown .at) (writes + shown .writes) (erases + shown .erases) out′ store′ marks′ work′
+  shows-more place at writes erases out store marks work out′ store′ marks′ work′ shown S T =
+      let after = T .left ∙ ap (step M place) (S .left) in
+      let A = tally-split M 0 place 1 in
+      let B = rw (zero-add place) at A in
+      record {
+        left = after ∙ sym (step-more place);
+        text-is = T .printed .text-is ∙ rw (S .text-is) (sym (line-more place ∙ rw (← after)));
+        at-high = omega (arith, T .printed .next-is, T .short, S .at-high);
+        writes-is = omega (arith, B .writes, S .writes-is, T .writes-is);
+        erases-is = omega (arith, B .erases, S .erases-is, T .erases-is);
+      }
+
+  -- all steps, and the end line
+  pub all-shown : (at writes erases next : ℕ) (out store marks work out′ : List ℕ) → Shows M start (lastPlace (M .sizes)) at writes erases out store marks work
+      → Printed (endLine writes erases) out at out′ next → take next out′ ≡ moveLines M start
+  unfolding moveLines operationsFrom StepsCounted
+  all-shown at writes erases next out store marks work out′ S T =
+      let all : take (lastPlace (M .sizes)) (operations (M .sizes)) ≡ operations (M .sizes) = rw (← steps-counted (M .sizes)) (take-length (operations (M .sizes))) in
+      T .text-is ∙ rw (S .text-is, S .writes-is, S .erases-is, all)

@@ -1,0 +1,52 @@
+-- A list whose front is filled.
+use mathlib.Core.Path.{_≡_, sym, ap, _∙_}
+use mathlib.Core.List.{List, _++_, append-nil}
+use Prim.Native.Nat.{ℕ, _+_, _-_, _≤_}
+use native.Mathlib.Omega.{arith}
+use lib.ListN.{length, take, drop, replicate, length-replicate, replicate-append-replicate, length-drop, drop-of-length-le}
+use lib.Seq.{length-take-le, take-at, drop-at}
+
+drop-replicate : (m n v : ℕ) → m ≤ n → drop m (replicate n v) ≡ replicate (n - m) v
+drop-replicate m n v h =
+    let e : m + (n - m) ≡ n = omega arith in
+    ap (λ (k : ℕ). drop m (replicate k v)) (sym e)
+    ∙ ap (drop m) (sym (replicate-append-replicate m (n - m) v))
+    ∙ drop-at (replicate m v) (replicate (n - m) v) m (length-replicate {A = ℕ} m v)
+
+-- the front of a list of one value
+front-same : (count most v : ℕ) → count ≤ most → take count (replicate most v) ≡ replicate count v
+front-same count most v h =
+    let e : count + (most - count) ≡ most = omega arith in
+    ap (λ (k : ℕ). take count (replicate k v)) (sym e)
+    ∙ ap (take count) (sym (replicate-append-replicate count (most - count) v))
+    ∙ take-at (replicate count v) (replicate (most - count) v) count (length-replicate {A = ℕ} count v)
+
+pub zeros-taken : (count most : ℕ) → count ≤ most → take count (replicate {A = ℕ} most 0) ≡ replicate count 0
+zeros-taken count most h = front-same count most 0 h
+
+pub zeros-length : (count most : ℕ) → count ≤ most → length (take count (replicate {A = ℕ} most 0)) ≡ count
+zeros-length count most h = ap length (zeros-taken count most h) ∙ length-replicate {A = ℕ} count 0
+
+pub front-filled : (m v : ℕ) (old front : List ℕ) → m ≤ length old → front ≡ replicate (length (take m old)) v → front ++ drop m old ≡ replicate m v ++ drop m old
+front-filled m v old front h e = rw (e, length-take-le m old h)
+
+pub marks-filled : (m n v s : ℕ) (old front : List ℕ) → m ≤ n → old ≡ replicate n s → front ≡ replicate (length (take m old)) v → front ++ drop m old ≡ replicate m v ++ replicate (n - m) s
+marks-filled m n v s old front h e f =
+    let size : length old ≡ n = ap length e ∙ length-replicate {A = ℕ} n s in
+    front-filled m v old front (omega arith) f ∙ ap (λ (rest : List ℕ). replicate m v ++ drop m rest) e ∙ ap (λ (rest : List ℕ). replicate m v ++ rest) (drop-replicate m n s h)
+
+-- A list whose back came back from a call, written over.
+module _ (spare : ℕ) (store back originals : List ℕ) (size : length store ≡ spare + length originals) where
+  abbrev pub written : List ℕ
+  written = take spare store ++ (back ++ drop (length store - spare) (drop spare store))
+
+  front-size : length (take spare store) ≡ spare
+  front-size = length-take-le spare store (omega arith)
+
+  pub spare-is : spare ≡ length (take spare written)
+  spare-is = sym (ap length (take-at (take spare store) (back ++ drop (length store - spare) (drop spare store)) spare front-size) ∙ front-size)
+
+  pub store-filled : (front : List ℕ) → back ≡ originals → front ≡ replicate (length (take spare written)) 255 → front ++ drop spare written ≡ replicate spare 255 ++ originals
+  store-filled front e f =
+      let none-left = drop-of-length-le (drop spare store) {i = length store - spare} (omega (arith, length-drop spare store)) in
+      rw (f, ← spare-is, drop-at (take spare store) (back ++ drop (length store - spare) (drop spare store)) spare front-size, none-left, append-nil, e)

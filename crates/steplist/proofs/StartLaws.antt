@@ -1,0 +1,138 @@
+-- The store that the program fills is at rest, and the run from it is not refused.
+use mathlib.Core.Path.{_≡_, ap, _∙_}
+use mathlib.Core.Bool.{true, not}
+use mathlib.Core.List.{List, _++_}
+use Prim.Native.Nat.{ℕ, _+_, _-_, _*_, _≤_, _<_}
+use native.Mathlib.Nat.{add-mul, mul-le-mul-right}
+use native.Mathlib.Omega.{arith}
+use lib.ListN.{length, drop, replicate, length-append, length-drop, length-replicate, getD-replicate, List·getD-append}
+use lib.Seq.{getD-append-add, take-append-le, drop-append-le}
+use Rattle.flash.specs.Lists.{range, all, part}
+use Rattle.flash.specs.Geometry.{Sizes, slot, originalCount, storeLength, marksLength}
+use Rattle.flash.specs.Chip.{Chip, pageAt, markAt, isBlank, isFull}
+use Rattle.flash.proofs.Bounds.{Bounds, slot-in-marks}
+use Rattle.flash.proofs.Ranges.{all-is}
+use Rattle.flash.proofs.Parts.{part-fits, part-replicate}
+use Rattle.flash.proofs.Blocks.{full-of}
+use Rattle.flash.proofs.Chips.{blank-of}
+use Rattle.split.specs.OneToOne.{isOneToOne}
+use Rattle.split.proofs.RuleLaws.{rule-split, rule-length}
+use Rattle.method.specs.Move.{Move}
+use Rattle.method.specs.State.{isAtRest, atRest}
+use Rattle.method.proofs.Shape as shape
+use Rattle.method.proofs.Accepting.{taken-run}
+use Rattle.method.proofs.Rest.{rest-stands}
+use Rattle.listing.specs.Request.{isAllowed}
+use Rattle.listing.proofs.RequestLaws.{Bounded, bounded}
+use Rattle.steplist.specs.Listing.{moveOf, runningOf, Listable}
+use Rattle.steplist.specs.Given.{Accepted}
+
+module _ (Z : Sizes) (originals : List ℕ) where
+  open Sizes Z using (n, m, P, s)
+
+  abbrev chip : Chip
+  chip = atRest Z originals
+
+  spare-mark : (page : ℕ) → page < m → markAt (chip .marks) (slot m 0 page) ≡ 255
+  unfolding atRest markAt
+  spare-mark page h =
+      let at : slot m 0 page ≡ page = omega arith in
+      rw at (List·getD-append (replicate m 255) (replicate (n * m) s) 255 page (omega (arith, length-replicate {A = ℕ} m 255)) ∙ getD-replicate m page 255 255 h)
+
+  data-mark : (block page : ℕ) → 1 ≤ block → block ≤ n → page < m → markAt (chip .marks) (slot m block page) ≡ s
+  unfolding atRest markAt
+  data-mark block page low high h =
+      let size = length-replicate {A = ℕ} m 255 in
+      let here = slot-in-marks Z block page high h in
+      let front : m ≤ slot m block page = omega (arith, mul-le-mul-right m low) in
+      let inside : slot m block page - m < n * m = omega (arith, here, add-mul n 1 m) in
+      let at : slot m block page ≡ length {A = ℕ} (replicate m 255) + (slot m block page - m) = omega arith in
+      rw at (getD-append-add (replicate m 255) (replicate (n * m) s) (slot m block page - m) 255 ∙ getD-replicate (n * m) (slot m block page - m) s 255 inside)
+
+  spare-page : (page : ℕ) → page < m → pageAt P chip (slot m 0 page) ≡ replicate P 255
+  unfolding atRest pageAt part
+  spare-page page h =
+      let at : slot m 0 page ≡ page = omega arith in
+      let size = length-replicate {A = ℕ} (m * P) 255 in
+      let fits = part-fits page m P h in
+      let left : P ≤ length {A = ℕ} (drop (page * P) (replicate (m * P) 255)) = omega (arith, length-drop (page * P) (replicate {A = ℕ} (m * P) 255)) in
+      rw (at, drop-append-le (page * P) (replicate (m * P) 255) originals (omega arith), take-append-le P (drop (page * P) (replicate (m * P) 255)) originals left)
+      (part-replicate P page (m * P) 255 fits)
+
+  is-at-rest : isAtRest Z chip ≡ true
+  unfolding isAtRest
+  is-at-rest =
+      let full : all (λ block. isFull m (chip .marks) block s) (range 1 n) ≡ true =
+      all-is (λ block. isFull m (chip .marks) block s) 1 n (λ block low high. full-of m (chip .marks) block s (λ page h. data-mark block page low (omega arith) h)) in
+      let blank : all (λ page. isBlank P chip (slot m 0 page)) (range 0 m) ≡ true =
+      all-is (λ page. isBlank P chip (slot m 0 page)) 0 m (λ page low high. blank-of P chip (slot m 0 page) (spare-mark page (omega arith)) (spare-page page (omega arith))) in
+      rw (full, blank)
+
+  store-size : length originals ≡ originalCount Z * P → length (chip .store) ≡ storeLength Z
+  unfolding atRest
+  store-size e = length-append (replicate (m * P) 255) originals ∙ omega (arith, length-replicate {A = ℕ} (m * P) 255, add-mul n 1 m, add-mul (n * m) m P)
+
+  marks-size : length (chip .marks) ≡ marksLength Z
+  unfolding atRest
+  marks-size = length-append (replicate m 255) (replicate (n * m) s) ∙ omega (arith, length-replicate {A = ℕ} m 255, length-replicate {A = ℕ} (n * m) s, add-mul n 1 m)
+
+-- the program's limits are within the ranges
+pub in-bounds : (n m P s : ℕ) → isAllowed (record { n = n; m = m; P = P; s = s }) ≡ true → Bounds (record { n = n; m = m; P = P; s = s })
+in-bounds n m P s e =
+    let l = bounded n m P s e in
+    record {
+      n-low = l .some-blocks;
+      n-high = omega arith;
+      m-low = l .some-pages;
+      m-high = omega arith;
+      P-low = l .some-bytes;
+      P-high = omega arith;
+      s-high = l .letter;
+    }
+
+module _ (n m P s : ℕ) (list sets bytes : List ℕ) where
+  abbrev Z : Sizes
+  Z = record { n = n; m = m; P = P; s = s }
+
+  abbrev M : Move
+  M = moveOf n m P s list sets
+
+  module _ (A : Accepted Z list sets bytes) where
+    limits : Bounded n m P s
+    limits = bounded n m P s (A .readable .allowed)
+
+    one-to-one : isOneToOne (n * m) list ≡ true
+    unfolding isOneToOne
+    one-to-one = ap not (A .good)
+
+    accepted : shape.Accepted M
+    accepted =
+        record {
+          ranges = in-bounds n m P s (A .readable .allowed);
+          list-length = A .readable .list-length;
+          sets-length = ap length (A .sets-is) ∙ rule-length n m list (A .readable .list-length) one-to-one;
+          one-to-one = one-to-one;
+          split = rw (A .sets-is) (rule-split n m list (A .readable .list-length) one-to-one);
+        }
+
+    pub listable : (work : List ℕ) → length work ≡ P → Listable M (record { chip = atRest Z bytes; work = work }) 0
+    listable work e =
+        let l = limits in
+        record {
+          few-blocks = l .few-blocks;
+          few-pages = l .few-pages;
+          short-pages = l .short-pages;
+          taken = taken-run M (atRest Z bytes) work 0 (record {
+            accepted = accepted;
+            lent = record { store-length = store-size Z bytes (A .readable .bytes-length); marks-length = marks-size Z bytes; work-length = e };
+            stands = rest-stands M accepted (atRest Z bytes) (store-size Z bytes (A .readable .bytes-length)) (marks-size Z bytes) (is-at-rest Z bytes);
+          });
+        }
+
+    -- what was filled is the store at rest
+    pub filled : (store marks work old : List ℕ) → store ≡ replicate (m * P) 255 ++ bytes → marks ≡ replicate m 255 ++ replicate (length old - m) s → length old ≡ marksLength Z
+        → work ≡ replicate P 0 → runningOf store marks work ≡ record { chip = atRest Z bytes; work = replicate P 0 }
+    unfolding atRest
+    filled store marks work old e f size w =
+        let count : length old - m ≡ n * m = omega (arith, add-mul n 1 m) in
+        rw (e, f, count, w)

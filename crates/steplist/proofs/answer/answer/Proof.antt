@@ -1,0 +1,70 @@
+use native.Mathlib.Omega.{arith}
+use mathlib.Core.Path.{_≡_, sym, ap, _∙_}
+use lib.Seq.{length-take-le}
+use Rattle.listing.specs.Lines.{unreadableLine}
+use Rattle.listing.specs.Request.{reading, withinLimit}
+use Rattle.listing.specs.Found.{askedAs}
+use Rattle.steplist.specs.Output.{answered}
+use Rattle.steplist.proofs.LengthLaws.{refused-short}
+use Rattle.steplist.proofs.AskedLaws.{asked, answers, counts}
+use borrow.Author.Needs.{needs}
+use Rattle.steplist.proofs.answer.answer.Statement.{statement}
+use Rattle.steplist.proofs.answer.answer.Tie as tie
+
+-- what was read is what the input within its limit asks for
+told : (c : tie.After-read) → askedAs (c .read .last .1 .0) (c .read .result) ≡ reading (withinLimit (c .before .before .before .before .before .before .before .before .args .input .now))
+told c = rw (c .before .before .before .before .before .limit .ensures .0) at (c .read .ensures)
+
+limit-requires : tie.Need-limit-requires
+limit-requires c κs = search needs
+
+slice-reshare-prefix-read : tie.Need-slice-reshare-prefix-read
+slice-reshare-prefix-read c = search needs
+
+slice-aggregate-read : tie.Need-slice-aggregate-read
+slice-aggregate-read c = sym (length-take-le (c .before .before .before .limit .result) (c .before .before .before .limit .last .0) (omega (arith, c .before .before .before .limit .ensures .1, c .before .before .before .limit .kept .0)))
+
+read-requires : tie.Need-read-requires
+read-requires c κs = search needs
+
+enum-told : tie.Need-enum-told
+enum-told c = search needs
+
+put-unreadable-requires : tie.Need-put-unreadable-requires
+unfolding unreadableLine
+put-unreadable-requires c κs = omega arith
+
+enum-told-2 : tie.Need-enum-told-2
+enum-told-2 c = search needs
+
+put-refused-requires : tie.Need-put-refused-requires
+put-refused-requires c κs = omega (arith, refused-short 1 (omega arith))
+
+enum-known-n : tie.Need-enum-known-n
+enum-known-n c = search needs
+
+put-request-requires : tie.Need-put-request-requires
+put-request-requires c κs = asked _ _ _ _ (withinLimit (c .before .before .before .before .before .before .before .before .before .before .before .before .before .args .input .now)) (c .before .before .before .before .before .read .last .1 .0) (ap (askedAs (c .before .before .before .before .before .read .last .1 .0)) (sym (c .before .before .before .n .given .1)) ∙ told (c .before .before .before .before .before))
+
+same-length : tie.Need-same-length
+same-length c = search needs
+
+returns : tie.Need-returns
+unfolding answered unreadableLine
+returns c = (c .put-unreadable .ensures .text-is ∙ answers (c .before .before .before .before .before .before .before .before .before .before .before .before .args .input .now) (c .before .before .before .before .read .last .1 .0) (c .before .before .before .before .read .result) _ (told (c .before .before .before .before)) (c .before .before .enum-told .given .1), counts _ _ (omega (arith, c .put-unreadable .ensures .next-is)))
+
+same-length-2 : tie.Need-same-length-2
+same-length-2 c = search needs
+
+returns-2 : tie.Need-returns-2
+unfolding answered
+returns-2 c = (c .put-refused .ensures .text-is ∙ answers (c .before .before .before .before .before .before .before .before .before .before .before .before .args .input .now) (c .before .before .before .before .read .last .1 .0) (c .before .before .before .before .read .result) _ (told (c .before .before .before .before)) (c .before .before .enum-told2 .given .1), counts _ _ (omega (arith, c .put-refused .ensures .next-is, refused-short 1 (omega arith))))
+
+same-length-3 : tie.Need-same-length-3
+same-length-3 c = search needs
+
+returns-3 : tie.Need-returns-3
+returns-3 c = (c .put-request .ensures .0 ∙ answers (c .before .before .before .before .before .before .before .before .before .before .before .before .before .before .args .input .now) (c .before .before .before .before .before .before .read .last .1 .0) (c .before .before .before .before .before .before .read .result) _ (told (c .before .before .before .before .before .before)) (c .before .before .before .before .n .given .1), counts _ _ (c .put-request .ensures .1))
+
+pub answer-spec : {M : Type 1} → statement M
+answer-spec = tie.close (tie.spec limit-requires slice-reshare-prefix-read slice-aggregate-read read-requires enum-told put-unreadable-requires enum-told-2 put-refused-requires enum-known-n put-request-requires same-length returns same-length-2 returns-2 same-length-3 returns-3)

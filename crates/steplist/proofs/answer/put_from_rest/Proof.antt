@@ -1,0 +1,65 @@
+use native.Mathlib.Omega.{arith}
+use mathlib.Core.Path.{_≡_}
+use Prim.Native.Nat.{ℕ}
+use lib.ListN.{replicate, length-replicate}
+use Rattle.method.specs.State.{atRest}
+use Rattle.method.specs.Step.{Running}
+use Rattle.listing.proofs.RequestLaws.{bounded}
+use Rattle.steplist.specs.Output.{listed}
+use Rattle.steplist.specs.Listing.{runningOf}
+use Rattle.steplist.proofs.StartLaws.{listable, filled}
+use borrow.Author.Needs.{needs}
+use Rattle.steplist.proofs.answer.put_from_rest.Statement.{statement}
+use Rattle.steplist.proofs.answer.put_from_rest.Tie as tie
+
+-- what was filled is the store at rest
+at-rest : (c : tie.After-put-marks)
+    → (let a = c .before .before .before .before .before .before .before .before .before .before .before .before .before .args in
+    _≡_ {A = Running} (runningOf (c .before .before .before .before .put-store .last .1 .1 .0) (c .put-marks .last .1 .1 .0) (a .work .now))
+    (record { chip = atRest (record { n = a .n; m = a .m; P = a .p; s = a .s }) (a .originals .now); work = replicate (a .p) 0 }))
+at-rest c =
+    let start = c .before .before .before .before .before .before .before .before .before .before .before .before .before in
+    let a = start .args in
+    filled (a .n) (a .m) (a .p) (a .s) (a .list .now) (a .sets .now) (a .originals .now) (start .pre .0) _ _ _ (a .marks .now) (c .before .before .before .before .put-store .ensures) (c .put-marks .ensures) (start .pre .1 .marks-length) (start .pre .1 .work-is)
+
+mul-put-store : tie.Need-mul-put-store
+mul-put-store c = search needs
+
+put-store-requires : tie.Need-put-store-requires
+put-store-requires c κs = search needs
+
+cast-put-marks : tie.Need-cast-put-marks
+cast-put-marks c =
+    let a = c .before .before .before .before .before .before .before .before .before .before .before .args in
+    omega (arith, bounded (a .n) (a .m) (a .p) (a .s) (c .before .before .before .before .before .before .before .before .before .before .before .pre .0 .readable .allowed))
+
+put-marks-requires : tie.Need-put-marks-requires
+put-marks-requires c κs = search needs
+
+put-listing-requires : tie.Need-put-listing-requires
+put-listing-requires c κs =
+    let start = c .before .before .before .before .before .before .before .before .before .before .before .before .before .before .before .before .before .before .before in
+    let a = start .args in
+    (rw (at-rest (c .before .before .before .before .before .before)) (listable (a .n) (a .m) (a .p) (a .s) (a .list .now) (a .sets .now) (a .originals .now) (start .pre .0) (replicate (a .p) 0) (length-replicate {A = ℕ} (a .p) 0)), omega arith)
+
+same-length : tie.Need-same-length
+same-length c = search needs
+
+same-length-2 : tie.Need-same-length-2
+same-length-2 c = search needs
+
+same-length-3 : tie.Need-same-length-3
+same-length-3 c = search needs
+
+same-length-4 : tie.Need-same-length-4
+same-length-4 c = search needs
+
+returns : tie.Need-returns
+unfolding listed
+returns c =
+    let start = c .before .before .before .before .before .before .before .before .before .before .before .before .before .before .before .before .before .before .before .before .before .before .before .before .before .before .before .before in
+    let listing = c .before .before .before .before .before .before .before .before .put-listing .ensures in
+    (rw (at-rest (c .before .before .before .before .before .before .before .before .before .before .before .before .before .before .before), start .pre .0 .sets-is) at (listing .0), listing .1)
+
+pub put-from-rest-spec : {M : Type 1} → statement M
+put-from-rest-spec = tie.close (tie.spec mul-put-store put-store-requires cast-put-marks put-marks-requires put-listing-requires same-length same-length-2 same-length-3 same-length-4 returns)

@@ -1,0 +1,85 @@
+use native.Mathlib.Omega.{arith}
+use mathlib.Core.Path.{sym, _∙_}
+use borrow.Author.Tests.{not-true, not-false}
+use Rattle.split.specs.Answer.{SplitAnswered}
+use Rattle.steplist.proofs.LengthLaws.{refused-short}
+use Rattle.steplist.proofs.JudgeLaws.{too-large, not-split, is-split, is-listed}
+use borrow.Author.Needs.{needs}
+use Rattle.steplist.proofs.answer.put_judged.Statement.{statement}
+use Rattle.steplist.proofs.answer.put_judged.Tie as tie
+
+-- the split call's answer, about the numbers as they were read
+judged : (c : tie.After-split)
+    → (let a = c .before .before .before .before .before .before .before .before .before .before .before .before .before .before .args in SplitAnswered (record { n = a .n; m = a .m; P = a .p; s = a .s }) (a .entries .now) (a .sets .now) (c .split .result) (c .split .last .1 .1 .1 .1 .1 .0))
+judged c = rw (c .before .before .before .before .before .put-entries .ensures) at (c .split .ensures)
+
+fit-requires : tie.Need-fit-requires
+fit-requires c κs = search needs
+
+put-refused-requires : tie.Need-put-refused-requires
+put-refused-requires c κs = omega (arith, refused-short 3 (omega arith))
+
+same-length : tie.Need-same-length
+same-length c = search needs
+
+returns : tie.Need-returns
+returns c =
+    let start = c .before .before .before .before .before .before .before .before .before .before .before in
+    let a = start .args in
+    let line = c .before .before .put-refused .ensures in
+    (line .text-is ∙ sym (too-large (a .n) (a .m) (a .p) (a .s) (start .pre .0 .allowed) (a .entries .now) (a .originals .now) (sym (c .before .before .before .before .before .fit .ensures) ∙ not-true _ (c .before .before .before .before .if1 .taken))), omega (arith, line .next-is, refused-short 3 (omega arith)))
+
+put-entries-requires : tie.Need-put-entries-requires
+put-entries-requires c κs =
+    let start = c .before .before .before .before .before .before .before .before in
+    (start .pre .0 .list-length ∙ sym (start .pre .1), sym (c .before .before .fit .ensures) ∙ not-false _ (c .before .if1 .left))
+
+split-requires : tie.Need-split-requires
+split-requires c κs = search needs
+
+put-refused-requires-2 : tie.Need-put-refused-requires-2
+put-refused-requires-2 c κs = omega (arith, refused-short 3 (omega arith))
+
+same-length-2 : tie.Need-same-length-2
+same-length-2 c = search needs
+
+same-length-3 : tie.Need-same-length-3
+same-length-3 c = search needs
+
+same-length-4 : tie.Need-same-length-4
+same-length-4 c = search needs
+
+returns-2 : tie.Need-returns-2
+returns-2 c =
+    let start = c .before .before .before .before .before .before .before .before .before .before .before .before .before .before .before .before .before .before .before .before .before in
+    let a = start .args in
+    let split = c .before .before .before .before .before .before .before .split in
+    let line = c .before .before .put-refused2 .ensures in
+    (line .text-is ∙ sym (not-split (a .n) (a .m) (a .p) (a .s) (start .pre .0 .allowed) (a .entries .now) (a .originals .now) (a .sets .now) (split .last .1 .1 .1 .1 .1 .0) (split .result) (start .pre .0 .list-length) (start .pre .2) (judged (c .before .before .before .before .before .before .before)) (c .before .before .before .before .if2 .taken)), omega (arith, line .next-is, refused-short 3 (omega arith)))
+
+put-accepted-requires : tie.Need-put-accepted-requires
+put-accepted-requires c κs =
+    let start = c .before .before .before .before .before .before .before .before .before .before .before .before .before .before .before .before .before .before .before .before in
+    let a = start .args in
+    let split = c .before .before .before .before .before .before .split in
+    (rw (c .before .before .before .before .before .before .before .before .before .before .before .put-entries .ensures) (is-split (a .n) (a .m) (a .p) (a .s) (start .pre .0 .allowed) (a .entries .now) (a .originals .now) (a .sets .now) (split .last .1 .1 .1 .1 .1 .0) (split .result) (start .pre .0 .list-length) (start .pre .2) (judged (c .before .before .before .before .before .before)) (c .before .before .before .if2 .left) (start .pre .0)), omega arith)
+
+same-length-5 : tie.Need-same-length-5
+same-length-5 c = search needs
+
+same-length-6 : tie.Need-same-length-6
+same-length-6 c = search needs
+
+same-length-7 : tie.Need-same-length-7
+same-length-7 c = search needs
+
+returns-3 : tie.Need-returns-3
+returns-3 c =
+    let start = c .before .before .before .before .before .before .before .before .before .before .before .before .before .before .before .before .before .before .before .before .before .before .before in
+    let a = start .args in
+    let split = c .before .before .before .before .before .before .before .before .before .split in
+    let listing = c .before .before .put-accepted .ensures in
+    (is-listed (a .n) (a .m) (a .p) (a .s) (start .pre .0 .allowed) (a .entries .now) (a .originals .now) (a .sets .now) (split .last .1 .1 .1 .1 .1 .0) (split .result) (start .pre .0 .list-length) (start .pre .2) (judged (c .before .before .before .before .before .before .before .before .before)) (c .before .before .before .before .before .before .if2 .left) _ (rw (c .before .before .before .before .before .before .before .before .before .before .before .before .before .before .put-entries .ensures) at (listing .0)), listing .1)
+
+pub put-judged-spec : {M : Type 1} → statement M
+put-judged-spec = tie.close (tie.spec fit-requires put-refused-requires same-length returns put-entries-requires split-requires put-refused-requires-2 same-length-2 same-length-3 same-length-4 returns-2 put-accepted-requires same-length-5 same-length-6 same-length-7 returns-3)

@@ -1,0 +1,60 @@
+use mathlib.Core.Path.{_∙_}
+use native.Mathlib.Omega.{arith}
+use Rattle.method.proofs.Accepting.{run-taken}
+use Rattle.steplist.specs.Listing.{moveOf, runningOf}
+use Rattle.steplist.proofs.StepLaws.{same-operation, OneStep, one-step}
+use borrow.Author.Needs.{needs}
+use Rattle.steplist.proofs.listed.put_step.Statement.{statement}
+use Rattle.steplist.proofs.listed.put_step.Tie as tie
+
+-- what the run left and counted
+told : (c : tie.After-run)
+    → (let a = c .before .before .before .before .before .before .before .before .before .before .args in let l = c .run .last in
+    OneStep (moveOf (a .n) (a .m) (a .p) (a .s) (a .list .now) (a .sets .now)) (runningOf (a .store .now) (a .marks .now) (a .work .now)) (a .place) (c .run .result) (l .1 .1 .1 .1 .1 .1 .0) (l .1 .1 .1 .1 .1 .1 .1 .0) (l .1 .1 .1 .1 .1 .1 .1 .1 .0))
+told c =
+    let start = c .before .before .before .before .before .before .before .before .before .before in
+    let a = start .args in
+    one-step (moveOf (a .n) (a .m) (a .p) (a .s) (a .list .now) (a .sets .now)) (runningOf (a .store .now) (a .marks .now) (a .work .now)) (a .place) (start .pre .0) (start .pre .1 .0) _ _ _ _ (c .run .ensures)
+
+run-requires : tie.Need-run-requires
+run-requires c κs = search needs
+
+put-line-requires : tie.Need-put-line-requires
+put-line-requires c κs =
+    let start = c .before .before .before .before .before .before .before .before .before .before .before .before .before .before .before .before .before .before in
+    let a = start .args in
+    let given = run-taken (moveOf (a .n) (a .m) (a .p) (a .s) (a .list .now) (a .sets .now)) _ _ (a .place) (start .pre .0 .taken) .accepted .ranges in
+    (omega (arith, given), rw (same-operation (a .n) (a .m) (a .p) (a .s) (a .place)) (omega (arith, told (c .before .before .before .before .before .before .before .before) .short)))
+
+wide-requires : tie.Need-wide-requires
+wide-requires c κs = search needs
+
+wide-requires-2 : tie.Need-wide-requires-2
+wide-requires-2 c κs = search needs
+
+same-length : tie.Need-same-length
+same-length c = search needs
+
+same-length-2 : tie.Need-same-length-2
+same-length-2 c = search needs
+
+same-length-3 : tie.Need-same-length-3
+same-length-3 c = search needs
+
+same-length-4 : tie.Need-same-length-4
+same-length-4 c = search needs
+
+returns : tie.Need-returns
+returns c =
+    let a = c .before .before .before .before .before .before .before .before .before .before .before .before .before .before .before .before .before .before .before .before .before .before .before .args in
+    let one = told (c .before .before .before .before .before .before .before .before .before .before .before .before .before) in
+    record {
+      left = one .left;
+      printed = rw (same-operation (a .n) (a .m) (a .p) (a .s) (a .place)) at (c .before .before .before .before .put-line .ensures);
+      short = one .short;
+      writes-is = c .before .wide .ensures ∙ one .writes-is;
+      erases-is = c .wide2 .ensures ∙ one .erases-is;
+    }
+
+pub put-step-spec : {M : Type 1} → statement M
+put-step-spec = tie.close (tie.spec run-requires put-line-requires wide-requires wide-requires-2 same-length same-length-2 same-length-3 same-length-4 returns)

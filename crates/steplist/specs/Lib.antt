@@ -1,0 +1,4 @@
+pub mod Output
+pub mod Listing
+pub mod Given
+pub mod Example

@@ -1,0 +1,47 @@
+-- Document 01, "The step program": the whole output of an input.
+use mathlib.Core.Bool.{cond}
+use mathlib.Core.List.{List, [], _++_}
+use Prim.Native.Nat.{ℕ, zero, suc}
+use lib.ListN.{replicate}
+use Rattle.flash.specs.Geometry.{Sizes, originalCount}
+use Rattle.split.specs.OneToOne.{badList}
+use Rattle.split.specs.Rule.{splitByRule}
+use Rattle.method.specs.Move.{Move}
+use Rattle.method.specs.Place.{Operation, write, erase, done, operations, operationAt, lastPlace}
+use Rattle.method.specs.State.{atRest}
+use Rattle.method.specs.Step.{Running, step, tally}
+use Rattle.listing.specs.Request.{Reading, unreadable, refused, request, reading, withinLimit}
+use Rattle.listing.specs.Lines.{writeLine, eraseLine, endLine, refusedLine, unreadableLine}
+
+-- the line of a step; after a write the work page is the page written
+unfoldable pub stepLine : (place : ℕ) → Operation → (work : List ℕ) → List ℕ
+stepLine place (write pass block page) work = writeLine place block page work
+stepLine place (erase block) work = eraseLine place block
+stepLine place done work = []
+
+-- the lines of `count` steps from a place on
+unfoldable pub stepLines : Move → (count place : ℕ) → Running → List ℕ
+stepLines M zero place run = []
+stepLines M (suc count) place run =
+    let after = step M place run in
+    stepLine place (operationAt (M .sizes) place) (after .work) ++ stepLines M count (suc place) after
+
+-- the lines of all steps, and the end line
+unfoldable pub moveLines : Move → Running → List ℕ
+moveLines M start =
+    let counts = tally (operations (M .sizes)) in
+    stepLines M (lastPlace (M .sizes)) 0 start ++ endLine (counts .writes) (counts .erases)
+
+-- "The spare is blank.": the move of a store at rest, by the split that the split call makes
+unfoldable pub listed : Sizes → (list bytes : List ℕ) → List ℕ
+listed Z list bytes =
+    moveLines (record { sizes = Z; list = list; sets = splitByRule (Z .n) (Z .m) list }) (record { chip = atRest Z bytes; work = replicate (Z .P) 0 })
+
+-- "A bad list gives `refused 3`." An entry above 16 bits is at or above n × m, as any other too large.
+unfoldable pub answered : Reading → List ℕ
+answered unreadable = unreadableLine
+answered refused = refusedLine 1
+answered (request Z list bytes) = cond (badList (originalCount Z) list) (refusedLine 3) (listed Z list bytes)
+
+unfoldable pub output : (input : List ℕ) → List ℕ
+output input = answered (reading (withinLimit input))

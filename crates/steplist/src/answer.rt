@@ -1,0 +1,179 @@
+// The answer to an input.
+ghost use mathlib.Core.Path.{_≡_};
+ghost use Prim.Native.Nat.{_*_, _≤_};
+ghost use lib.ListN.{length, take};
+ghost use Rattle.listing.specs.Request.{request};
+ghost use Rattle.listing.specs.Found.{requestIn};
+ghost use Rattle.steplist.specs.Output.{listed, answered, output};
+ghost use Rattle.steplist.specs.Listing.{mostOutput};
+ghost use Rattle.steplist.specs.Given.{Asked, Readable, Accepted, Empty, Counts};
+use crate::listed::put_listing;
+use crate::rest::put_marks;
+use crate::rest::put_store;
+use flash::sizes::original_count;
+use flash::sizes::slot_count;
+use flash::sizes::store_length;
+use listing::fit::fit;
+use listing::fit::put_entries;
+use listing::lines::put_refused;
+use listing::lines::put_unreadable;
+use listing::request::MOST_NUMBERS;
+use listing::request::Request;
+use listing::request::limit;
+use listing::request::numbers_due;
+use listing::request::read;
+use split::call::split;
+
+// Room for the longest output.
+pub const MOST_OUTPUT: usize = 32768;
+
+// The largest number that an entry of 16 bits holds.
+const MOST_ENTRY: u32 = 65535;
+
+// The most originals: n and m are at most 8.
+const MOST_ORIGINALS: usize = 64;
+
+// The most slots, with the spare's.
+const MOST_SLOTS: usize = 72;
+
+const MOST_PAGE: usize = 64;
+
+const MOST_STORE: usize = 4608;
+
+// Fills the store and the marks as they are at rest, and lists the move.
+fn put_from_rest(
+    out: &mut [u8],
+    n: usize,
+    m: usize,
+    p: usize,
+    s: usize,
+    list: &[u16],
+    sets: &[u8],
+    originals: &[u32],
+    store: &mut [u8],
+    marks: &mut [u8],
+    work: &mut [u8],
+) -> usize
+    requires { ⌜ Accepted (record { n = n; m = m; P = p; s = s }) (now list) (now sets) (now originals) × Empty (record { n = n; m = m; P = p; s = s }) (now store) (now marks) (now work) × (mostOutput ≤ length (now out)) ⌝ }
+    ensures { λ r. ⌜ take r (now (out .exit)) ≡ listed (record { n = n; m = m; P = p; s = s }) (now (list .entry)) (now (originals .entry)) ⌝ }
+    ensures { λ r. ⌜ r ≤ mostOutput ⌝ }
+{
+    put_store(originals, m * p, store);
+    put_marks(m, s as u8, marks);
+    put_listing(out, n, m, p, s, list, sets, store, marks, work)
+}
+
+// Lists the move of an accepted request.
+fn put_accepted(
+    out: &mut [u8],
+    n: usize,
+    m: usize,
+    p: usize,
+    s: usize,
+    list: &[u16],
+    sets: &[u8],
+    originals: &[u32],
+) -> usize
+    requires { ⌜ Accepted (record { n = n; m = m; P = p; s = s }) (now list) (now sets) (now originals) × (mostOutput ≤ length (now out)) ⌝ }
+    ensures { λ r. ⌜ take r (now (out .exit)) ≡ listed (record { n = n; m = m; P = p; s = s }) (now (list .entry)) (now (originals .entry)) ⌝ }
+    ensures { λ r. ⌜ r ≤ mostOutput ⌝ }
+{
+    let mut store = [0u8; MOST_STORE];
+    let mut marks = [0u8; MOST_SLOTS];
+    let mut work = [0u8; MOST_PAGE];
+    let size = store_length(n, m, p);
+    let slots = slot_count(n, m);
+    put_from_rest(
+        out,
+        n,
+        m,
+        p,
+        s,
+        list,
+        sets,
+        originals,
+        &mut store[..size],
+        &mut marks[..slots],
+        &mut work[..p],
+    )
+}
+
+// Judges and splits the list of a request, and lists its move. A number is judged before it is cut to 16 bits.
+fn put_judged(
+    out: &mut [u8],
+    n: usize,
+    m: usize,
+    p: usize,
+    s: usize,
+    entries: &[u32],
+    originals: &[u32],
+    list: &mut [u16],
+    sets: &mut [u8],
+) -> usize
+    requires { ⌜ Readable (record { n = n; m = m; P = p; s = s }) (now entries) (now originals) × (length (now list) ≡ n * m) × (length (now sets) ≡ n * m) × (mostOutput ≤ length (now out)) ⌝ }
+    ensures { λ r. ⌜ take r (now (out .exit)) ≡ answered (request (record { n = n; m = m; P = p; s = s }) (now (entries .entry)) (now (originals .entry))) ⌝ }
+    ensures { λ r. ⌜ r ≤ mostOutput ⌝ }
+{
+    if !fit(entries, MOST_ENTRY) {
+        return put_refused(out, 0, 3);
+    }
+    put_entries(entries, list);
+    if split(n, m, p, s, list, sets) != 0 {
+        return put_refused(out, 0, 3);
+    }
+    put_accepted(out, n, m, p, s, list, sets, originals)
+}
+
+// Answers a request whose numbers were read.
+fn put_move(out: &mut [u8], n: usize, m: usize, p: usize, s: usize, numbers: &[u32]) -> usize
+    requires { ⌜ Asked (record { n = n; m = m; P = p; s = s }) (now numbers) × (4160 ≤ length (now numbers)) × (mostOutput ≤ length (now out)) ⌝ }
+    ensures { λ r. ⌜ take r (now (out .exit)) ≡ answered (requestIn (now (numbers .entry)) (record { n = n; m = m; P = p; s = s })) ⌝ }
+    ensures { λ r. ⌜ r ≤ mostOutput ⌝ }
+{
+    let mut list = [0u16; MOST_ORIGINALS];
+    let mut sets = [0u8; MOST_ORIGINALS];
+    let count = original_count(n, m);
+    let due = numbers_due(count, p);
+    put_judged(
+        out,
+        n,
+        m,
+        p,
+        s,
+        &numbers[..count],
+        &numbers[count..due],
+        &mut list[..count],
+        &mut sets[..count],
+    )
+}
+
+// The same, in an area and with room of fixed sizes.
+fn put_request(
+    out: &mut [u8; MOST_OUTPUT],
+    n: usize,
+    m: usize,
+    p: usize,
+    s: usize,
+    numbers: &[u32; MOST_NUMBERS],
+) -> usize
+    requires { ⌜ Asked (record { n = n; m = m; P = p; s = s }) (now numbers) ⌝ }
+    ensures { λ r. ⌜ take r (now (out .exit)) ≡ answered (requestIn (now (numbers .entry)) (record { n = n; m = m; P = p; s = s })) ⌝ }
+    ensures { λ r. ⌜ r ≤ length (now (out .exit)) ⌝ }
+{
+    put_move(out, n, m, p, s, numbers)
+}
+
+// Answers an input: the answer stands at the front of `out`, and its length is returned. The input's byte behind the limit, if it has
+// one, is overwritten.
+pub fn answer(input: &mut [u8], out: &mut [u8; MOST_OUTPUT]) -> usize
+    ensures { λ r. ⌜ take r (now (out .exit)) ≡ output (now (input .entry)) ⌝ }
+    ensures { λ r. ⌜ Counts r (now (out .exit)) ⌝ }
+{
+    let mut numbers = [0u32; MOST_NUMBERS];
+    let end = limit(input);
+    match read(&input[..end], &mut numbers) {
+        Request::Unreadable => put_unreadable(out, 0),
+        Request::Refused => put_refused(out, 0, 1),
+        Request::Move { n, m, p, s } => put_request(out, n, m, p, s, &numbers),
+    }
+}

@@ -1,0 +1,12 @@
+// The step program on slices: its output as a definition, and the code that makes it.
+pub mod answer;
+pub mod line;
+pub mod listed;
+pub mod rest;
+
+ghost use Rattle.steplist.specs.Example.{Examples};
+
+// The examples, as the contract of a function that does nothing: the check demands their proof.
+pub fn claims()
+    ensures examples { λ _. ⌜ Examples ⌝ }
+{}

@@ -1,0 +1,37 @@
+// The line of one step.
+ghost use Prim.Native.Nat.{_+_, _≤_, _<_};
+ghost use lib.ListN.{length};
+ghost use Rattle.method.specs.Place.{operationAt};
+ghost use Rattle.listing.specs.Lines.{Printed};
+ghost use Rattle.steplist.specs.Output.{stepLine};
+use listing::lines::put_erase;
+use listing::lines::put_write;
+use mover::place::Op;
+use mover::place::Place;
+
+// Prints the line of the step at a place: after a write the work page is the page written. Answers the next position.
+pub fn put_line(
+    out: &mut [u8],
+    at: usize,
+    n: usize,
+    m: usize,
+    s: usize,
+    place: usize,
+    work: &[u8],
+) -> usize
+    requires { ⌜ (1 ≤ n) × (n ≤ 64) × (1 ≤ m) × (m ≤ 64) × (s < 3) ⌝ }
+    requires { ⌜ at + length (stepLine place (operationAt (record { n = n; m = m; P = 0; s = s }) place) (now work)) ≤ length (now out) ⌝ }
+    ensures { λ r. ⌜ Printed (stepLine place (operationAt (record { n = n; m = m; P = 0; s = s }) place) (now (work .entry))) (now (out .entry)) at (now (out .exit)) r ⌝ }
+{
+    let here = Place { at: place };
+    match here.operation(n, m, s) {
+        Op::Write {
+            backward: _,
+            block,
+            page,
+            mark: _,
+        } => put_write(out, at, place, block, page, work),
+        Op::Erase { block } => put_erase(out, at, place, block),
+        Op::Done => at,
+    }
+}

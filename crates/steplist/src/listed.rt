@@ -1,0 +1,105 @@
+// The lines of all steps and the end line.
+ghost use mathlib.Core.Path.{_≡_};
+ghost use Prim.Native.Nat.{_+_, _≤_, _<_};
+ghost use lib.ListN.{length, take};
+ghost use Rattle.method.specs.Place.{lastPlace};
+ghost use Rattle.steplist.specs.Output.{moveLines};
+ghost use Rattle.steplist.specs.Listing.{moveOf, runningOf, Listable, mostLine, mostOutput, Stepped, Shows};
+use crate::line::put_line;
+use listing::lines::put_end;
+use mover::place::last_place;
+use mover::run::run;
+use walk::sizes::Sizes;
+
+// How far the listing has come: the next position, and what was counted.
+pub struct Shown {
+    pub at: usize,
+    pub writes: usize,
+    pub erases: usize,
+}
+
+fn wide(count: u32) -> usize
+    ensures { λ r. ⌜ r ≡ count ⌝ }
+{
+    count as usize
+}
+
+// Takes the step at a place and prints its line.
+fn put_step(
+    out: &mut [u8],
+    at: usize,
+    n: usize,
+    m: usize,
+    p: usize,
+    s: usize,
+    list: &[u16],
+    sets: &[u8],
+    store: &mut [u8],
+    marks: &mut [u8],
+    work: &mut [u8],
+    place: usize,
+) -> Shown
+    requires { ⌜ Listable (moveOf n m p s (now list) (now sets)) (runningOf (now store) (now marks) (now work)) place ⌝ }
+    requires { ⌜ (place < lastPlace (record { n = n; m = m; P = p; s = s })) × (at + mostLine ≤ length (now out)) ⌝ }
+    ensures { λ r. ⌜ Stepped (moveOf n m p s (now (list .entry)) (now (sets .entry))) place (runningOf (now (store .entry)) (now (marks .entry)) (now (work .entry))) (now (out .entry)) at r (now (out .exit)) (now (store .exit)) (now (marks .exit)) (now (work .exit)) ⌝ }
+{
+    let ran = run(n, m, p, s, list, sets, store, marks, work, place, 1);
+    let next = put_line(out, at, n, m, s, place, work);
+    Shown {
+        at: next,
+        writes: wide(ran.writes),
+        erases: wide(ran.erases),
+    }
+}
+
+// Takes all steps and prints their lines.
+fn put_steps(
+    out: &mut [u8],
+    n: usize,
+    m: usize,
+    p: usize,
+    s: usize,
+    list: &[u16],
+    sets: &[u8],
+    store: &mut [u8],
+    marks: &mut [u8],
+    work: &mut [u8],
+) -> Shown
+    requires { ⌜ Listable (moveOf n m p s (now list) (now sets)) (runningOf (now store) (now marks) (now work)) 0 × (mostOutput ≤ length (now out)) ⌝ }
+    ensures { λ r. ⌜ Shows (moveOf n m p s (now (list .entry)) (now (sets .entry))) (runningOf (now (store .entry)) (now (marks .entry)) (now (work .entry))) (lastPlace (record { n = n; m = m; P = p; s = s })) (r .at) (r .writes) (r .erases) (now (out .exit)) (now (store .exit)) (now (marks .exit)) (now (work .exit)) ⌝ }
+{
+    let last = last_place(Sizes { n, m, p, s });
+    let mut at = 0;
+    let mut writes = 0;
+    let mut erases = 0;
+    let mut place = 0;
+    while place < last {
+        let step = put_step(out, at, n, m, p, s, list, sets, store, marks, work, place);
+        at = step.at;
+        writes += step.writes;
+        erases += step.erases;
+        place += 1;
+    }
+    Shown { at, writes, erases }
+}
+
+// Moves a store at rest step by step, and prints the lines of the steps and the end line. Answers how many bytes were printed.
+pub fn put_listing(
+    out: &mut [u8],
+    n: usize,
+    m: usize,
+    p: usize,
+    s: usize,
+    list: &[u16],
+    sets: &[u8],
+    store: &mut [u8],
+    marks: &mut [u8],
+    work: &mut [u8],
+) -> usize
+    requires { ⌜ Listable (moveOf n m p s (now list) (now sets)) (runningOf (now store) (now marks) (now work)) 0 × (mostOutput ≤ length (now out)) ⌝ }
+    ensures { λ r. ⌜ take r (now (out .exit)) ≡ moveLines (moveOf n m p s (now (list .entry)) (now (sets .entry))) (runningOf (now (store .entry)) (now (marks .entry)) (now (work .entry))) ⌝ }
+    ensures { λ r. ⌜ r ≤ mostOutput ⌝ }
+{
+    let shown = put_steps(out, n, m, p, s, list, sets, store, marks, work);
+    put_end(out, shown.at, shown.writes, shown.erases)
+}

@@ -1,3 +1,0 @@
-pub mod Exampled
-pub mod LineLaws
-pub mod RestLaws

@@ -1,9 +1,0 @@
-use Rattle.steps.proofs.Exampled.{example}
-use Rattle.steps.proofs.claims.Statement.{statement}
-use Rattle.steps.proofs.claims.Tie as tie
-
-returns : tie.Need-returns
-returns c = example
-
-pub claims-spec : {M : Type 1} → statement M
-claims-spec = tie.close (tie.spec returns)
