@@ -13,6 +13,7 @@ pub mod CodedWalks
 pub mod Reading
 pub mod Cases
 pub mod MendLines
+pub mod MendNext
 pub mod Fits
 pub mod WalksEnd
 pub mod Refusals

@@ -1,7 +1,7 @@
 -- The theorems of this crate, each a statement about the definitions; `claims` in src/lib.rt demands their proofs.
 use mathlib.Core.Bool.{true, false, _||_}
 use mathlib.Core.Path.{_≡_}
-use mathlib.Core.Logic.{_≢_}
+use mathlib.Core.Logic.{_≢_, _⊎_}
 use mathlib.Core.List.{List, List·Memᴰ}
 use mathlib.Core.Option.{some}
 use Prim.Native.Nat.{ℕ, _+_, _-_, _*_, _/_, _≤_, _<_}
@@ -15,7 +15,7 @@ use Rattle.split.specs.Split.{setOf, isSplit}
 use Rattle.method.specs.Move.{Move}
 use Rattle.method.specs.Cycle.{dest, top}
 use Rattle.method.specs.Read.{fullOf, goBack, goOn, readSlots}
-use Rattle.method.specs.Place.{Pass, write, erase, operations, lastPlace, operationAt, blank, heldAt, marksOf}
+use Rattle.method.specs.Place.{Pass, write, erase, done, operations, lastPlace, operationAt, passAt, blank, heldAt, marksOf}
 use Rattle.method.specs.Step.{erasesBlock, tally, operationsFrom}
 use Rattle.method.specs.Mend.{Reading, lines, reading}
 use Rattle.method.specs.Answers.{runRows, mendRows, readRows}
@@ -111,6 +111,16 @@ LinesAgree =
     → List·Memᴰ one (lines Z marks) → List·Memᴰ other (lines Z marks)
     → one .fits ≡ true → other .fits ≡ true → one .gives ≡ other .gives
 
+-- The block is written next from its page 0 on; or no step is left, and it is the spare.
+unfoldable pub WrittenNext : Sizes → (place block : ℕ) → Type 0
+WrittenNext Z place block = (operationAt Z place ≡ write (passAt Z place) block 0) ⊎ ((operationAt Z place ≡ done) × (block ≡ 0))
+
+-- The block that mend erases is the one that the step at its place speaks of: so a program that drives a chip knows which it is.
+unfoldable pub ErasesNext : Type 0
+ErasesNext =
+    (Z : Sizes) → inRange Z ≡ true → (marks : List ℕ) (place block : ℕ)
+    → reading Z marks ≡ some (record { place = place; toErase = some block }) → WrittenNext Z place block
+
 -- "The lowest number that applies is returned."
 pub record LowestReturned : Type 0 where
   pub by-run : (M : Move) (chip : Chip) (work : List ℕ) (place : ℕ) → Lowest (runRows M chip work place) (refusal (runRows M chip work place))
@@ -128,6 +138,7 @@ pub record Claims : Type 0 where
   pub tops : TopIsHighest
   pub walks : WalksEnd
   pub lines : LinesAgree
+  pub erases-next : ErasesNext
   pub lowest : LowestReturned
   pub demand-3 : Demand3
   pub same-slots : SameSlots
