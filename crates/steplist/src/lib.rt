@@ -1,8 +1,8 @@
 // The step program on slices: its output as a definition, and the code that makes it.
 pub mod answer;
-pub mod line;
-pub mod listed;
-pub mod rest;
+mod line;
+mod listed;
+mod rest;
 
 ghost use Rattle.steplist.specs.Example.{Examples};
 
