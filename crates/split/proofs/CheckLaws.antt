@@ -1,89 +1,167 @@
--- The check of a list: a table of bits tells which entries were met.
-use mathlib.Core.Path.{_≡_, sym, ap, _∙_, subst}
+-- The check of a list, window by window: a table of bits tells which entries of a window were met.
+use mathlib.Core.Path.{_≡_, refl, sym, ap, _∙_, subst}
 use mathlib.Core.Logic.{_⊎_, inl, inr, _≢_, ⊎-elim}
 use mathlib.Core.Bool.{true, false}
 use mathlib.Core.List.{List}
-use Prim.Native.Nat.{ℕ, _+_, _-_, _/_, _%_, _≤_, _<_}
+use Prim.Native.Nat.{ℕ, _+_, _-_, _*_, _/_, _%_, _≤_, _<_}
 use native.Mathlib.Omega.{arith}
 use native.Mathlib.Nat.{not-suc-le-zero}
+use lib.Dec.{eqb, ltb}
 use lib.ListN.{length, getD, replicate}
+use borrow.Author.Tests.{eqb-true, eqb-false, eq-eqb, ne-eqb, ltb-true, lt-ltb, le-ltb, not-true}
+use Rattle.flash.specs.Lists.{range, any}
 use Rattle.split.specs.OneToOne.{isOneToOne}
+use Rattle.split.specs.Window.{isGood, differWithin}
 use Rattle.split.specs.Mask.{bitAt, FlippedAt}
-use Rattle.flash.proofs.Bools.{fails}
-use Rattle.split.proofs.Lists.{lt-cases, eq-cases}
+use Rattle.flash.proofs.Bools.{bool-cases, never-both, fails, and-left, and-right}
+use Rattle.flash.proofs.Ranges.{all-in, all-is, all-not, none-in, none-is, any-is}
+use Rattle.split.proofs.Lists.{lt-cases, eq-cases, ne-lt}
 use Rattle.split.proofs.MaskLaws.{zeros-at, no-bits, bit-lt}
 use Rattle.split.proofs.OneToOneLaws.{one-to-one-of, entry-lt, entry-same}
 
--- the bit of a number of 16 bits
+-- ---- one entry
+module _ (originals window : ℕ) (list : List ℕ) (k : ℕ) where
+  pub good-lt : isGood originals window list k ≡ true → getD list k 0 < originals
+  unfolding isGood
+  good-lt e = ltb-true _ _ (and-left (ltb (getD list k 0) originals) _ e)
+
+  -- a good entry of the window differs from those before it
+  pub good-new : isGood originals window list k ≡ true → getD list k 0 / 4096 ≡ window
+      → (j : ℕ) → j < k → getD list j 0 ≢ getD list k 0
+  unfolding isGood
+  good-new e w j h q =
+      let new = rw (eq-eqb _ window w) at (and-right (ltb (getD list k 0) originals) _ e) in
+      never-both (eq-eqb _ _ q) (none-in (λ j. eqb (getD list j 0) (getD list k 0)) 0 k (not-true _ new) j (omega arith) (omega arith))
+
+  pub good-of : getD list k 0 < originals
+      → (getD list k 0 / 4096 ≡ window → (j : ℕ) → j < k → getD list j 0 ≢ getD list k 0) → isGood originals window list k ≡ true
+  unfolding isGood
+  good-of small new = rw (lt-ltb _ _ small) (⊎-elim
+      (λ (w : getD list k 0 / 4096 ≡ window).
+      rw (none-is (λ j. eqb (getD list j 0) (getD list k 0)) 0 k (λ j a h. ne-eqb _ _ (new w j (omega arith))), eq-eqb _ window w))
+      (λ (w : getD list k 0 / 4096 ≢ window). rw (ne-eqb _ window w))
+      (eq-cases (getD list k 0 / 4096) window))
+
+-- ---- one window
+halves : (a : ℕ) → a / 4096 ≡ a / 64 / 64
+halves a = omega arith
+
+-- numbers of one window that share a bit are the same
+same-number : (a b : ℕ) → a / 4096 ≡ b / 4096 → a / 64 % 64 ≡ b / 64 % 64 → a % 64 ≡ b % 64 → a ≡ b
+same-number a b window mask bit = joined a b (joined (a / 64) (b / 64) (sym (halves a) ∙ window ∙ halves b) mask) bit
+  where
+    joined : (a b : ℕ) → a / 64 ≡ b / 64 → a % 64 ≡ b % 64 → a ≡ b
+    joined a b p q = omega arith
+
+-- the bit of an entry
 abbrev pub bitOf : (seen : List ℕ) (entry : ℕ) → ℕ
-bitOf seen entry = bitAt (getD seen (entry / 64) 0) (entry % 64)
+bitOf seen entry = bitAt (getD seen (entry / 64 % 64) 0) (entry % 64)
 
--- the first k entries are good, and the bits tell which they are
-pub record Seen (originals : ℕ) (list seen : List ℕ) (k : ℕ) : Type 0 where
+-- the first k entries are good, and the bits tell which of them lie in the window
+pub record Seen (originals window : ℕ) (list seen : List ℕ) (k : ℕ) : Type 0 where
   pub within : k ≤ length list
-  pub below : (j : ℕ) → j < k → getD list j 0 < originals
-  pub distinct : (i j : ℕ) → i < k → j < k → getD list i 0 ≡ getD list j 0 → i ≡ j
-  pub marked : (j : ℕ) → j < k → bitOf seen (getD list j 0) ≡ 1
-  pub only : (entry : ℕ) → bitOf seen entry ≡ 1 → (j : ℕ) × (j < k) × (getD list j 0 ≡ entry)
+  pub good : (j : ℕ) → j < k → isGood originals window list j ≡ true
+  pub marked : (j : ℕ) → j < k → getD list j 0 / 4096 ≡ window → bitOf seen (getD list j 0) ≡ 1
+  pub only : (entry : ℕ) → entry / 4096 ≡ window → bitOf seen entry ≡ 1 → (j : ℕ) × (j < k) × (getD list j 0 ≡ entry)
 
-pub nothing-seen : (originals n : ℕ) (list : List ℕ) → Seen originals list (replicate n 0) 0
-nothing-seen originals n list = record {
+pub nothing-seen : (originals window n : ℕ) (list : List ℕ) → Seen originals window list (replicate n 0) 0
+nothing-seen originals window n list = record {
   within = omega arith;
-  below = λ j h. absurd (not-suc-le-zero h);
-  distinct = λ i j h. absurd (not-suc-le-zero h);
+  good = λ j h. absurd (not-suc-le-zero h);
   marked = λ j h. absurd (not-suc-le-zero h);
-  only = λ entry e. absurd (no-bit entry e);
+  only = λ entry w e. absurd (no-bit entry e);
 }
   where
     no-bit : (entry : ℕ) → bitOf (replicate n 0) entry ≡ 1 → ⊥
-    no-bit entry e = let z = ap (λ (mask : ℕ). bitAt mask (entry % 64)) (zeros-at n (entry / 64)) ∙ no-bits (entry % 64) in omega arith
+    no-bit entry e = let z = ap (λ (mask : ℕ). bitAt mask (entry % 64)) (zeros-at n (entry / 64 % 64)) ∙ no-bits (entry % 64) in omega arith
 
-module _ (originals : ℕ) (list seen : List ℕ) (k : ℕ) (S : Seen originals list seen k) where
-  pub all-good : length list ≤ k → isOneToOne originals list ≡ true
-  all-good h = one-to-one-of originals list (λ j l. S .below j (omega arith))
-      (λ i j l o e. S .distinct i j (omega arith) (omega arith) e)
+module _ (originals window : ℕ) (list seen : List ℕ) (k : ℕ) (S : Seen originals window list seen k) where
+  pub all-good : length list ≤ k → differWithin originals window list ≡ true
+  unfolding differWithin
+  all-good h = all-is (isGood originals window list) 0 (length list) (λ j a l. S .good j (omega arith))
+
+  last : (P : ℕ → Type 0) → ((j : ℕ) → j < k → P j) → P k → (j : ℕ) → j < k + 1 → P j
+  last P f p j h = ⊎-elim (λ (l : j < k). f j l) (λ (l : k ≤ j). let e : k ≡ j = omega arith in subst P e p) (lt-cases j k)
 
   module _ (more : k < length list) where
-    pub too-large : originals ≤ getD list k 0 → isOneToOne originals list ≡ false
-    too-large h = fails (λ one. let l = entry-lt originals list one k more in omega arith)
+    bad : isGood originals window list k ≡ false → differWithin originals window list ≡ false
+    unfolding differWithin
+    bad e = all-not (isGood originals window list) 0 (length list) k (omega arith) (omega arith) e
 
-    pub repeated : bitOf seen (getD list k 0) ≡ 1 → isOneToOne originals list ≡ false
-    repeated e = fails (λ one.
-        let r = S .only (getD list k 0) e in
-        let l = r .1 in
-        let s : r .0 ≡ k = entry-same originals list one (r .0) k (omega arith) more (r .2) in
-        omega arith)
+    pub too-large : originals ≤ getD list k 0 → differWithin originals window list ≡ false
+    too-large h = bad (fails (λ e. let l = good-lt originals window list k e in omega arith))
 
-    pub one-more : (after : List ℕ) → getD list k 0 < originals → bitOf seen (getD list k 0) ≢ 1
-        → FlippedAt seen (getD list k 0 / 64) (getD list k 0 % 64) after → Seen originals list after (k + 1)
-    one-more after small fresh flip = record {
+    pub repeated : getD list k 0 / 4096 ≡ window → bitOf seen (getD list k 0) ≡ 1 → differWithin originals window list ≡ false
+    repeated w e = bad (fails (λ good.
+        let r = S .only (getD list k 0) w e in good-new originals window list k good w (r .0) (r .1) (r .2)))
+
+    -- an entry of another window
+    pub one-beside : getD list k 0 < originals → getD list k 0 / 4096 ≢ window → Seen originals window list seen (k + 1)
+    one-beside small beside = record {
       within = omega arith;
-      below = λ j h. last (λ j. getD list j 0 < originals) (S .below) small j h;
-      distinct = λ i j h l e. two i j h l e (lt-cases i k) (lt-cases j k);
-      marked = λ j h. last (λ j. bitOf after (getD list j 0) ≡ 1) (λ j l. other (getD list j 0) (new j l) ∙ S .marked j l) set-now j h;
-      only = λ entry e. ⊎-elim
+      good = last (λ j. isGood originals window list j ≡ true) (S .good) (good-of originals window list k small (λ w. absurd (beside w)));
+      marked = last (λ j. getD list j 0 / 4096 ≡ window → bitOf seen (getD list j 0) ≡ 1) (S .marked) (λ w. absurd (beside w));
+      only = λ entry w e. let r = S .only entry w e in (r .0, omega (arith, r .1), r .2);
+    }
+
+    -- an entry of this window, whose bit was not set
+    pub one-more : (after : List ℕ) → getD list k 0 < originals → getD list k 0 / 4096 ≡ window → bitOf seen (getD list k 0) ≢ 1
+        → FlippedAt seen (getD list k 0 / 64 % 64) (getD list k 0 % 64) after → Seen originals window list after (k + 1)
+    one-more after small here fresh flip = record {
+      within = omega arith;
+      good = last (λ j. isGood originals window list j ≡ true) (S .good) (good-of originals window list k small (λ w. new));
+      marked = last (λ j. getD list j 0 / 4096 ≡ window → bitOf after (getD list j 0) ≡ 1)
+          (λ j l w. other (getD list j 0) w (new j l) ∙ S .marked j l w) (λ w. set-now);
+      only = λ entry w e. ⊎-elim
           (λ (q : entry ≡ getD list k 0). (k, omega arith, sym q))
-          (λ (q : entry ≢ getD list k 0). (let r = S .only entry (sym (other entry q) ∙ e) in (r .0, omega (arith, r .1), r .2)))
+          (λ (q : entry ≢ getD list k 0). (let r = S .only entry w (sym (other entry w q) ∙ e) in (r .0, omega (arith, r .1), r .2)))
           (eq-cases entry (getD list k 0));
     }
       where
-        last : (P : ℕ → Type 0) → ((j : ℕ) → j < k → P j) → P k → (j : ℕ) → j < k + 1 → P j
-        last P f p j h = ⊎-elim (λ (l : j < k). f j l) (λ (l : k ≤ j). let e : k ≡ j = omega arith in subst P e p) (lt-cases j k)
-
         set-now : bitOf after (getD list k 0) ≡ 1
-        set-now = flip .changed ∙ omega (arith, bit-lt (getD seen (getD list k 0 / 64) 0) (getD list k 0 % 64))
+        set-now = flip .changed ∙ omega (arith, bit-lt (getD seen (getD list k 0 / 64 % 64) 0) (getD list k 0 % 64))
 
         new : (j : ℕ) → j < k → getD list j 0 ≢ getD list k 0
-        new j h e = fresh (ap (bitOf seen) (sym e) ∙ S .marked j h)
+        new j h e = fresh (ap (bitOf seen) (sym e) ∙ S .marked j h (ap (λ (x : ℕ). x / 4096) e ∙ here))
 
-        other : (entry : ℕ) → entry ≢ getD list k 0 → bitOf after entry ≡ bitOf seen entry
-        other entry ne = flip .same (entry / 64) (entry % 64) (⊎-elim
-            (λ (q : entry / 64 ≡ getD list k 0 / 64). inr (λ r. ne (omega arith)))
-            (λ (q : entry / 64 ≢ getD list k 0 / 64). inl q)
-            (eq-cases (entry / 64) (getD list k 0 / 64)))
+        other : (entry : ℕ) → entry / 4096 ≡ window → entry ≢ getD list k 0 → bitOf after entry ≡ bitOf seen entry
+        other entry w ne = flip .same (entry / 64 % 64) (entry % 64) (⊎-elim
+            (λ (q : entry / 64 % 64 ≡ getD list k 0 / 64 % 64). inr (λ r. ne (same-number entry (getD list k 0) (w ∙ sym here) q r)))
+            (λ (q : entry / 64 % 64 ≢ getD list k 0 / 64 % 64). inl q)
+            (eq-cases (entry / 64 % 64) (getD list k 0 / 64 % 64)))
 
-        two : (i j : ℕ) → i < k + 1 → j < k + 1 → getD list i 0 ≡ getD list j 0 → (i < k) ⊎ (k ≤ i) → (j < k) ⊎ (k ≤ j) → i ≡ j
-        two i j h l e (inl p) (inl q) = S .distinct i j p q e
-        two i j h l e (inl p) (inr q) = let s : j ≡ k = omega arith in absurd (new i p (e ∙ ap (λ (x : ℕ). getD list x 0) s))
-        two i j h l e (inr p) (inl q) = let s : i ≡ k = omega arith in absurd (new j q (sym e ∙ ap (λ (x : ℕ). getD list x 0) s))
-        two i j h l e (inr p) (inr q) = omega arith
+-- ---- all windows
+module _ (originals : ℕ) (list : List ℕ) where
+  pub one-fails : (window : ℕ) → differWithin originals window list ≡ false → isOneToOne originals list ≡ false
+  unfolding differWithin
+  one-fails window e = fails (λ one. never-both (all-is (isGood originals window list) 0 (length list) (λ k a h.
+      good-of originals window list k (entry-lt originals list one k (omega arith))
+      (λ w j l q. let s : j ≡ k = entry-same originals list one j k (omega arith) (omega arith) q in omega arith))) e)
+
+  -- the first windows are passed
+  abbrev pub Passed : ℕ → Type 0
+  Passed windows = (w : ℕ) → w < windows → differWithin originals w list ≡ true
+
+  pub one-passed : (window : ℕ) → Passed window → differWithin originals window list ≡ true → Passed (window + 1)
+  one-passed window passed e w h = ⊎-elim (λ (l : w < window). passed w l)
+      (λ (l : window ≤ w). let s : window ≡ w = omega arith in subst (λ (x : ℕ). differWithin originals x list ≡ true) s e) (lt-cases w window)
+
+  pub all-differ : (windows : ℕ) → 0 < windows → Passed windows
+      → ((k : ℕ) → k < length list → getD list k 0 < originals → getD list k 0 < windows * 4096) → isOneToOne originals list ≡ true
+  unfolding differWithin
+  all-differ windows some differ within = one-to-one-of originals list (λ k h. below k h)
+      (λ i j h l q. ⊎-elim
+      (λ (e : i ≡ j). e)
+      (λ (ne : i ≢ j). ⊎-elim (λ (o : i < j). absurd (apart i j o l q)) (λ (o : j < i). absurd (apart j i o h (sym q))) (ne-lt i j ne))
+      (eq-cases i j))
+    where
+      good : (w k : ℕ) → w < windows → k < length list → isGood originals w list k ≡ true
+      good w k a h = all-in (isGood originals w list) 0 (length list) (differ w a) k (omega arith) (omega arith)
+
+      below : (k : ℕ) → k < length list → getD list k 0 < originals
+      below k h = good-lt originals 0 list k (good 0 k some h)
+
+      apart : (i j : ℕ) → i < j → j < length list → getD list i 0 ≢ getD list j 0
+      apart i j o h =
+          let l = within j h (below j h) in
+          good-new originals (getD list j 0 / 4096) list j (good (getD list j 0 / 4096) j (omega arith) h) refl i o

@@ -3,22 +3,22 @@ use mathlib.Core.Path.{_≡_, refl, sym, ap, _∙_, subst}
 use mathlib.Core.Logic.{_⊎_, inl, inr, _≢_, ⊎-elim}
 use mathlib.Core.Bool.{Bool, true, false, _&&_, _||_, not, and-true, and-false}
 use mathlib.Core.List.{List}
-use Prim.Native.Nat.{ℕ, _+_, _*_, _≤_, _<_}
-use native.Mathlib.Nat.{not-suc-le-zero}
+use Prim.Native.Nat.{ℕ, suc, _+_, _-_, _*_, _≤_, _<_}
+use native.Mathlib.Nat.{not-suc-le-zero, suc-mul}
 use native.Mathlib.Omega.{arith}
 use lib.Dec.{eqb, leb}
 use lib.ListN.{length, getD, replicate}
 use borrow.Author.Tests.{eqb-true, eqb-false}
-use Rattle.flash.specs.Geometry.{Sizes, isLetter, inRange}
+use Rattle.flash.specs.Geometry.{Sizes, isLetter, inRange, blockOf}
 use Rattle.split.specs.OneToOne.{isOneToOne}
-use Rattle.split.specs.Split.{setOf, isSplit, isCorrectSplit}
+use Rattle.split.specs.Split.{sourceBlock, setOf, isSplit, isCorrectSplit}
 use Rattle.split.specs.Rule.{End, source, destination, blockAt}
 use Rattle.split.specs.Mask.{bitAt, FlippedAt}
 use Rattle.split.specs.Accepted.{Accepted}
 use Rattle.split.specs.Ends.{Masks}
 use Rattle.flash.proofs.Bools.{fails}
 use Rattle.split.proofs.Lists.{lt-cases}
-use Rattle.split.proofs.SplitLaws.{Proper, set-lt, same-from, same-to, split-of}
+use Rattle.split.proofs.SplitLaws.{Proper, place-block, set-lt, same-from, same-to, split-of}
 use Rattle.split.proofs.RuleLaws.{blocks}
 use Rattle.split.proofs.MaskedLaws.{is-page, page-is, no-masks, mask-more, bit-page, page-bit}
 
@@ -47,6 +47,34 @@ pub flips-at : {at at′ set set′ : ℕ} {masks after : List ℕ} {was : Bool}
     → Flips at′ set′ masks after was
 flips-at {at} {at′} {set} {set′} {masks} {after} {was} p q f =
     subst (λ (b : ℕ). Flips b set′ masks after was) p (subst (λ (s : ℕ). Flips at s masks after was) q f)
+
+-- ---- the source block, counted along: `end` is the first original behind it
+pub record Along (m k block end : ℕ) : Type 0 where
+  pub low : 1 ≤ block
+  pub ends : end ≡ (block - 1) * m + m
+  pub before : k < end
+  pub begun : end ≤ k + m
+
+pub along-start : (m : ℕ) → 1 ≤ m → Along m 0 1 m
+along-start m h = record { low = omega arith; ends = omega arith; before = h; begun = omega arith }
+
+module _ (m k block end : ℕ) (L : Along m k block end) where
+  pub along-block : (list : List ℕ) → block ≡ blockAt m list source k
+  unfolding blockAt sourceBlock
+  along-block list =
+      let ends = L .ends in
+      let j : ℕ = k + m - end in
+      let s : (block - 1) * m + j ≡ k = omega (arith, L .before, L .begun) in
+      sym (place-block m block j (L .low) (omega (arith, L .before))) ∙ ap (blockOf m) s
+
+  pub along-same : k + 1 ≢ end → Along m (k + 1) block end
+  along-same ne = record { low = L .low; ends = L .ends; before = omega (arith, L .before); begun = omega (arith, L .begun) }
+
+  pub along-next : k + 1 ≡ end → 1 ≤ m → Along m (k + 1) (block + 1) (end + m)
+  along-next e h =
+      let b : (block + 1 - 1) * m ≡ (block - 1) * m + m =
+      ap (λ (x : ℕ). x * m) (omega (arith, L .low)) ∙ suc-mul (block - 1) m in
+      record { low = omega arith; ends = rw b (ap (λ (x : ℕ). x + m) (L .ends)); before = omega arith; begun = omega arith }
 
 module _ (n m : ℕ) (list sets : List ℕ) (A : Accepted n m list) (len : length sets ≡ n * m) where
   split-proper : isSplit n m list sets ≡ true → (end : End) → Proper (n * m) sets (blockAt m list end)

@@ -1,4 +1,5 @@
 pub mod OneToOne
+pub mod Window
 pub mod Accepted
 pub mod Split
 pub mod Rule

@@ -18,19 +18,26 @@ fn sets_differ(n: usize, m: usize, list: &[u16], sets: &[u8]) -> bool
 {
     let mut from = [0u64; 65];
     let mut to = [0u64; 65];
+    // the block of original k, counted along, and the first original behind it
+    let mut block = 1;
+    let mut end = m;
     let mut k = 0;
     while k < list.len() {
         let set = wide(sets[k]);
         if m <= set {
             return false;
         }
-        if flip(&mut from, block_at(list, m, true, k), set) {
+        if flip(&mut from, block, set) {
             return false;
         }
         if flip(&mut to, block_at(list, m, false, k), set) {
             return false;
         }
         k += 1;
+        if k == end {
+            block += 1;
+            end += m;
+        }
     }
     true
 }

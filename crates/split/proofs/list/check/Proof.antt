@@ -1,71 +1,64 @@
-use mathlib.Core.Path.{_≡_, refl, sym, ap, _∙_, subst}
-use Prim.Native.Nat.{ℕ, _-_, _/_, _%_}
+use mathlib.Core.Path.{_≡_, sym, _∙_}
+use Prim.Native.Nat.{_+_, _-_, _≤_}
 use native.Mathlib.Omega.{arith}
 use borrow.Author.Needs.{needs}
-use borrow.Author.Tests.{eqb-true, eqb-false}
-use lib.ListN.{length}
-use Rattle.split.specs.Mask.{FlippedAt}
-use Rattle.split.proofs.CheckLaws.{bitOf, Seen, nothing-seen, all-good, too-large, repeated, one-more}
+use borrow.Author.Tests.{not-true, not-false}
+use Rattle.split.proofs.CheckLaws.{Passed, one-passed, one-fails, all-differ}
 use Rattle.split.proofs.list.check.Statement.{statement}
 use Rattle.split.proofs.list.check.Tie as tie
 
 abbrev Inv-loop : tie.InvT-loop
-Inv-loop list originals seen₀ k₀ seen k = Seen originals list seen k × (length seen ≡ 1024)
+Inv-loop list originals window₀ window = (window ≤ 16) × Passed originals list window
 
 abbrev μ-loop : tie.MeasureT-loop
-μ-loop list originals seen₀ k₀ seen k = length list - k
+μ-loop list originals window₀ window = 16 - window
 
 loop-holds : tie.Need-loop-holds Inv-loop μ-loop
-loop-holds c = (nothing-seen (c .before .args .originals) 1024 (c .before .args .list .now), refl)
+loop-holds c = (omega arith, λ w h. absurd (omega arith))
 
-mul-entry : tie.Need-mul-entry Inv-loop μ-loop
-mul-entry c = search needs
+differ-within-requires : tie.Need-differ-within-requires Inv-loop μ-loop
+differ-within-requires c κs = search needs
 
-shared-slice-read-entry : tie.Need-shared-slice-read-entry Inv-loop μ-loop
-shared-slice-read-entry c = search needs
-
-entry-requires : tie.Need-entry-requires Inv-loop μ-loop
-entry-requires c κs = search needs
+-- a window that was not refused is passed
+window-passed : (c : tie.Else1 Inv-loop μ-loop)
+    → (let a = c .before .before .before .before .before .args in
+    Passed (a .originals) (a .list .now) (c .before .before .before .loop .window + 1))
+window-passed c =
+    let d = c .before in
+    let l = d .before .before .loop in
+    one-passed _ _ (l .window) (l .inv .1) (sym (d .differ-within .ensures) ∙ not-false _ (c .if1 .left))
 
 returns : tie.Need-returns Inv-loop μ-loop
-returns c = let i = c .before .before .before in sym (too-large _ _ _ _ (i .before .loop .inv .0) (i .loop-test .taken) (omega arith))
+returns c =
+    let d = c .before in
+    sym (one-fails _ _ (d .before .before .loop .window) (sym (d .differ-within .ensures) ∙ not-true _ (c .if1 .taken)))
 
-slice-aggregate-flip : tie.Need-slice-aggregate-flip Inv-loop μ-loop
-slice-aggregate-flip c = search needs
+add-if2 : tie.Need-add-if2 Inv-loop μ-loop
+add-if2 c = search needs
 
-flip-requires : tie.Need-flip-requires Inv-loop μ-loop
-flip-requires c κs =
-    let i = c .before .before .before .before in
-    omega (arith, c .before .before .before .shared-slice-known2 .given (i .before .loop .k))
+mul-if2 : tie.Need-mul-if2 Inv-loop μ-loop
+mul-if2 c = search needs
 
 returns-2 : tie.Need-returns-2 Inv-loop μ-loop
 returns-2 c =
-    let f = c .before .before in
-    let e = f .before .before .before in
-    let i = e .before .before in
-    sym (repeated _ _ _ _ (i .before .loop .inv .0) (i .loop-test .taken)
-    (ap (bitOf (i .before .loop .seen)) (sym (e .entry .ensures)) ∙ eqb-true _ 1 (sym (f .flip .ensures .0) ∙ c .if2 .taken)))
+    let l = c .before .before .before .before .loop in
+    sym (all-differ _ _ (l .window + 1) (omega arith) (window-passed (c .before)) (λ k h small. omega arith))
 
-add-k : tie.Need-add-k Inv-loop μ-loop
-add-k c = search needs
+add-window : tie.Need-add-window Inv-loop μ-loop
+add-window c = search needs
 
 loop-less : tie.Need-loop-less Inv-loop μ-loop
 loop-less c = search needs
 
 loop-again : tie.Need-loop-again Inv-loop μ-loop
-loop-again c =
-    let f = c .before .before in
-    let e = f .before .before .before in
-    let i = e .before .before in (
-      one-more _ _ _ _ (i .before .loop .inv .0) (i .loop-test .taken) (f .flip .last .0) (omega arith)
-          (λ q. eqb-false _ 1 (sym (f .flip .ensures .0) ∙ c .if2 .left) (ap (bitOf (i .before .loop .seen)) (e .entry .ensures) ∙ q))
-          (subst (λ (place : ℕ). FlippedAt (i .before .loop .seen) (place / 64) (place % 64) (f .flip .last .0))
-          (e .entry .ensures) (f .flip .ensures .1)),
-      omega (arith, f .flip .kept .0),
-    )
+loop-again c = (omega arith, window-passed (c .before))
 
 returns-3 : tie.Need-returns-3 Inv-loop μ-loop
-returns-3 c = sym (all-good _ _ _ _ (c .before .loop .inv .0) (c .loop-test .left))
+returns-3 c =
+    let l = c .before .loop in
+    let e : l .window ≡ 16 = omega arith in
+    sym (all-differ _ _ (l .window) (omega arith) (l .inv .1)
+    (λ k h small. omega (arith, c .before .before .shared-slice-known .given k)))
 
 pub check-spec : {M : Type 1} → statement M
 check-spec =
@@ -74,14 +67,12 @@ check-spec =
     Inv-loop
     μ-loop
     loop-holds
-    mul-entry
-    shared-slice-read-entry
-    entry-requires
+    differ-within-requires
     returns
-    slice-aggregate-flip
-    flip-requires
+    add-if2
+    mul-if2
     returns-2
-    add-k
+    add-window
     loop-less
     loop-again
     returns-3)
