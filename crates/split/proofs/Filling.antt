@@ -19,7 +19,7 @@ use Rattle.split.specs.Claims.{walkOf}
 use Rattle.split.specs.Mask.{bitAt, lowestZero, FlippedAt}
 use Rattle.split.specs.Accepted.{Accepted}
 use Rattle.split.specs.Ends.{Masks}
-use Rattle.split.specs.Work.{Inverse, Working, Blocked, Exchanged}
+use Rattle.split.specs.Work.{Working, Blocked, Exchanged}
 use Rattle.flash.proofs.Bools.{bool-cases}
 use Rattle.flash.proofs.Ranges.{First, first-is}
 use Rattle.split.proofs.Lists.{lt-cases}
@@ -29,24 +29,9 @@ use Rattle.split.proofs.RuleLaws.{given, Given, used-page, unused-none,
 use Rattle.split.proofs.MaskLaws.{bit-lt}
 use Rattle.split.proofs.MaskedLaws.{is-page, page-is, no-masks, mask-more, bit-page, page-bit, count-same, set-here, page-else}
 
--- ---- the list turned round
-module _ (list : List ℕ) (one : isOneToOne (length list) list ≡ true) where
-  pub invert-more : (from : List ℕ) (k place : ℕ) → ((x : ℕ) → x < k → getD from (getD list x 0) 0 ≡ x) → k < length list
-      → place ≡ getD list k 0 → place < length from
-      → (x : ℕ) → x < k + 1 → getD (set from place k) (getD list x 0) 0 ≡ x
-  invert-more from k place old more is room x h = ⊎-elim
-      (λ (l : x < k).
-      getD-set-other from place (getD list x 0) k 0
-      (λ e. (let s : x ≡ k = entry-same (length list) list one x k (omega arith) more (e ∙ is) in absurd (omega arith))) ∙ old x l)
-      (λ (l : k ≤ x).
-      let e : x ≡ k = omega arith in
-      ap (λ (y : ℕ). getD (set from place k) (getD list y 0) 0) e ∙ ap (λ (y : ℕ). getD (set from place k) y 0) (sym is)
-      ∙ getD-set-same from place k 0 room ∙ sym e)
-      (lt-cases x k)
-
 -- ---- page k
-module _ (m : ℕ) (list from : List ℕ) (k : ℕ) (sets sources destinations : List ℕ)
-    (W : Working m list from k sets sources destinations) where
+module _ (m : ℕ) (list : List ℕ) (k : ℕ) (sets sources destinations : List ℕ)
+    (W : Working m list k sets sources destinations) where
   abbrev sofar : List ℕ
   sofar = setsGiven m list k
 
@@ -130,13 +115,12 @@ module _ (m : ℕ) (list from : List ℕ) (k : ℕ) (sets sources destinations :
         → Masks m list sets′ k destination destinations′
         → FlippedAt sources′ (blockAt m list source k) a sources″
         → FlippedAt destinations′ (blockAt m list destination k) a destinations″
-        → Working m list from (k + 1) (set sets′ k a) sources″ destinations″
+        → Working m list (k + 1) (set sets′ k a) sources″ destinations″
     given-more a sets′ sources′ destinations′ sources″ destinations″ len g S D s d = record {
       blocks = n;
       accepted = W .accepted;
       within = omega arith;
       sized = length-set sets′ k a ∙ len ∙ W .sized;
-      inverse = W .inverse;
       given = ap (λ (j : ℕ). take j (set sets′ k a)) (add-one k) ∙ take-suc-set sets′ k a inside ∙ g
           ∙ ap (setsGiven m list) (sym (add-one k));
       source-masks = masks source sources′ sources″ S s;
@@ -199,32 +183,23 @@ pub record Fresh (m : ℕ) (list : List ℕ) (k a : ℕ) (before sets sources de
   pub source-masks : Masks m list sets k source sources
   pub destination-masks : Masks m list sets k destination destinations
 
--- what turning an accepted list round asks
-pub invertible : (n m : ℕ) (list : List ℕ) → Accepted n m list → (length list ≤ 4096) × (isOneToOne (length list) list ≡ true)
-invertible n m list A = (
-  rw (A .listed) (mul-le-mul {n₁ = n} {m₁ = m} {n₂ = 64} {m₂ = 64} (A .n-fits) (A .m-fits)),
-  subst
-      (λ (x : ℕ). isOneToOne x list ≡ true) (sym (A .listed)) (A .one-to-one),
-)
-
-pub work-starts : (n m : ℕ) (list from sets : List ℕ) → Accepted n m list → length sets ≡ n * m → Inverse list from
-    → Working m list from 0 sets (replicate 65 0) (replicate 65 0)
+pub work-starts : (n m : ℕ) (list sets : List ℕ) → Accepted n m list → length sets ≡ n * m
+    → Working m list 0 sets (replicate 65 0) (replicate 65 0)
 unfolding setsGiven
-work-starts n m list from sets A len inverse = record {
+work-starts n m list sets A len = record {
   blocks = n;
   accepted = A;
   within = omega arith;
   sized = len;
-  inverse = inverse;
   given = refl;
   source-masks = no-masks m list sets source 65;
   destination-masks = no-masks m list sets destination 65;
 }
 
-pub work-done : (n m : ℕ) (list from : List ℕ) (k : ℕ) (sets sources destinations : List ℕ) → length list ≡ n * m
-    → Working m list from k sets sources destinations → length list ≤ k → sets ≡ splitByRule n m list
+pub work-done : (n m : ℕ) (list : List ℕ) (k : ℕ) (sets sources destinations : List ℕ) → length list ≡ n * m
+    → Working m list k sets sources destinations → length list ≤ k → sets ≡ splitByRule n m list
 unfolding splitByRule
-work-done n m list from k sets sources destinations listed W over =
+work-done n m list k sets sources destinations listed W over =
     let same : W .blocks * m ≡ n * m = sym (W .accepted .listed) ∙ listed in
     let e : k ≡ n * m = omega (arith, W .within) in
     sym (take-all k sets (omega (arith, W .sized))) ∙ W .given ∙ ap (setsGiven m list) e

@@ -89,18 +89,25 @@ module _ (m : ℕ) (list sets : List ℕ) (end : End) where
         (seek (isPageOf m list sets end block set) k)
 
     -- a page has its bit set, where no other page of its block has its set
-    pub page-bit : Proper k sets (blockAt m list end) → (block set x : ℕ) → x < k → isPageOf m list sets end block set x ≡ true
+    pub alone-bit : (block set x : ℕ) → x < k → isPageOf m list sets end block set x ≡ true
+        → ((y : ℕ) → y < k → isPageOf m list sets end block set y ≡ true → y ≡ x)
         → bitAt (getD masks block 0) set ≡ 1
-    page-bit proper block set x h e =
-        let p = page-is block set x e in
+    alone-bit block set x h e alone =
         let one = one-counted (isPageOf m list sets end block set) 0 k x (record {
           low = omega arith;
           high = omega arith;
           passes = e;
-          others = λ y a b t. let q = page-is block set y t in proper y x (omega arith) h (q .0 ∙ sym (p .0)) (q .1 ∙ sym (p .1));
+          others = λ y a b t. alone y (omega arith) t;
         }) in
         let b = M block set in
         omega arith
+
+    pub page-bit : Proper k sets (blockAt m list end) → (block set x : ℕ) → x < k → isPageOf m list sets end block set x ≡ true
+        → bitAt (getD masks block 0) set ≡ 1
+    page-bit proper block set x h e =
+        let p = page-is block set x e in
+        alone-bit block set x h e
+        (λ y l t. let q = page-is block set y t in proper y x l h (q .0 ∙ sym (p .0)) (q .1 ∙ sym (p .1)))
 
 -- ---- a page that changes its set
 count-cons : (test : ℕ → Bool) (start n : ℕ) → count test (range start (suc n)) ≡ one-if (test start) + count test (range (suc start) n)

@@ -12,6 +12,7 @@ use borrow.Author.Tests.{eqb-true, eq-eqb, ne-eqb}
 use Rattle.flash.specs.Lists.{any}
 use Rattle.split.specs.Split.{setOf}
 use Rattle.split.specs.Rule.{End, source, destination, otherEnd, swapped, blockAt, exchange}
+use Rattle.split.specs.Work.{Found}
 use Rattle.flash.proofs.Bools.{bool-cases, fails}
 use Rattle.split.proofs.Lists.{any-find, lt-cases, eq-cases}
 use Rattle.split.proofs.Walk.{Coloured, PageAt, metAs, metAs-same, metAs-two, other-twice, path, path-head, path-chain, path-inside, path-closed, path-first, path-distinct}
@@ -24,12 +25,6 @@ any-append test (x ∷ xs) ys = ⊎-elim
     (λ (q : test x ≡ true). rw q)
     (λ (q : test x ≡ false). rw q (any-append test xs ys))
     (bool-cases (test x))
-
--- the page found among the first k, by what the sets say now
-pub record FoundPage (m : ℕ) (list sets : List ℕ) (k : ℕ) (end : End) (block set r : ℕ) : Type 0 where
-  pub within : r ≤ k
-  pub hit : r < k → (blockAt m list end r ≡ block) × (setOf sets r ≡ set)
-  pub none : r ≡ k → (x : ℕ) → x < k → blockAt m list end x ≡ block → setOf sets x ≢ set
 
 module _ (m : ℕ) (list given : List ℕ) (C : Coloured m list given) (a b : ℕ) (differ : a ≢ b) (block : ℕ)
     (unused : (k : ℕ) → PageAt m list given destination block b k → ⊥) where
@@ -66,7 +61,7 @@ module _ (m : ℕ) (list given : List ℕ) (C : Coloured m list given) (a b : �
   sets-behind i x sets q e = rw e at q
 
   pub first-turn : (sets : List ℕ) (page : ℕ) → ((x : ℕ) → x < length given → setOf sets x ≡ setOf given x)
-      → FoundPage m list sets (length given) destination block a page → Turn 0 sets destination page
+      → Found m list sets (length given) destination block a page → Turn 0 sets destination page
   unfolding metAs any
   first-turn sets page same f = record {
     within = omega arith;
@@ -143,7 +138,17 @@ module _ (m : ℕ) (list given : List ℕ) (C : Coloured m list given) (a b : �
         (two m list given C a b differ block unused x
         (subst (λ (y : ℕ). any (eqb y) met ≡ true) (f .3) (in-at m list given C a b differ block unused (f .0) (f .2))))))
 
-    module _ (after : ℕ) (f : FoundPage m list sets (length given) (otherEnd end) (blockAt m list (otherEnd end) page)
+    -- so there is at most one
+    pub alone : (x y : ℕ) → x < length given → y < length given
+        → blockAt m list (otherEnd end) x ≡ blockAt m list (otherEnd end) page
+        → blockAt m list (otherEnd end) y ≡ blockAt m list (otherEnd end) page
+        → setOf sets x ≡ at (otherEnd end) → setOf sets y ≡ at (otherEnd end) → x ≡ y
+    alone x y h l v w c d =
+        C .proper (otherEnd end) x y h l (v ∙ sym w)
+        (sym (sets-behind i x sets (T .sets-are x h) (not-front x h v c)) ∙ c ∙ sym d
+        ∙ sets-behind i y sets (T .sets-are y l) (not-front y l w d))
+
+    module _ (after : ℕ) (f : Found m list sets (length given) (otherEnd end) (blockAt m list (otherEnd end) page)
         (at (otherEnd end)) after) where
       -- the page found is the next page of the walk
       goes : after < length given → (suc i < length met) × (getD met (suc i) 0 ≡ after) × (setOf given after ≡ at (otherEnd end))

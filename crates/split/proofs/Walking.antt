@@ -15,16 +15,23 @@ use Rattle.split.specs.Rule.{End, source, destination, otherEnd, blockAt
 use Rattle.split.specs.Claims.{walkOf}
 use Rattle.split.specs.Mask.{FlippedBoth}
 use Rattle.split.specs.Ends.{endOf, Masks}
-use Rattle.split.specs.Work.{Working, Blocked, Exchanged}
+use Rattle.split.specs.Work.{Found, Sought, Working, Blocked, Exchanged}
 use Rattle.split.proofs.RuleLaws.{given, used-page, lowest-none, lowest-lt}
 use Rattle.split.proofs.Walk.{Coloured, PageAt, metAs}
-use Rattle.split.proofs.Turns.{FoundPage, Turn, first-turn, page-now, page-as, next-turn, turns-done}
+use Rattle.split.proofs.Turns.{Turn, first-turn, page-now, page-as, alone, next-turn, turns-done}
+use Rattle.split.proofs.PathLaws.{found-by-mask}
 use Rattle.split.proofs.MaskedLaws.{mask-change, count-change, set-here, set-else}
 
 end-not : (s : Bool) → otherEnd (endOf s) ≡ endOf (not s)
 unfolding otherEnd
 end-not true = refl
 end-not false = refl
+
+-- the block of a page at an end, of its two blocks
+pub block-of : (m : ℕ) (list : List ℕ) (page home target block : ℕ) (s : Bool) → block ≡ cond s home target
+    → home ≡ blockAt m list source page → target ≡ blockAt m list destination page → block ≡ blockAt m list (endOf s) page
+block-of m list page home target block true b h t = b ∙ h
+block-of m list page home target block false b h t = b ∙ t
 
 -- how many of the first k pages have the set that they had at the start
 abbrev pub unchanged : (start sets : List ℕ) → (k : ℕ) → ℕ
@@ -69,17 +76,23 @@ module _ (m : ℕ) (list : List ℕ) (k a b : ℕ) where
 
   pub walk-starts : (start sources destinations : List ℕ) (met : ℕ) → Ready start
       → Masks m list start k source sources → Masks m list start k destination destinations
-      → FoundPage m list start k destination there a met → Walking start start sources destinations false met
-  walk-starts start sources destinations met R S D f = record {
+      → Sought m list start k destination there a (getD destinations there 0) met → Walking start start sources destinations false met
+  walk-starts start sources destinations met R S D sought = record {
     ready = R;
     pages = 0;
     turn = first-turn m list sofar (R .coloured) a b (R .differ) there (R .unused) start met
         (λ x h. R .start-is x (rw (R .counted) at h))
-        (subst (λ (n : ℕ). FoundPage m list start n destination there a met) (sym (R .counted)) f);
+        (subst (λ (n : ℕ). Found m list start n destination there a met) (sym (R .counted))
+        (found-by-mask m list start k destination there a destinations met D one sought));
     sized = refl;
     source-masks = S;
     destination-masks = D;
   }
+    where
+      one : (x y : ℕ) → x < k → y < k → blockAt m list destination x ≡ there → blockAt m list destination y ≡ there
+          → setOf start x ≡ a → setOf start y ≡ a → x ≡ y
+      one x y h l v w c d = R .coloured .proper destination x y (rw (R .counted) h) (rw (R .counted) l) (v ∙ sym w)
+          (sym (R .start-is x h) ∙ c ∙ sym d ∙ R .start-is y l)
 
   module _ (start sets sources destinations : List ℕ) (s : Bool) (met : ℕ) (W : Walking start sets sources destinations s met)
       (more : met < k) where
@@ -111,7 +124,24 @@ module _ (m : ℕ) (list : List ℕ) (k a b : ℕ) where
     pair true p q = inr (p, q)
     pair false p q = inl (p, q)
 
+    masks-at : (s : Bool) → Masks m list sets k (endOf s) (cond s sources destinations)
+    masks-at true = W .source-masks
+    masks-at false = W .destination-masks
+
     module _ (other : ℕ) (other-is : other ≡ cond (not s) b a) where
+      other-as : as-met (endOf (not s)) ≡ other
+      other-as = met-as start R (not s) ∙ sym other-is
+
+      -- at most one page to go on with
+      one : (x y : ℕ) → x < k → y < k → blockAt m list (endOf (not s)) x ≡ blockAt m list (endOf (not s)) met
+          → blockAt m list (endOf (not s)) y ≡ blockAt m list (endOf (not s)) met
+          → setOf sets x ≡ other → setOf sets y ≡ other → x ≡ y
+      one x y h l v w c d =
+          subst (λ (e : End). blockAt m list e x ≡ blockAt m list e met → blockAt m list e y ≡ blockAt m list e met
+          → setOf sets x ≡ as-met e → setOf sets y ≡ as-met e → x ≡ y) (end-not s)
+          (alone m list sofar (R .coloured) a b (R .differ) there (R .unused) (W .pages) sets (endOf s) met (W .turn) inside x y
+          (rw (R .counted) h) (rw (R .counted) l)) v w (c ∙ sym other-as) (d ∙ sym other-as)
+
       pub walk-less : unchanged start (set sets met other) k < unchanged start sets k
       walk-less =
           let c = count-change (λ x. eqb (setOf sets x) (setOf start x))
@@ -129,12 +159,13 @@ module _ (m : ℕ) (list : List ℕ) (k a b : ℕ) where
           moved : setOf (set sets met other) met ≢ setOf start met
           moved e = changes s (sym before ∙ sym e ∙ set-here sets met other room-sets ∙ other-is)
 
-      pub walk-more : (next : ℕ) (sources′ destinations′ : List ℕ)
-          → FoundPage m list sets k (endOf (not s)) (blockAt m list (endOf (not s)) met) other next
+      pub walk-more : (next block mask : ℕ) (sources′ destinations′ : List ℕ)
+          → block ≡ blockAt m list (endOf (not s)) met → mask ≡ getD (cond (not s) sources destinations) block 0
+          → Sought m list sets k (endOf (not s)) block other mask next
           → FlippedBoth sources (blockAt m list source met) a b sources′
           → FlippedBoth destinations (blockAt m list destination met) a b destinations′
           → Walking start (set sets met other) sources′ destinations′ (not s) next
-      walk-more next sources′ destinations′ f S D = record {
+      walk-more next block mask sources′ destinations′ block-is mask-is sought S D = record {
         ready = R;
         pages = suc (W .pages);
         turn = subst (λ (v : ℕ). Turn m list sofar (R .coloured) a b (R .differ) there (R .unused) (suc (W .pages))
@@ -150,16 +181,23 @@ module _ (m : ℕ) (list : List ℕ) (k a b : ℕ) where
             (W .destination-masks) met a b other more room-sets (λ e. changes s (sym now ∙ e ∙ other-is)) (pair s now other-is) D;
       }
         where
-          other-as : as-met (endOf (not s)) ≡ other
-          other-as = met-as start R (not s) ∙ sym other-is
+          at-block : Sought m list sets k (endOf (not s)) (blockAt m list (endOf (not s)) met) other
+              (getD (cond (not s) sources destinations) (blockAt m list (endOf (not s)) met) 0) next
+          at-block = subst (λ (x : ℕ). Sought m list sets k (endOf (not s)) x other (getD (cond (not s) sources destinations) x 0) next)
+              block-is
+              (subst (λ (x : ℕ). Sought m list sets k (endOf (not s)) block other x next) mask-is sought)
 
-          found : FoundPage m list sets (length sofar) (otherEnd (endOf s)) (blockAt m list (otherEnd (endOf s)) met)
+          f : Found m list sets k (endOf (not s)) (blockAt m list (endOf (not s)) met) other next
+          f = found-by-mask m list sets k (endOf (not s)) (blockAt m list (endOf (not s)) met) other
+              (cond (not s) sources destinations) next (masks-at (not s)) one at-block
+
+          found : Found m list sets (length sofar) (otherEnd (endOf s)) (blockAt m list (otherEnd (endOf s)) met)
               (as-met (otherEnd (endOf s))) next
           found =
-              subst (λ (n : ℕ). FoundPage m list sets n (otherEnd (endOf s)) (blockAt m list (otherEnd (endOf s)) met)
+              subst (λ (n : ℕ). Found m list sets n (otherEnd (endOf s)) (blockAt m list (otherEnd (endOf s)) met)
               (as-met (otherEnd (endOf s))) next) (sym (R .counted))
-              (subst (λ (e : End). FoundPage m list sets k e (blockAt m list e met) (as-met e) next) (sym (end-not s))
-              (subst (λ (v : ℕ). FoundPage m list sets k (endOf (not s)) (blockAt m list (endOf (not s)) met) v next) (sym other-as) f))
+              (subst (λ (e : End). Found m list sets k e (blockAt m list e met) (as-met e) next) (sym (end-not s))
+              (subst (λ (v : ℕ). Found m list sets k (endOf (not s)) (blockAt m list (endOf (not s)) met) v next) (sym other-as) f))
 
   pub walk-done : (start sets sources destinations : List ℕ) (s : Bool) (met : ℕ) → Walking start sets sources destinations s met
       → k ≤ met
@@ -179,11 +217,11 @@ module _ (m : ℕ) (list : List ℕ) (k a b : ℕ) where
       }
 
 -- what the walk starts from
-pub ready : (m : ℕ) (list from : List ℕ) (k a b : ℕ) (sets sources destinations : List ℕ)
-    (W : Working m list from k sets sources destinations)
+pub ready : (m : ℕ) (list : List ℕ) (k a b : ℕ) (sets sources destinations : List ℕ)
+    (W : Working m list k sets sources destinations)
     → k < W .blocks * m → Blocked m list k a b → Ready m list k a b sets
 unfolding walkOf setOf
-ready m list from k a b sets sources destinations W more B =
+ready m list k a b sets sources destinations W more B =
     let A = W .accepted in
     let g = given (W .blocks) m list (A .listed) (A .one-to-one) k (W .within) in
     let sofar = setsGiven m list k in

@@ -6,6 +6,7 @@ mod mask;
 mod path;
 mod rule;
 pub mod sets;
+mod tables;
 
 ghost use Rattle.split.specs.Claims.{SplitEnds, WalkEnds, WalkIsShort, FilledFits, RowsAscend};
 

@@ -1,26 +1,37 @@
 // The exchange of two sets along a walk, by document 01's rule.
 ghost use mathlib.Core.Path.{_≡_};
 ghost use mathlib.Core.Bool.{cond};
-ghost use Prim.Native.Nat.{_*_, _≤_, _<_};
-ghost use lib.ListN.{length};
+ghost use Prim.Native.Nat.{_≤_, _<_};
+ghost use lib.ListN.{length, getD};
+ghost use Rattle.split.specs.Rule.{isPageOf};
 ghost use Rattle.split.specs.Ends.{endOf};
-ghost use Rattle.split.specs.Work.{pageIn, Found, Working, Blocked, Exchanged};
+ghost use Rattle.split.specs.Work.{Found, Sought, Working, Blocked, Exchanged};
 use crate::ends::block_at;
 use crate::mask::flip_both;
-use flash::wide::entry;
+use crate::mask::has;
+use crate::tables::hint;
+use crate::tables::note;
 use flash::wide::wide;
 
-// The original whose place at an end this is: a block's pages are consecutive at the source.
-fn page_in(from: &[u16; 4096], source: bool, place: usize) -> usize
-    requires { ⌜ place < 4096 ⌝ }
-    ensures { λ r. ⌜ r ≡ pageIn (now (from .entry)) (endOf source) place ⌝ }
+// Whether a page has this block at this end, and this set.
+fn is_page(
+    list: &[u16],
+    sets: &[u8],
+    m: usize,
+    source: bool,
+    block: usize,
+    set: usize,
+    page: usize,
+) -> bool
+    requires { ⌜ (1 ≤ m) × (page < length (now list)) × (page < length (now sets)) ⌝ }
+    ensures { λ r. ⌜ r ≡ isPageOf m (now (list .entry)) (now (sets .entry)) (endOf source) block set page ⌝ }
 {
-    if source { place } else { entry(from[place]) }
+    (block_at(list, m, source, page) == block) & (wide(sets[page]) == set)
 }
 
 // The page of a set at a block, among the first k; k if there is none.
-fn find(
-    from: &[u16; 4096],
+fn search(
+    list: &[u16],
     sets: &[u8],
     m: usize,
     k: usize,
@@ -28,34 +39,69 @@ fn find(
     block: usize,
     set: usize,
 ) -> usize
-    requires { ⌜ (1 ≤ block) × (block * m ≤ 4096) × (k ≤ length (now sets)) ⌝ }
-    ensures { λ r. ⌜ Found (now (from .entry)) (now (sets .entry)) m k (endOf source) block set r ⌝ }
+    requires { ⌜ (1 ≤ m) × (k ≤ length (now list)) × (k ≤ length (now sets)) ⌝ }
+    ensures { λ r. ⌜ Found m (now (list .entry)) (now (sets .entry)) k (endOf source) block set r ⌝ }
 {
-    let end = block * m;
-    let mut place = end - m;
-    while place < end {
-        let page = page_in(from, source, place);
-        if page < k {
-            if wide(sets[page]) == set {
-                return page;
-            }
+    let mut page = 0;
+    while page < k {
+        if is_page(list, sets, m, source, block, set, page) {
+            return page;
         }
-        place += 1;
+        page += 1;
     }
     k
 }
 
-// The set of the pages that the walk meets at an end.
-fn set_met(source: bool, a: usize, b: usize) -> usize
-    ensures { λ r. ⌜ r ≡ cond source b a ⌝ }
+// The same with the block's mask and the tables: the search is for a hint that fails.
+fn find(
+    list: &[u16],
+    sets: &[u8],
+    at: &[u8; 4096],
+    from: &[u8; 4096],
+    m: usize,
+    k: usize,
+    source: bool,
+    block: usize,
+    set: usize,
+    mask: u64,
+) -> usize
+    requires { ⌜ (1 ≤ m) × (m ≤ 64) × (1 ≤ block) × (block ≤ 64) × (set < 64) ⌝ }
+    requires { ⌜ (k ≤ length (now list)) × (k ≤ length (now sets)) ⌝ }
+    ensures { λ r. ⌜ Sought m (now (list .entry)) (now (sets .entry)) k (endOf source) block set mask r ⌝ }
 {
-    if source { b } else { a }
+    if !has(mask, set) {
+        return k;
+    }
+    let page = hint(at, from, m, source, block, set);
+    if page < k {
+        if is_page(list, sets, m, source, block, set, page) {
+            return page;
+        }
+    }
+    search(list, sets, m, k, source, block, set)
+}
+
+// Of two numbers, one for each end.
+fn at_end(source: bool, x: usize, y: usize) -> usize
+    ensures { λ r. ⌜ r ≡ cond source x y ⌝ }
+{
+    if source { x } else { y }
+}
+
+fn mask_at(sources: &[u64; 65], destinations: &[u64; 65], source: bool, block: usize) -> u64
+    requires { ⌜ block < 65 ⌝ }
+    ensures { λ r. ⌜ r ≡ getD (cond source (now (sources .entry)) (now (destinations .entry))) block 0 ⌝ }
+{
+    if source {
+        sources[block]
+    } else {
+        destinations[block]
+    }
 }
 
 // Exchanges a and b on the pages that the walk meets, from the destination of page k on.
 pub fn exchange(
     list: &[u16],
-    from: &[u16; 4096],
     m: usize,
     k: usize,
     a: usize,
@@ -63,30 +109,51 @@ pub fn exchange(
     sets: &mut [u8],
     sources: &mut [u64; 65],
     destinations: &mut [u64; 65],
+    at: &mut [u8; 4096],
+    from: &mut [u8; 4096],
 )
-    requires { ⌜ Working m (now list) (now from) k (now sets) (now sources) (now destinations) ⌝ }
+    requires { ⌜ Working m (now list) k (now sets) (now sources) (now destinations) ⌝ }
     requires { ⌜ (k < length (now list)) × Blocked m (now list) k a b ⌝ }
     ensures { λ _. ⌜ Exchanged m (now (list .entry)) k a b (now (sets .exit)) (now (sources .exit)) (now (destinations .exit)) ⌝ }
 {
     let mut source = false;
-    let mut met = find(from, sets, m, k, source, block_at(list, m, source, k), a);
+    let start = block_at(list, m, false, k);
+    let mut met = find(
+        list,
+        sets,
+        at,
+        from,
+        m,
+        k,
+        source,
+        start,
+        a,
+        destinations[start],
+    );
     while met < k {
         source = !source;
-        let other = set_met(source, a, b);
+        let other = at_end(source, b, a);
+        let home = block_at(list, m, true, met);
+        let target = block_at(list, m, false, met);
+        let block = at_end(source, home, target);
         // found before `met` gets its other set, which is the set that is looked for
         let next = find(
-            from,
+            list,
             sets,
+            at,
+            from,
             m,
             k,
             source,
-            block_at(list, m, source, met),
+            block,
             other,
+            mask_at(sources, destinations, source, block),
         );
         sets[met] = other as u8;
+        note(at, from, m, home, target, other, met);
         // Both bits change in the masks of both blocks: twice at a block where two pages of the walk meet.
-        flip_both(sources, block_at(list, m, true, met), a, b);
-        flip_both(destinations, block_at(list, m, false, met), a, b);
+        flip_both(sources, home, a, b);
+        flip_both(destinations, target, a, b);
         met = next;
     }
 }

@@ -1,44 +1,31 @@
 // The split rule.
-ghost use mathlib.Core.Bool.{true};
 ghost use mathlib.Core.Path.{_≡_};
 ghost use Prim.Native.Nat.{_+_, _*_, _≤_, _<_};
 ghost use lib.ListN.{length};
-ghost use Rattle.split.specs.OneToOne.{isOneToOne};
 ghost use Rattle.split.specs.Rule.{splitByRule};
 ghost use Rattle.split.specs.Accepted.{Accepted};
-ghost use Rattle.split.specs.Work.{Inverse, Working};
+ghost use Rattle.split.specs.Work.{Working};
 use crate::ends::block_at;
 use crate::mask::flip;
 use crate::mask::has;
 use crate::mask::lowest_free;
 use crate::path::exchange;
-use flash::wide::entry;
-
-// Turns the list round: the original that goes to each place.
-fn invert(list: &[u16], from: &mut [u16])
-    requires { ⌜ (length (now list) ≤ 4096) × (length (now from) ≡ 4096) × (isOneToOne (length (now list)) (now list) ≡ true) ⌝ }
-    ensures { λ _. ⌜ Inverse (now (list .entry)) (now (from .exit)) ⌝ }
-{
-    let mut k = 0;
-    while k < list.len() {
-        from[entry(list[k])] = k as u16;
-        k += 1;
-    }
-}
+use crate::tables::note;
 
 // Gives page k its set.
 fn give(
     list: &[u16],
-    from: &[u16; 4096],
     m: usize,
     k: usize,
     sets: &mut [u8],
     sources: &mut [u64; 65],
     destinations: &mut [u64; 65],
+    at: &mut [u8; 4096],
+    from: &mut [u8; 4096],
 )
-    requires { ⌜ Working m (now list) (now from) k (now sets) (now sources) (now destinations) ⌝ }
+    requires { ⌜ Working m (now list) k (now sets) (now sources) (now destinations) ⌝ }
     requires { ⌜ k < length (now list) ⌝ }
-    ensures { λ _. ⌜ Working m (now (list .entry)) (now (from .entry)) (k + 1) (now (sets .exit)) (now (sources .exit)) (now (destinations .exit)) ⌝ }
+    ensures { λ _. ⌜ Working m (now (list .entry)) (k + 1) (now (sets .exit)) (now (sources .exit)) (now (destinations .exit)) ⌝ }
 {
     let source = block_at(list, m, true, k);
     let destination = block_at(list, m, false, k);
@@ -46,9 +33,10 @@ fn give(
     let used = destinations[destination];
     let b = lowest_free(used);
     if has(used, a) {
-        exchange(list, from, m, k, a, b, sets, sources, destinations);
+        exchange(list, m, k, a, b, sets, sources, destinations, at, from);
     }
     sets[k] = a as u8;
+    note(at, from, m, source, destination, a, k);
     flip(sources, source, a);
     flip(destinations, destination, a);
 }
@@ -58,13 +46,22 @@ pub fn fill(n: usize, m: usize, list: &[u16], sets: &mut [u8])
     requires { ⌜ Accepted n m (now list) × (length (now sets) ≡ n * m) ⌝ }
     ensures { λ _. ⌜ now (sets .exit) ≡ splitByRule n m (now (list .entry)) ⌝ }
 {
-    let mut from = [0u16; 4096];
-    invert(list, &mut from);
     let mut sources = [0u64; 65];
     let mut destinations = [0u64; 65];
+    let mut at = [0u8; 4096];
+    let mut from = [0u8; 4096];
     let mut k = 0;
     while k < list.len() {
-        give(list, &from, m, k, sets, &mut sources, &mut destinations);
+        give(
+            list,
+            m,
+            k,
+            sets,
+            &mut sources,
+            &mut destinations,
+            &mut at,
+            &mut from,
+        );
         k += 1;
     }
 }

@@ -3,153 +3,173 @@ use mathlib.Core.Bool.{not}
 use Prim.Native.Nat.{ℕ, _*_, _≤_, _<_}
 use native.Mathlib.Omega.{arith}
 use borrow.Author.Needs.{needs}
-use lib.ListN.{length}
+use lib.ListN.{length, getD}
 use Rattle.split.specs.Rule.{End, source, destination, blockAt}
 use Rattle.split.specs.Mask.{FlippedBoth}
 use Rattle.split.specs.Ends.{endOf}
-use Rattle.split.proofs.PathLaws.{block-room, found-at}
-use Rattle.split.proofs.Walking.{Walking, set-lt, unchanged, ready, walk-starts, walk-less, walk-more, walk-done}
+use Rattle.split.specs.Work.{Sought}
+use Rattle.split.proofs.PathLaws.{Room, block-room, of-block}
+use Rattle.split.proofs.Walking.{Walking, set-lt, block-of, unchanged, ready, walk-starts, walk-less, walk-more, walk-done}
 use Rattle.split.proofs.path.exchange.Statement.{statement}
 use Rattle.split.proofs.path.exchange.Tie as tie
 
 abbrev Inv-loop : tie.InvT-loop
-Inv-loop list from m k a b sets₀ sources₀ destinations₀ source₀ met₀ sets sources destinations s met =
+Inv-loop list m k a b sets₀ sources₀ destinations₀ at₀ from₀ source₀ start met₀ sets sources destinations at from s met =
     Walking m list k a b sets₀ sets sources destinations s met
 
 abbrev μ-loop : tie.MeasureT-loop
-μ-loop list from m k a b sets₀ sources₀ destinations₀ source₀ met₀ sets sources destinations s met =
+μ-loop list m k a b sets₀ sources₀ destinations₀ at₀ from₀ source₀ start met₀ sets sources destinations at from s met =
     unchanged sets₀ sets k
 
 block-at-requires : tie.Need-block-at-requires Inv-loop μ-loop
-block-at-requires c κs = let start = c .before .before .before in (start .pre .0 .accepted .some-pages, start .pre .1 .0)
+block-at-requires c κs = let start = c .before .before in (start .pre .0 .accepted .some-pages, start .pre .1 .0)
+
+-- the destination of page k
+there : (c : tie.After-block-at Inv-loop μ-loop) → (1 ≤ c .block-at .result) × (c .block-at .result ≤ 64)
+there c =
+    let start = c .before .before .before in
+    let W = start .pre .0 in
+    let r = block-room _ _ _ (W .accepted) destination (start .args .k) (c .block-at .result) (omega arith) (c .block-at .ensures) in
+    (r .low, r .high)
+
+mul-find : tie.Need-mul-find Inv-loop μ-loop
+mul-find c = record { fits = omega (arith, there (c .before .before .before)) }
+
+element-copy-out-find : tie.Need-element-copy-out-find Inv-loop μ-loop
+element-copy-out-find c = omega (arith, there (c .before .before .before))
 
 find-requires : tie.Need-find-requires Inv-loop μ-loop
 find-requires c κs =
-    let start = c .before .before .before .before in
+    let start = c .before .before .before .before .before .before .before in
     let W = start .pre .0 in
-    let r = block-room _ _ _ (W .accepted) destination (start .args .k) (c .block-at .result) (omega arith) (c .block-at .ensures) in
-    (r .low, r .fits, omega arith)
+    let r = there (c .before .before .before .before) in
+    let R = ready _ _ _ _ _ _ _ _ W (omega arith) (start .pre .1 .1) in (
+      (W .accepted .some-pages, W .accepted .m-fits, r .0, r .1, R .a-lt),
+      (omega (arith, start .pre .1 .0), omega (arith, R .room)),
+    )
 
 loop-holds : tie.Need-loop-holds Inv-loop μ-loop
 loop-holds c =
-    let start = c .before .before .before .before .before in
+    let start = c .before .before .before .before .before .before .before .before in
+    let a = start .args in
     let W = start .pre .0 in
-    walk-starts _ _ _ _ _ _ _ _ _ (ready _ _ _ _ _ _ _ _ _ W (omega arith) (start .pre .1 .1)) (W .source-masks) (W .destination-masks)
-    (found-at _ _ _ _ (W .accepted) (W .inverse) _ _ destination (start .args .k) _ _ _ (W .within) (omega arith)
-    (c .before .block-at .ensures) (c .find .ensures))
+    walk-starts _ _ _ _ _ _ _ _ _ (ready _ _ _ _ _ _ _ _ W (omega arith) (start .pre .1 .1)) (W .source-masks) (W .destination-masks)
+    (subst (λ (x : ℕ). Sought (a .m) (a .list .now) (a .sets .now) (a .k) destination x (a .a) (getD (a .destinations .now) x 0) (c .find .result))
+    (c .before .before .before .before .before .block-at .ensures) (c .find .ensures))
 
-set-met-requires : tie.Need-set-met-requires Inv-loop μ-loop
-set-met-requires c κs = search needs
+at-end-requires : tie.Need-at-end-requires Inv-loop μ-loop
+at-end-requires c κs = search needs
 
 -- the page met, at a turn, is below k
 inside : (i : tie.In-loop Inv-loop μ-loop)
-    → (let start = i .before .before .before .before .before .before .before in i .before .loop .met < start .pre .0 .blocks * start .args .m)
-inside i = let start = i .before .before .before .before .before .before .before in omega
-    (arith, start .pre .0 .within, i .loop-test .taken)
+    → (let start = i .before .before .before .before .before .before .before .before .before .before in i .before .loop .met < start .pre .0 .blocks * start .args .m)
+inside i = let start = i .before .before .before .before .before .before .before .before .before .before in omega (arith, start .pre .0 .within, i .loop-test .taken)
 
-listed : (i : tie.In-loop Inv-loop μ-loop) → (let start = i .before .before .before .before .before .before .before in
+listed : (i : tie.In-loop Inv-loop μ-loop) → (let start = i .before .before .before .before .before .before .before .before .before .before in
     (1 ≤ start .args .m) × (i .before .loop .met < length (start .args .list .now)))
 listed i =
-    let start = i .before .before .before .before .before .before .before in
+    let start = i .before .before .before .before .before .before .before .before .before .before in
     (start .pre .0 .accepted .some-pages, omega (arith, start .pre .1 .0, i .loop-test .taken))
 
 room : (i : tie.In-loop Inv-loop μ-loop) (end : End) (block : ℕ)
-    → (let start = i .before .before .before .before .before .before .before in
-    block ≡ blockAt (start .args .m) (start .args .list .now) end (i .before .loop .met) → (1 ≤ block)
-    × (block * start .args .m ≤ 4096) × (block < 65))
+    → (let start = i .before .before .before .before .before .before .before .before .before .before in
+    block ≡ blockAt (start .args .m) (start .args .list .now) end (i .before .loop .met) → (1 ≤ block) × (block ≤ 64))
 room i end block e =
-    let start = i .before .before .before .before .before .before .before in
-    let W = start .pre .0 in
-    let r = block-room _ _ _ (W .accepted) end (i .before .loop .met) block (inside i) e in
-    (r .low, r .fits, r .small)
+    let start = i .before .before .before .before .before .before .before .before .before .before in
+    let r = block-room _ _ _ (start .pre .0 .accepted) end (i .before .loop .met) block (inside i) e in
+    (r .low, r .high)
 
 block-at-requires-2 : tie.Need-block-at-requires-2 Inv-loop μ-loop
-block-at-requires-2 c κs = listed (c .before .before)
+block-at-requires-2 c κs = listed (c .before)
+
+block-at-requires-3 : tie.Need-block-at-requires-3 Inv-loop μ-loop
+block-at-requires-3 c κs = listed (c .before .before)
+
+at-end-requires-2 : tie.Need-at-end-requires-2 Inv-loop μ-loop
+at-end-requires-2 c κs = search needs
+
+-- the block where the walk goes on
+block-is : (c : tie.After-at-end2 Inv-loop μ-loop)
+    → (let i = c .before .before .before .before in let start = i .before .before .before .before .before .before .before .before .before .before in
+    c .at-end2 .result ≡ blockAt (start .args .m) (start .args .list .now) (endOf (not (i .before .loop .source))) (i .before .loop .met))
+block-is c =
+    let i = c .before .before .before .before in
+    block-of _ _ _ _ _ _ (not (i .before .loop .source)) (c .at-end2 .ensures) (c .before .before .block-at2 .ensures) (c .before .block-at3 .ensures)
+
+other-lt : (c : tie.After-at-end Inv-loop μ-loop) → c .at-end .result < 64
+other-lt c =
+    let l = c .before .before .loop in
+    omega (arith, c .at-end .ensures, set-lt _ _ _ _ _ _ (l .inv .ready) (not (l .source)))
+
+mask-at-requires : tie.Need-mask-at-requires Inv-loop μ-loop
+mask-at-requires c κs = let e = c .before .before .before .before .before in omega (arith, room (e .before .before .before .before) _ _ (block-is e))
 
 find-requires-2 : tie.Need-find-requires-2 Inv-loop μ-loop
 find-requires-2 c κs =
-    let i = c .before .before .before in
-    let start = i .before .before .before .before .before .before .before in
-    let r = room i _ (c .block-at2 .result) (c .block-at2 .ensures) in
-    (r .0, r .1, omega (arith, i .before .loop .inv .ready .room, i .before .loop .inv .sized))
+    let e = c .before .before .before .before .before .before in
+    let i = e .before .before .before .before in
+    let start = i .before .before .before .before .before .before .before .before .before .before in
+    let r = room i _ _ (block-is e) in
+    let W = start .pre .0 in
+    let l = i .before .loop in (
+      (W .accepted .some-pages, W .accepted .m-fits, r .0, r .1, other-lt (e .before .before .before)),
+      (omega (arith, start .pre .1 .0), omega (arith, l .inv .ready .room, l .inv .sized)),
+    )
 
 cast-sets : tie.Need-cast-sets Inv-loop μ-loop
-cast-sets c =
-    let t = c .before .before .before in
-    record {
-      fits = omega (
-        arith,
-        t .set-met .ensures,
-        set-lt _ _ _ _ _ _ (t .before .before .loop .inv .ready)
-            (not (t .before .before .loop .source)),
-      );
-    }
+cast-sets c = record { fits = omega (arith, other-lt (c .before .before .before .before .before .before .before .before .before .before)) }
 
 slice-write-sets : tie.Need-slice-write-sets Inv-loop μ-loop
 slice-write-sets c =
-    let i = c .before .before .before .before in
+    let i = c .before .before .before .before .before .before .before .before .before .before .before in
     omega (arith, i .loop-test .taken, i .before .loop .inv .ready .room, i .before .loop .inv .sized)
 
-block-at-requires-3 : tie.Need-block-at-requires-3 Inv-loop μ-loop
-block-at-requires-3 c κs = listed (c .before .before .before .before .before)
+note-requires : tie.Need-note-requires Inv-loop μ-loop
+note-requires c κs =
+    let e = c .before .before .before .before .before .before .before .before .before in
+    let i = e .before .before .before .before in
+    let start = i .before .before .before .before .before .before .before .before .before .before in
+    let A = start .pre .0 .accepted in
+    let h = room i source _ (e .before .before .block-at2 .ensures) in
+    let t = room i destination _ (e .before .block-at3 .ensures) in
+    ((other-lt (e .before .before .before), h .0, h .1, t .0, t .1), of-block _ _ _ _ (A .some-pages) (A .m-fits) (e .before .before .block-at2 .ensures))
 
 flip-both-requires : tie.Need-flip-both-requires Inv-loop μ-loop
 flip-both-requires c κs =
-    let i = c .before .before .before .before .before .before in
-    let R = i .before .loop .inv .ready in (
-      omega (
-        arith,
-        room i _ (c .block-at3 .result)
-            (c .block-at3 .ensures) .2,
-        c .before .flip-both-arg .given,
-      ),
-      R .a-lt,
-      R .b-lt,
-      R .differ,
-    )
-
-block-at-requires-4 : tie.Need-block-at-requires-4 Inv-loop μ-loop
-block-at-requires-4 c κs = listed (c .before .before .before .before .before .before .before .before)
+    let e = c .before .before .before .before .before .before .before .before .before .before .before in
+    let i = e .before .before .before .before in
+    let R = i .before .loop .inv .ready in
+    (omega (arith, room i source _ (e .before .before .block-at2 .ensures), c .flip-both-arg .given), R .a-lt, R .b-lt, R .differ)
 
 flip-both-requires-2 : tie.Need-flip-both-requires-2 Inv-loop μ-loop
 flip-both-requires-2 c κs =
-    let i = c .before .before .before .before .before .before .before .before .before in
-    let R = i .before .loop .inv .ready in (
-      omega (
-        arith,
-        room i _ (c .block-at4 .result)
-            (c .block-at4 .ensures) .2,
-        c .before .flip-both-arg2 .given,
-      ),
-      R .a-lt,
-      R .b-lt,
-      R .differ,
-    )
+    let e = c .before .before .before .before .before .before .before .before .before .before .before .before .before in
+    let i = e .before .before .before .before in
+    let R = i .before .loop .inv .ready in
+    (omega (arith, room i destination _ (e .before .block-at3 .ensures), c .flip-both-arg2 .given), R .a-lt, R .b-lt, R .differ)
 
 loop-less : tie.Need-loop-less Inv-loop μ-loop
 loop-less c =
-    let t = c .before .before .before .before .before .before .before .before .before in
+    let t = c .before .before .before .before .before .before .before .before .before .before .before .before .before .before .before .before .before in
     let i = t .before in
-    walk-less _ _ _ _ _ _ _ _ _ _ _ (i .before .loop .inv) (i .loop-test .taken) (t .set-met .result) (t .set-met .ensures)
+    walk-less _ _ _ _ _ _ _ _ _ _ _ (i .before .loop .inv) (i .loop-test .taken) (t .at-end .result) (t .at-end .ensures)
 
 loop-again : tie.Need-loop-again Inv-loop μ-loop
 loop-again c =
-    let d = c .before in
-    let S = d .before .before in
-    let f = S .before .before .before in
-    let t = f .before .before .before in
+    let S = c .before .before in
+    let f = c .before .before .before .before .before .before .before in
+    let e = c .before .before .before .before .before .before .before .before .before .before .before .before .before .before in
+    let t = e .before .before .before in
     let i = t .before in
-    let start = i .before .before .before .before .before .before .before in
-    let W = start .pre .0 in
+    let start = i .before .before .before .before .before .before .before .before .before .before in
     let l = i .before .loop in
-    walk-more _ _ _ _ _ _ _ _ _ _ _ (l .inv) (i .loop-test .taken) (t .set-met .result) (t .set-met .ensures) (f .find2 .result)
-    (S .flip-both .last .0) (c .flip-both2 .last .0)
-    (found-at _ _ _ _ (W .accepted) (W .inverse) (l .sets) (start .args .k) (endOf (not (l .source))) (l .met) _ _ _ (W .within)
-    (inside i) (f .before .block-at2 .ensures) (f .find2 .ensures))
+    walk-more _ _ _ _ _ _ _ _ _ _ _ (l .inv) (i .loop-test .taken) (t .at-end .result) (t .at-end .ensures) (f .find2 .result)
+    (e .at-end2 .result) (f .before .mask-at .result) (S .flip-both .last .0) (c .flip-both2 .last .0) (block-is e)
+    (f .before .mask-at .ensures) (f .find2 .ensures)
     (subst (λ (at : ℕ). FlippedBoth (l .sources) at (start .args .a) (start .args .b) (S .flip-both .last .0))
-    (S .before .block-at3 .ensures) (S .flip-both .ensures))
+    (e .before .before .block-at2 .ensures) (S .flip-both .ensures))
     (subst (λ (at : ℕ). FlippedBoth (l .destinations) at (start .args .a) (start .args .b) (c .flip-both2 .last .0))
-    (d .block-at4 .ensures) (c .flip-both2 .ensures))
+    (e .before .block-at3 .ensures) (c .flip-both2 .ensures))
 
 same-length : tie.Need-same-length Inv-loop μ-loop
 same-length c = omega (arith, c .before .loop .inv .sized)
@@ -164,16 +184,20 @@ exchange-spec =
     Inv-loop
     μ-loop
     block-at-requires
+    mul-find
+    element-copy-out-find
     find-requires
     loop-holds
-    set-met-requires
+    at-end-requires
     block-at-requires-2
+    block-at-requires-3
+    at-end-requires-2
+    mask-at-requires
     find-requires-2
     cast-sets
     slice-write-sets
-    block-at-requires-3
+    note-requires
     flip-both-requires
-    block-at-requires-4
     flip-both-requires-2
     loop-less
     loop-again

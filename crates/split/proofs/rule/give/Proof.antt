@@ -1,12 +1,12 @@
 use mathlib.Core.Path.{_≡_, refl, sym, _∙_, subst}
 use mathlib.Core.Logic.{⊎-elim}
-use Prim.Native.Nat.{ℕ, _<_}
+use Prim.Native.Nat.{ℕ, _≤_, _<_}
 use native.Mathlib.Omega.{arith}
 use Rattle.split.specs.Rule.{End, source, destination, blockAt, isUsed, lowestUnused, setsGiven}
 use lib.ListN.{length-set}
 use Rattle.split.specs.Mask.{FlippedAt}
 use Rattle.split.specs.Work.{Blocked}
-use Rattle.split.proofs.PathLaws.{block-room}
+use Rattle.split.proofs.PathLaws.{block-room, of-block}
 use Rattle.split.proofs.Filling.{lowest-free, lowest-fits, blocked, given-more, gives-plain, gives-exchanged, Fresh}
 use borrow.Author.Needs.{needs}
 use Rattle.split.proofs.rule.give.Statement.{statement}
@@ -20,18 +20,17 @@ block-at-requires-2 c κs = search needs
 
 -- the blocks of page k
 fits : (c : tie.After-slice-known) (end : End) (block : ℕ)
-    → (let start = c .before .before in block ≡ blockAt (start .args .m) (start .args .list .now) end (start .args .k) → block < 65)
+    → (let start = c .before .before in block ≡ blockAt (start .args .m) (start .args .list .now) end (start .args .k)
+    → (1 ≤ block) × (block ≤ 64))
 fits c end block e =
     let start = c .before .before in
     let W = start .pre .0 in
-    block-room _ _ _ (W .accepted) end (start .args .k) block (omega (arith, start .pre .1, W .accepted .listed)) e .small
+    let r = block-room _ _ _ (W .accepted) end (start .args .k) block (omega (arith, start .pre .1, W .accepted .listed)) e in
+    (r .low, r .high)
 
-rooms : (c : tie.After-block-at2) → (c .before .block-at .result < 65) × (c .block-at2 .result < 65)
-rooms c = (
-  fits (c .before .before) source _ (c .before .block-at .ensures),
-  fits (c .before .before) destination _
-      (c .block-at2 .ensures),
-)
+rooms : (c : tie.After-block-at2) → (let h = c .before .block-at .result in let t = c .block-at2 .result in
+    ((1 ≤ h) × (h ≤ 64)) × ((1 ≤ t) × (t ≤ 64)))
+rooms c = (fits (c .before .before) source _ (c .before .block-at .ensures), fits (c .before .before) destination _ (c .block-at2 .ensures))
 
 mul-lowest-free : tie.Need-mul-lowest-free
 mul-lowest-free c = record { fits = omega (arith, rooms c) }
@@ -58,14 +57,14 @@ a-is c =
     let start = c .before .before .before .before .before .before in
     let W = start .pre .0 in
     c .lowest-free .ensures
-    ∙ lowest-free _ _ _ _ _ _ _ W (omega (arith, start .pre .1, W .accepted .listed)) source (start .args .sources .now)
+    ∙ lowest-free _ _ _ _ _ _ W (omega (arith, start .pre .1, W .accepted .listed)) source (start .args .sources .now)
     (W .source-masks) _ (c .before .before .before .block-at .ensures)
 
 a-lt : (c : tie.After-lowest-free) → c .lowest-free .result < 64
 a-lt c =
     let start = c .before .before .before .before .before .before in
     let W = start .pre .0 in
-    omega (arith, a-is c, lowest-fits _ _ _ _ _ _ _ W (omega (arith, start .pre .1, W .accepted .listed)) source)
+    omega (arith, a-is c, lowest-fits _ _ _ _ _ _ W (omega (arith, start .pre .1, W .accepted .listed)) source)
 
 lowest-free-requires-2 : tie.Need-lowest-free-requires-2
 lowest-free-requires-2 c κs = search needs
@@ -84,7 +83,7 @@ used-is c =
     let l = c .before .before .before in
     let start = l .before .before .before .before .before .before in
     let W = start .pre .0 in
-    c .has .ensures ∙ blocked _ _ _ _ _ _ _ W (omega (arith, start .pre .1, W .accepted .listed)) _ _
+    c .has .ensures ∙ blocked _ _ _ _ _ _ W (omega (arith, start .pre .1, W .accepted .listed)) _ _
     (l .before .before .block-at2 .ensures)
 
 -- and the second the rule's b
@@ -98,14 +97,14 @@ b-is c =
     let start = l .before .before .before .before .before .before in
     let W = start .pre .0 in
     c .lowest-free2 .ensures
-    ∙ lowest-free _ _ _ _ _ _ _ W (omega (arith, start .pre .1, W .accepted .listed)) destination (start .args .destinations .now)
+    ∙ lowest-free _ _ _ _ _ _ W (omega (arith, start .pre .1, W .accepted .listed)) destination (start .args .destinations .now)
     (W .destination-masks) _ (l .before .before .block-at2 .ensures)
 
 b-lt : (c : tie.After-lowest-free2) → c .lowest-free2 .result < 64
 b-lt c =
     let start = c .before .before .before .before .before .before .before .before in
     let W = start .pre .0 in
-    omega (arith, b-is c, lowest-fits _ _ _ _ _ _ _ W (omega (arith, start .pre .1, W .accepted .listed)) destination)
+    omega (arith, b-is c, lowest-fits _ _ _ _ _ _ W (omega (arith, start .pre .1, W .accepted .listed)) destination)
 
 is-blocked : (c : tie.Then1)
     → (let f = c .before .before in
@@ -118,7 +117,7 @@ is-blocked c =
 
 exchange-requires : tie.Need-exchange-requires
 exchange-requires c κs =
-    let t = c .before .before .before in
+    let t = c .before .before .before .before .before in
     let start = t .before .before .before .before .before .before .before .before .before .before in
     (start .pre .0, (start .pre .1, is-blocked t))
 
@@ -139,15 +138,15 @@ fresh c =
     let start = l .before .before .before .before .before .before in
     let W = start .pre .0 in
     ⊎-elim
-    (λ w. rw (w .7, w .8, w .9) (record {
-      sized = w .4 .kept .1 .1 .1 .1 .1 .1 .0;
-      gives = gives-exchanged _ _ _ _ _ _ _ W _ _ _ _ _ (is-blocked (record { before = h; if1 = w .0 })) (w .4 .ensures);
-      source-masks = w .4 .ensures .source-masks;
-      destination-masks = w .4 .ensures .destination-masks;
+    (λ w. rw (w .9, w .10, w .11) (record {
+      sized = w .6 .kept .1 .1 .1 .1 .1 .0;
+      gives = gives-exchanged _ _ _ _ _ _ W _ _ _ _ _ (is-blocked (record { before = h; if1 = w .0 })) (w .6 .ensures);
+      source-masks = w .6 .ensures .source-masks;
+      destination-masks = w .6 .ensures .destination-masks;
     }))
     (λ w. rw (w .1, w .2, w .3) (record {
       sized = refl;
-      gives = gives-plain _ _ _ _ _ _ _ W _ (a-is l) (sym (used-is h) ∙ w .0 .left);
+      gives = gives-plain _ _ _ _ _ _ W _ (a-is l) (sym (used-is h) ∙ w .0 .left);
       source-masks = W .source-masks;
       destination-masks = W .destination-masks;
     }))
@@ -158,41 +157,31 @@ slice-write-sets c =
     let start = c .before .before .before .before .before .before .before .before .before .before in
     omega (arith, fresh c .sized, start .pre .0 .sized, start .pre .0 .accepted .listed, start .pre .1)
 
+note-requires : tie.Need-note-requires
+note-requires c κs =
+    let l = c .before .before .before .before .before .before in
+    let start = l .before .before .before .before .before .before in
+    let A = start .pre .0 .accepted in
+    let r = rooms (l .before .before) in
+    ((a-lt l, r .0 .0, r .0 .1, r .1 .0, r .1 .1), of-block _ _ _ _ (A .some-pages) (A .m-fits) (l .before .before .before .block-at .ensures))
+
 flip-requires : tie.Need-flip-requires
-flip-requires c κs =
-    let l = c .before .before .before .before .before in (
-      omega (
-        arith,
-        fits (l .before .before .before .before) source _
-            (l .before .before .before .block-at .ensures),
-        c .flip-arg .given,
-      ),
-      a-lt l,
-    )
+flip-requires c κs = let l = c .before .before .before .before .before .before .before .before in (omega (arith, rooms (l .before .before), c .flip-arg .given), a-lt l)
 
 flip-requires-2 : tie.Need-flip-requires-2
-flip-requires-2 c κs =
-    let l = c .before .before .before .before .before .before .before in (
-      omega (
-        arith,
-        fits (l .before .before .before .before) destination _
-            (l .before .before .block-at2 .ensures),
-        c .flip-arg2 .given,
-      ),
-      a-lt l,
-    )
+flip-requires-2 c κs = let l = c .before .before .before .before .before .before .before .before .before .before in (omega (arith, rooms (l .before .before), c .flip-arg2 .given), a-lt l)
 
 same-length : tie.Need-same-length
-same-length c = simp length-set (omega (arith, fresh (c .before .before .before .before) .sized))
+same-length c = simp length-set (omega (arith, fresh (c .before .before .before .before .before .before .before) .sized))
 
 returns : tie.Need-returns
 returns c =
-    let j = c .before .before .before .before in
+    let j = c .before .before .before .before .before .before .before in
     let f = fresh j in
     let l = j .before .before .before .before in
     let start = l .before .before .before .before .before .before in
     let W = start .pre .0 in
-    given-more _ _ _ _ _ _ _ W (omega (arith, start .pre .1, W .accepted .listed)) _ _ _ _ _ _ (f .sized) (f .gives)
+    given-more _ _ _ _ _ _ W (omega (arith, start .pre .1, W .accepted .listed)) _ _ _ _ _ _ (f .sized) (f .gives)
     (f .source-masks) (f .destination-masks)
     (subst (λ (at : ℕ). FlippedAt (j .if1 .sources) at (l .lowest-free .result) (c .before .before .flip .last .0))
     (l .before .before .before .block-at .ensures) (c .before .before .flip .ensures .1))
@@ -215,6 +204,7 @@ give-spec =
     exchange-requires
     cast-sets
     slice-write-sets
+    note-requires
     flip-requires
     flip-requires-2
     same-length
