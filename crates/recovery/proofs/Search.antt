@@ -4,18 +4,19 @@ use mathlib.Core.Logic.{_⊎_, inl, inr, ⊎-elim, _≢_}
 use mathlib.Core.Bool.{Bool, true, false, _&&_, _||_, not}
 use mathlib.Core.List.{List}
 use mathlib.Core.Option.{none}
-use Prim.Native.Nat.{ℕ, _+_, _*_, _≤_, _<_}
+use Prim.Native.Nat.{ℕ, _+_, _-_, _*_, _≤_, _<_}
 use native.Mathlib.Omega.{arith}
 use lib.Dec.{eqb, ltb}
 use lib.ListN.{length, getD}
-use borrow.Author.Tests.{eqb-true, eqb-false, ltb-true, ltb-false, not-true, not-false}
+use borrow.Author.Tests.{eqb-true, eqb-false, ltb-true, ltb-false, lt-ltb, not-true, not-false}
 use Rattle.flash.specs.Geometry.{Sizes, isLetter, slot}
 use Rattle.flash.specs.Chip.{erased, isMark, markAt, isFull, isUnfinished}
 use Rattle.flash.proofs.Bools.{bool-cases, never-both, both, or-cases, or-false-left, or-false-right}
 use Rattle.flash.proofs.Searches.{all-of}
-use Rattle.flash.proofs.Blocks.{mark-is, first-mark, full-same, full-of, not-full, unfinished-first}
+use Rattle.flash.proofs.Blocks.{mark-is, first-mark, full-at, full-same, full-of, not-full, unfinished-first}
 use Rattle.method.specs.Move.{letter}
 use Rattle.method.specs.Mend.{legalMarks, reading}
+use Rattle.recovery.specs.Found.{pagesKnown}
 use Rattle.recovery.proofs.Reading.{reads-none, torn-between, other-above}
 
 -- the letters do not depend on the other sizes
@@ -180,7 +181,7 @@ module _ (Z : Sizes) (pages : 0 < Z .m) (marks : List ℕ) where
         ne (full-same m marks b x (letter Z i) pages e up ∙ one .1))
 
   -- ---- the pages of a block
-  pub block-start : (b x count torn : ℕ) → Block Z marks b 0 x count torn count torn true
+  block-start : (b x count torn : ℕ) → Block Z marks b 0 x count torn count torn true
   block-start b x count torn = record {
     marked = λ e q h. absurd (omega arith);
     lettered = λ e h. absurd (omega arith);
@@ -191,6 +192,51 @@ module _ (Z : Sizes) (pages : 0 < Z .m) (marks : List ℕ) where
     counted = λ e. absurd (never-both refl e);
     torn-here = λ e. absurd (never-both refl e);
   }
+
+  -- the pages that are known at once
+  known-cases : (b x : ℕ) → ((pagesKnown m marks b x ≡ m) × (x < 3) × (isFull m marks b x ≡ true)) ⊎ (pagesKnown m marks b x ≡ 0)
+  unfolding pagesKnown isLetter
+  known-cases b x =
+      ⊎-elim
+      (λ (q : (ltb x 3 && isFull m marks b x) ≡ true). let w = both (ltb x 3) (isFull m marks b x) q in inl (rw q, ltb-true x 3 (w .0), w .1))
+      (λ (q : (ltb x 3 && isFull m marks b x) ≡ false). inr (rw q))
+      (bool-cases (ltb x 3 && isFull m marks b x))
+
+  pub known-in : (b x : ℕ) → pagesKnown m marks b x ≤ m
+  known-in b x = ⊎-elim (λ w. omega (arith, w .0)) (λ w. omega (arith, w)) (known-cases b x)
+
+  pub block-known : (b x count torn : ℕ) → Block Z marks b (pagesKnown m marks b x) x count torn count torn true
+  block-known b x count torn =
+      ⊎-elim
+      (λ w. record {
+        marked = λ e q h. full-at m marks b x q (w .2) (omega (arith, w .0));
+        lettered = λ e h. w .1;
+        count-kept = λ e. refl;
+        torn-kept = λ e. refl;
+        open-block = λ e. absurd (never-both refl e);
+        first = λ e. absurd (never-both refl e);
+        counted = λ e. absurd (never-both refl e);
+        torn-here = λ e. absurd (never-both refl e);
+      })
+      (λ w. rw w (block-start b x count torn))
+      (known-cases b x)
+
+  pub legal-known : (b x : ℕ) → b * m + m ≤ length marks → LegalBelow Z marks (b * m) → LegalBelow Z marks (b * m + pagesKnown m marks b x)
+  unfolding isMark isLetter
+  legal-known b x fits L i h =
+      ⊎-elim
+      (λ (q : ltb i (b * m) ≡ true). L i (ltb-true i (b * m) q))
+      (λ (q : ltb i (b * m) ≡ false).
+      let l = ltb-false i (b * m) q in
+      ⊎-elim
+      (λ w.
+      let at : b * m + (i - b * m) ≡ i = omega arith in
+      let f = full-at m marks b x (i - b * m) (w .2) (omega (arith, w .0)) in
+      let e : getD marks i 0 ≡ x = sym (mark-is marks i (omega (arith, w .0))) ∙ (rw at at f) in
+      rw (e, lt-ltb x 3 (w .1)))
+      (λ w. absurd (omega (arith, w)))
+      (known-cases b x))
+      (bool-cases (ltb i (b * m)))
 
   -- the test of a page: it shows that the block is unfinished
   abbrev pub differs : (mark x : ℕ) → Bool

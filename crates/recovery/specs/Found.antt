@@ -1,8 +1,11 @@
 -- How the search's answer is read as what document 01 says of the marks.
-use mathlib.Core.Bool.{Bool, cond, _||_, not}
+use mathlib.Core.Bool.{Bool, cond, _&&_, _||_, not}
+use mathlib.Core.List.{List}
 use mathlib.Core.Option.{Option, none, some}
 use Prim.Native.Nat.{ℕ, _+_, _-_, _*_}
 use lib.Dec.{eqb, ltb}
+use Rattle.flash.specs.Geometry.{isLetter}
+use Rattle.flash.specs.Chip.{isFull}
 use Rattle.method.specs.Mend.{Reading}
 use Rattle.recovery.specs.declared.marks.Found.{Found}
 use Rattle.recovery.specs.declared.marks.Found.the-variants.{Nothing, Full, Torn}
@@ -12,6 +15,10 @@ unfoldable pub readingOf : Found → Option Reading
 readingOf Nothing = none
 readingOf (Full place) = some (record { place = place; toErase = none })
 readingOf (Torn place block) = some (record { place = place; toErase = some block })
+
+-- how many pages of a block are known at once to bear a letter: all, if it is full of this letter
+unfoldable pub pagesKnown : (m : ℕ) → (marks : List ℕ) → (block letter : ℕ) → ℕ
+pagesKnown m marks block letter = cond (isLetter letter && isFull m marks block letter) m 0
 
 -- What `found_at` makes of the gathered numbers: the four lines of document 01, "The cut". `turn` counts the forward turns and
 -- then the backward ones, each of m writes and an erase.

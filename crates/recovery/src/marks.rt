@@ -6,9 +6,10 @@ ghost use lib.ListN.{length};
 ghost use Rattle.flash.specs.Chip.{isMark};
 ghost use Rattle.method.specs.Mend.{reading};
 ghost use Rattle.method.specs.Answers.{fitsNone};
-ghost use Rattle.recovery.specs.Found.{readingOf, foundAt};
+ghost use Rattle.recovery.specs.Found.{readingOf, pagesKnown, foundAt};
 use flash::ERASED;
 use flash::block::NO_LETTER;
+use flash::block::is_full;
 use walk::letters::letter_after;
 
 // What the marks tell; `readingOf` in specs/ lists the values of each case.
@@ -26,6 +27,19 @@ pub fn is_mark(mark: u8) -> bool
     ensures { λ r. ⌜ r ≡ isMark mark ⌝ }
 {
     (mark < NO_LETTER) | (mark == ERASED)
+}
+
+// How many pages of a block need not be looked at one by one: all, if it is full of this letter.
+fn pages_known(marks: &[u8], m: usize, block: usize, letter: u8) -> usize
+    requires { ⌜ block * m + m ≤ length (now marks) ⌝ }
+    ensures { λ r. ⌜ r ≡ pagesKnown m (now (marks .entry)) block letter ⌝ }
+{
+    if letter < NO_LETTER {
+        if is_full(marks, m, block, letter) {
+            return m;
+        }
+    }
+    0
 }
 
 // What the search has gathered tells: the four lines of document 01, "The cut".
@@ -74,8 +88,9 @@ pub fn read_marks(n: usize, m: usize, s: usize, marks: &[u8]) -> Found
     'search: for block in 0..blocks {
         let first = block * m;
         let letter = marks[first];
+        let known = pages_known(marks, m, block, letter);
         let mut whole = true;
-        for page in 0..m {
+        for page in known..m {
             let mark = marks[first + page];
             if !is_mark(mark) {
                 return Found::Nothing;

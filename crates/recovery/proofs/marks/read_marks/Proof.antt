@@ -13,7 +13,7 @@ use Rattle.flash.proofs.Bounds.{block-in-marks}
 use Rattle.method.specs.Move.{letter}
 use Rattle.recovery.specs.Found.{readingOf}
 use Rattle.recovery.proofs.Reading.{reads-illegal}
-use Rattle.recovery.proofs.Search.{Upto, Block, LegalBelow, letter-same, legal-more, legal-all, change-in, torn-in, upto-none, block-start, page-same, page-opens, page-first, page-second, block-changes, block-astray, block-kept}
+use Rattle.recovery.proofs.Search.{Upto, Block, LegalBelow, letter-same, legal-more, legal-all, change-in, torn-in, upto-none, known-in, block-known, legal-known, page-same, page-opens, page-first, page-second, block-changes, block-astray, block-kept}
 use Rattle.recovery.proofs.Tells.{reads-nothing, found-second, tells}
 use Rattle.recovery.proofs.marks.read_marks.Statement.{statement}
 use Rattle.recovery.proofs.marks.read_marks.Tie as tie
@@ -22,11 +22,11 @@ abbrev Z : (n m s : ℕ) → Sizes
 Z n m s = record { n = n; m = m; P = 0; s = s }
 
 abbrev Inv-loop : tie.InvT-loop
-Inv-loop n m s marks blocks unfinished₀ torn₀ top change block first letter whole₀ page₀ unfinished torn whole page =
+Inv-loop n m s marks blocks unfinished₀ torn₀ top change block first letter known whole₀ page₀ unfinished torn whole page =
     (page ≤ m) × Block (Z n m s) marks block page letter unfinished₀ torn₀ unfinished torn whole × LegalBelow (Z n m s) marks (block * m + page)
 
 abbrev μ-loop : tie.MeasureT-loop
-μ-loop n m s marks blocks unfinished₀ torn₀ top change block first letter whole₀ page₀ unfinished torn whole page = m - page
+μ-loop n m s marks blocks unfinished₀ torn₀ top change block first letter known whole₀ page₀ unfinished torn whole page = m - page
 
 abbrev Inv-search : tie.InvT-search
 Inv-search n m s marks blocks unfinished₀ torn₀ top₀ change₀ block₀ unfinished torn top change block =
@@ -61,18 +61,24 @@ mul-first c = omega (arith, room c)
 shared-slice-read-letter : tie.Need-shared-slice-read-letter Inv-loop μ-loop Inv-search μ-search
 shared-slice-read-letter c = omega (arith, room (c .before))
 
+pages-known-requires : tie.Need-pages-known-requires Inv-loop μ-loop Inv-search μ-search
+pages-known-requires c κs = omega (arith, room (c .before))
+
 loop-holds : tie.Need-loop-holds Inv-loop μ-loop Inv-search μ-search
 loop-holds c =
-    let s = c .before .before in
-    let a = s .before .before .before .args in
+    let b = c .before .before in
+    let o = b .before .search in
+    let a = b .before .before .before .before .args in
     let z = Z (a .n) (a .m) (a .s) in
-    (omega arith, block-start z (omega arith) (a .marks .now) _ _ _ _, λ i h. s .search .inv .3 i (omega arith))
+    let pages : 0 < a .m = omega arith in
+    rw (c .pages-known .ensures)
+    (known-in z pages (a .marks .now) (o .block) _, block-known z pages (a .marks .now) (o .block) _ _ _, legal-known z pages (a .marks .now) (o .block) _ (room b) (o .inv .3))
 
 add-mark : tie.Need-add-mark Inv-loop μ-loop Inv-search μ-search
-add-mark c = omega (arith, room (c .before .before .before))
+add-mark c = omega (arith, room (c .before .before .before .before))
 
 shared-slice-read-mark : tie.Need-shared-slice-read-mark Inv-loop μ-loop Inv-search μ-search
-shared-slice-read-mark c = omega (arith, room (c .before .before .before .before))
+shared-slice-read-mark c = omega (arith, room (c .before .before .before .before .before))
 
 is-mark-requires : tie.Need-is-mark-requires Inv-loop μ-loop Inv-search μ-search
 is-mark-requires c κs = search needs
@@ -81,7 +87,7 @@ returns : tie.Need-returns Inv-loop μ-loop Inv-search μ-search
 returns c =
     let p = c .before .before .before in
     let l = p .before .loop in
-    let b = p .before .before .before in
+    let b = p .before .before .before .before in
     let o = b .before .search in
     let a = b .before .before .before .before .args in
     let z = Z (a .n) (a .m) (a .s) in
@@ -93,7 +99,7 @@ add-unfinished : tie.Need-add-unfinished Inv-loop μ-loop Inv-search μ-search
 add-unfinished c =
     let p = c .before .before .before .before in
     let l = p .before .loop in
-    let b = p .before .before .before in
+    let b = p .before .before .before .before in
     let o = b .before .search in
     let a = b .before .before .before .before .args in
     let z = Z (a .n) (a .m) (a .s) in
@@ -111,7 +117,7 @@ loop-again : tie.Need-loop-again Inv-loop μ-loop Inv-search μ-search
 loop-again c =
     let p = c .before .before .before .before in
     let l = p .before .loop in
-    let b = p .before .before .before in
+    let b = p .before .before .before .before in
     let o = b .before .search in
     let a = b .before .before .before .before .args in
     let z = Z (a .n) (a .m) (a .s) in
@@ -127,7 +133,7 @@ returns-2 : tie.Need-returns-2 Inv-loop μ-loop Inv-search μ-search
 returns-2 c =
     let e = c .before .before in
     let l = e .before .loop in
-    let b = e .before .before .before in
+    let b = e .before .before .before .before in
     let o = b .before .search in
     let a = b .before .before .before .before .args in
     let z = Z (a .n) (a .m) (a .s) in
@@ -145,7 +151,7 @@ search-again : tie.Need-search-again Inv-loop μ-loop Inv-search μ-search
 search-again c =
     let e = c .before in
     let l = e .before .loop in
-    let b = e .before .before .before in
+    let b = e .before .before .before .before in
     let o = b .before .search in
     let a = b .before .before .before .before .args in
     let z = Z (a .n) (a .m) (a .s) in
@@ -186,10 +192,10 @@ returns-3 c =
     rw (w .1, w .2, start)
     (tells z pages (a .marks .now) _ _ _ _ U legal (eqb (o .top) (letter z 0)) (λ e. eqb-true _ _ e) (λ e. eqb-false _ _ e)))
     (λ w.
-    let l = w .2 in
-    rw (w .9, w .8 .taken)
+    let l = w .3 in
+    rw (w .10, w .9 .taken)
     (ap readingOf (found-second _ _ _ _ _) ∙ reads-nothing
-    ∙ sym (page-second z pages (a .marks .now) (o .block) (l .page) _ _ _ _ (l .whole) (room (record { before = t; search-test = w .0 })) (w .3 .taken) (l .inv .1) _ _ (o .inv .2) (omega arith) (w .8 .taken) (w .7 .taken))))
+    ∙ sym (page-second z pages (a .marks .now) (o .block) (l .page) _ _ _ _ (l .whole) (room (record { before = t; search-test = w .0 })) (w .4 .taken) (l .inv .1) _ _ (o .inv .2) (omega arith) (w .9 .taken) (w .8 .taken))))
     (c .before .before .search-test .came))
 
 pub read-marks-spec : {M : Type 1} → statement M
@@ -205,6 +211,7 @@ read-marks-spec =
     search-holds
     mul-first
     shared-slice-read-letter
+    pages-known-requires
     loop-holds
     add-mark
     shared-slice-read-mark
