@@ -4,8 +4,10 @@ ghost use Prim.Native.Nat.{_+_, _*_, _≤_, _<_};
 ghost use lib.ListN.{length};
 ghost use Rattle.split.specs.Rule.{splitByRule};
 ghost use Rattle.split.specs.Accepted.{Accepted};
+ghost use Rattle.split.specs.Ends.{reciprocal};
 ghost use Rattle.split.specs.Work.{Working};
-use crate::ends::block_at;
+use crate::ends::block_by;
+use crate::ends::reciprocal;
 use crate::mask::flip;
 use crate::mask::has;
 use crate::mask::lowest_free;
@@ -16,6 +18,7 @@ use crate::tables::note;
 fn give(
     list: &[u16],
     m: usize,
+    by: usize,
     k: usize,
     sets: &mut [u8],
     sources: &mut [u64; 65],
@@ -24,16 +27,16 @@ fn give(
     from: &mut [u8; 4096],
 )
     requires { ⌜ Working m (now list) k (now sets) (now sources) (now destinations) ⌝ }
-    requires { ⌜ k < length (now list) ⌝ }
+    requires { ⌜ (by ≡ reciprocal m) × (k < length (now list)) ⌝ }
     ensures { λ _. ⌜ Working m (now (list .entry)) (k + 1) (now (sets .exit)) (now (sources .exit)) (now (destinations .exit)) ⌝ }
 {
-    let source = block_at(list, m, true, k);
-    let destination = block_at(list, m, false, k);
+    let source = block_by(list, m, by, true, k);
+    let destination = block_by(list, m, by, false, k);
     let a = lowest_free(sources[source]);
     let used = destinations[destination];
     let b = lowest_free(used);
     if has(used, a) {
-        exchange(list, m, k, a, b, sets, sources, destinations, at, from);
+        exchange(list, m, by, k, a, b, sets, sources, destinations, at, from);
     }
     sets[k] = a as u8;
     note(at, from, m, source, destination, a, k);
@@ -46,6 +49,7 @@ pub fn fill(n: usize, m: usize, list: &[u16], sets: &mut [u8])
     requires { ⌜ Accepted n m (now list) × (length (now sets) ≡ n * m) ⌝ }
     ensures { λ _. ⌜ now (sets .exit) ≡ splitByRule n m (now (list .entry)) ⌝ }
 {
+    let by = reciprocal(m);
     let mut sources = [0u64; 65];
     let mut destinations = [0u64; 65];
     let mut at = [0u8; 4096];
@@ -55,6 +59,7 @@ pub fn fill(n: usize, m: usize, list: &[u16], sets: &mut [u8])
         give(
             list,
             m,
+            by,
             k,
             sets,
             &mut sources,
