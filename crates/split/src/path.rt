@@ -56,12 +56,11 @@ fn search(
     k
 }
 
-// The same with the block's mask and the tables: the search is for a hint that fails.
+// The same with the block's mask and a hint: the search is for a hint that fails.
 fn find(
     list: &[u16],
     sets: &[u8],
-    at: &[u8; 4096],
-    from: &[u8; 4096],
+    last: &[u8; 8192],
     m: usize,
     by: usize,
     k: usize,
@@ -78,7 +77,7 @@ fn find(
     if !has(mask, set) {
         return k;
     }
-    let page = hint(at, from, m, source, block, set);
+    let page = hint(last, m, source, block, set);
     if page < k {
         if is_page(list, sets, m, by, source, block, set, page) {
             return page;
@@ -116,8 +115,7 @@ pub fn exchange(
     sets: &mut [u8],
     sources: &mut [u64; 65],
     destinations: &mut [u64; 65],
-    at: &mut [u8; 4096],
-    from: &mut [u8; 4096],
+    last: &mut [u8; 8192],
 )
     requires { ⌜ Working m (now list) k (now sets) (now sources) (now destinations) ⌝ }
     requires { ⌜ (by ≡ reciprocal m) × (k < length (now list)) × Blocked m (now list) k a b ⌝ }
@@ -126,7 +124,7 @@ pub fn exchange(
     let mut source = false;
     let start = block_by(list, m, by, false, k);
     let mask = destinations[start];
-    let mut met = find(list, sets, at, from, m, by, k, source, start, a, mask);
+    let mut met = find(list, sets, last, m, by, k, source, start, a, mask);
     while met < k {
         source = !source;
         let other = at_end(source, b, a);
@@ -135,9 +133,9 @@ pub fn exchange(
         let block = at_end(source, home, target);
         let mask = mask_at(sources, destinations, source, block);
         // found before `met` gets its other set, which is the set that is looked for
-        let next = find(list, sets, at, from, m, by, k, source, block, other, mask);
+        let next = find(list, sets, last, m, by, k, source, block, other, mask);
         sets[met] = other as u8;
-        note(at, from, m, home, target, other, met);
+        note(last, m, home, target, other, met);
         // Both bits change in the masks of both blocks: twice at a block where two pages of the walk meet.
         flip_both(sources, home, a, b);
         flip_both(destinations, target, a, b);

@@ -23,8 +23,7 @@ fn give(
     sets: &mut [u8],
     sources: &mut [u64; 65],
     destinations: &mut [u64; 65],
-    at: &mut [u8; 4096],
-    from: &mut [u8; 4096],
+    last: &mut [u8; 8192],
 )
     requires { ⌜ Working m (now list) k (now sets) (now sources) (now destinations) ⌝ }
     requires { ⌜ (by ≡ reciprocal m) × (k < length (now list)) ⌝ }
@@ -36,10 +35,10 @@ fn give(
     let used = destinations[destination];
     let b = lowest_free(used);
     if has(used, a) {
-        exchange(list, m, by, k, a, b, sets, sources, destinations, at, from);
+        exchange(list, m, by, k, a, b, sets, sources, destinations, last);
     }
     sets[k] = a as u8;
-    note(at, from, m, source, destination, a, k);
+    note(last, m, source, destination, a, k);
     flip(sources, source, a);
     flip(destinations, destination, a);
 }
@@ -52,8 +51,7 @@ pub fn fill(n: usize, m: usize, list: &[u16], sets: &mut [u8])
     let by = reciprocal(m);
     let mut sources = [0u64; 65];
     let mut destinations = [0u64; 65];
-    let mut at = [0u8; 4096];
-    let mut from = [0u8; 4096];
+    let mut last = [0u8; 8192];
     let mut k = 0;
     while k < list.len() {
         give(
@@ -64,8 +62,7 @@ pub fn fill(n: usize, m: usize, list: &[u16], sets: &mut [u8])
             sets,
             &mut sources,
             &mut destinations,
-            &mut at,
-            &mut from,
+            &mut last,
         );
         k += 1;
     }

@@ -126,7 +126,7 @@ is-blocked c =
 
 exchange-requires : tie.Need-exchange-requires
 exchange-requires c κs =
-    let t = c .before .before .before .before .before in
+    let t = c .before .before .before .before in
     let start = t .before .before .before .before .before .before .before .before .before .before in
     (start .pre .0, (start .pre .1 .0, start .pre .1 .1, is-blocked t))
 
@@ -147,11 +147,11 @@ fresh c =
     let start = l .before .before .before .before .before .before in
     let W = start .pre .0 in
     ⊎-elim
-    (λ w. rw (w .9, w .10, w .11) (record {
-      sized = w .6 .kept .1 .1 .1 .1 .1 .1 .0;
-      gives = gives-exchanged _ _ _ _ _ _ W _ _ _ _ _ (is-blocked (record { before = h; if1 = w .0 })) (w .6 .ensures);
-      source-masks = w .6 .ensures .source-masks;
-      destination-masks = w .6 .ensures .destination-masks;
+    (λ w. rw (w .8, w .9, w .10) (record {
+      sized = w .5 .kept .1 .1 .1 .1 .1 .1 .0;
+      gives = gives-exchanged _ _ _ _ _ _ W _ _ _ _ _ (is-blocked (record { before = h; if1 = w .0 })) (w .5 .ensures);
+      source-masks = w .5 .ensures .source-masks;
+      destination-masks = w .5 .ensures .destination-masks;
     }))
     (λ w. rw (w .1, w .2, w .3) (record {
       sized = refl;
@@ -168,24 +168,24 @@ slice-write-sets c =
 
 note-requires : tie.Need-note-requires
 note-requires c κs =
-    let l = c .before .before .before .before .before .before in
+    let l = c .before .before .before .before .before in
     let start = l .before .before .before .before .before .before in
     let A = start .pre .0 .accepted in
     let r = rooms (l .before .before) in
     ((a-lt l, r .0 .0, r .0 .1, r .1 .0, r .1 .1), of-block _ _ _ _ (A .some-pages) (A .m-fits) (l .before .before .before .block-by .ensures))
 
 flip-requires : tie.Need-flip-requires
-flip-requires c κs = let l = c .before .before .before .before .before .before .before .before in (omega (arith, rooms (l .before .before), c .flip-arg .given), a-lt l)
+flip-requires c κs = let l = c .before .before .before .before .before .before .before in (omega (arith, rooms (l .before .before), c .flip-arg .given), a-lt l)
 
 flip-requires-2 : tie.Need-flip-requires-2
-flip-requires-2 c κs = let l = c .before .before .before .before .before .before .before .before .before .before in (omega (arith, rooms (l .before .before), c .flip-arg2 .given), a-lt l)
+flip-requires-2 c κs = let l = c .before .before .before .before .before .before .before .before .before in (omega (arith, rooms (l .before .before), c .flip-arg2 .given), a-lt l)
 
 same-length : tie.Need-same-length
-same-length c = simp length-set (omega (arith, fresh (c .before .before .before .before .before .before .before) .sized))
+same-length c = simp length-set (omega (arith, fresh (c .before .before .before .before .before .before) .sized))
 
 returns : tie.Need-returns
 returns c =
-    let j = c .before .before .before .before .before .before .before in
+    let j = c .before .before .before .before .before .before in
     let f = fresh j in
     let l = j .before .before .before .before in
     let start = l .before .before .before .before .before .before in
