@@ -4,9 +4,9 @@ use mathlib.Core.Logic.{_⊎_, _≢_, ⊎-elim}
 use mathlib.Core.Bool.{true, false}
 use mathlib.Core.List.{List}
 use Prim.Native.Nat.{ℕ, _+_, _-_, _*_, _/_, _%_, _≤_, _<_}
-use native.Mathlib.Nat.{div-add-mod', mod-lt}
+use native.Mathlib.Nat.{div-add-mod', mod-lt, mul-le-mul}
 use native.Mathlib.Omega.{arith}
-use lib.ListN.{getD}
+use lib.ListN.{length, getD}
 use Rattle.flash.specs.Geometry.{blockOf}
 use Rattle.flash.proofs.Bools.{never-both}
 use Rattle.split.specs.Split.{setOf, sourceBlock}
@@ -71,8 +71,11 @@ module _ (m : ℕ) (list sets : List ℕ) (k : ℕ) (end : End) (block set : ℕ
       })
       (eq-cases (bitAt (getD masks block 0) set) 1)
 
--- ---- blocks
+-- ---- sizes
 module _ (n m : ℕ) (list : List ℕ) (A : Accepted n m list) where
+  pub pages-fit : length list ≤ 4096
+  pages-fit = rw (A .listed) (mul-le-mul {n₁ = n} {m₁ = m} {n₂ = 64} {m₂ = 64} (A .n-fits) (A .m-fits))
+
   -- a page's block has its place in the tables
   pub record Room (block : ℕ) : Type 0 where
     pub low : 1 ≤ block

@@ -4,9 +4,9 @@ ghost use mathlib.Core.Bool.{cond};
 ghost use Prim.Native.Nat.{_≤_, _<_};
 ghost use lib.ListN.{length, getD};
 ghost use Rattle.split.specs.Rule.{isPageOf};
-ghost use Rattle.split.specs.Ends.{endOf};
+ghost use Rattle.split.specs.Ends.{endOf, reciprocal};
 ghost use Rattle.split.specs.Work.{Found, Sought, Working, Blocked, Exchanged};
-use crate::ends::block_at;
+use crate::ends::block_by;
 use crate::mask::flip_both;
 use crate::mask::has;
 use crate::tables::hint;
@@ -18,15 +18,17 @@ fn is_page(
     list: &[u16],
     sets: &[u8],
     m: usize,
+    by: usize,
     source: bool,
     block: usize,
     set: usize,
     page: usize,
 ) -> bool
-    requires { ⌜ (1 ≤ m) × (page < length (now list)) × (page < length (now sets)) ⌝ }
+    requires { ⌜ (1 ≤ m) × (m ≤ 64) × (by ≡ reciprocal m) ⌝ }
+    requires { ⌜ (page < length (now list)) × (page < length (now sets)) × (page < 65536) ⌝ }
     ensures { λ r. ⌜ r ≡ isPageOf m (now (list .entry)) (now (sets .entry)) (endOf source) block set page ⌝ }
 {
-    (block_at(list, m, source, page) == block) & (wide(sets[page]) == set)
+    (block_by(list, m, by, source, page) == block) & (wide(sets[page]) == set)
 }
 
 // The page of a set at a block, among the first k; k if there is none.
@@ -34,17 +36,19 @@ fn search(
     list: &[u16],
     sets: &[u8],
     m: usize,
+    by: usize,
     k: usize,
     source: bool,
     block: usize,
     set: usize,
 ) -> usize
-    requires { ⌜ (1 ≤ m) × (k ≤ length (now list)) × (k ≤ length (now sets)) ⌝ }
+    requires { ⌜ (1 ≤ m) × (m ≤ 64) × (by ≡ reciprocal m) ⌝ }
+    requires { ⌜ (k ≤ length (now list)) × (k ≤ length (now sets)) × (k ≤ 65536) ⌝ }
     ensures { λ r. ⌜ Found m (now (list .entry)) (now (sets .entry)) k (endOf source) block set r ⌝ }
 {
     let mut page = 0;
     while page < k {
-        if is_page(list, sets, m, source, block, set, page) {
+        if is_page(list, sets, m, by, source, block, set, page) {
             return page;
         }
         page += 1;
@@ -52,33 +56,34 @@ fn search(
     k
 }
 
-// The same with the block's mask and the tables: the search is for a hint that fails.
+// The same with the block's mask and a hint: the search is for a hint that fails.
 fn find(
     list: &[u16],
     sets: &[u8],
-    at: &[u8; 4096],
-    from: &[u8; 4096],
+    last: &[u8; 8192],
     m: usize,
+    by: usize,
     k: usize,
     source: bool,
     block: usize,
     set: usize,
     mask: u64,
 ) -> usize
-    requires { ⌜ (1 ≤ m) × (m ≤ 64) × (1 ≤ block) × (block ≤ 64) × (set < 64) ⌝ }
-    requires { ⌜ (k ≤ length (now list)) × (k ≤ length (now sets)) ⌝ }
+    requires { ⌜ (1 ≤ m) × (m ≤ 64) × (by ≡ reciprocal m) ⌝ }
+    requires { ⌜ (k ≤ length (now list)) × (k ≤ length (now sets)) × (k ≤ 65536) ⌝ }
+    requires { ⌜ (1 ≤ block) × (block ≤ 64) × (set < 64) ⌝ }
     ensures { λ r. ⌜ Sought m (now (list .entry)) (now (sets .entry)) k (endOf source) block set mask r ⌝ }
 {
     if !has(mask, set) {
         return k;
     }
-    let page = hint(at, from, m, source, block, set);
+    let page = hint(last, m, source, block, set);
     if page < k {
-        if is_page(list, sets, m, source, block, set, page) {
+        if is_page(list, sets, m, by, source, block, set, page) {
             return page;
         }
     }
-    search(list, sets, m, k, source, block, set)
+    search(list, sets, m, by, k, source, block, set)
 }
 
 // Of two numbers, one for each end.
@@ -103,54 +108,34 @@ fn mask_at(sources: &[u64; 65], destinations: &[u64; 65], source: bool, block: u
 pub fn exchange(
     list: &[u16],
     m: usize,
+    by: usize,
     k: usize,
     a: usize,
     b: usize,
     sets: &mut [u8],
     sources: &mut [u64; 65],
     destinations: &mut [u64; 65],
-    at: &mut [u8; 4096],
-    from: &mut [u8; 4096],
+    last: &mut [u8; 8192],
 )
     requires { ⌜ Working m (now list) k (now sets) (now sources) (now destinations) ⌝ }
-    requires { ⌜ (k < length (now list)) × Blocked m (now list) k a b ⌝ }
+    requires { ⌜ (by ≡ reciprocal m) × (k < length (now list)) × Blocked m (now list) k a b ⌝ }
     ensures { λ _. ⌜ Exchanged m (now (list .entry)) k a b (now (sets .exit)) (now (sources .exit)) (now (destinations .exit)) ⌝ }
 {
     let mut source = false;
-    let start = block_at(list, m, false, k);
-    let mut met = find(
-        list,
-        sets,
-        at,
-        from,
-        m,
-        k,
-        source,
-        start,
-        a,
-        destinations[start],
-    );
+    let start = block_by(list, m, by, false, k);
+    let mask = destinations[start];
+    let mut met = find(list, sets, last, m, by, k, source, start, a, mask);
     while met < k {
         source = !source;
         let other = at_end(source, b, a);
-        let home = block_at(list, m, true, met);
-        let target = block_at(list, m, false, met);
+        let home = block_by(list, m, by, true, met);
+        let target = block_by(list, m, by, false, met);
         let block = at_end(source, home, target);
+        let mask = mask_at(sources, destinations, source, block);
         // found before `met` gets its other set, which is the set that is looked for
-        let next = find(
-            list,
-            sets,
-            at,
-            from,
-            m,
-            k,
-            source,
-            block,
-            other,
-            mask_at(sources, destinations, source, block),
-        );
+        let next = find(list, sets, last, m, by, k, source, block, other, mask);
         sets[met] = other as u8;
-        note(at, from, m, home, target, other, met);
+        note(last, m, home, target, other, met);
         // Both bits change in the masks of both blocks: twice at a block where two pages of the walk meet.
         flip_both(sources, home, a, b);
         flip_both(destinations, target, a, b);

@@ -9,10 +9,10 @@ use Rattle.split.proofs.path.search.Statement.{statement}
 use Rattle.split.proofs.path.search.Tie as tie
 
 abbrev Inv-loop : tie.InvT-loop
-Inv-loop list sets m k source block set page₀ page = (page ≤ k) × Clear m list sets (endOf source) block set page
+Inv-loop list sets m by k source block set page₀ page = (page ≤ k) × Clear m list sets (endOf source) block set page
 
 abbrev μ-loop : tie.MeasureT-loop
-μ-loop list sets m k source block set page₀ page = k - page
+μ-loop list sets m by k source block set page₀ page = k - page
 
 loop-holds : tie.Need-loop-holds Inv-loop μ-loop
 loop-holds c = (omega arith, λ x h. absurd (not-suc-le-zero h))

@@ -3,20 +3,29 @@ use mathlib.Core.Logic.{⊎-elim}
 use Prim.Native.Nat.{ℕ, _≤_, _<_}
 use native.Mathlib.Omega.{arith}
 use Rattle.split.specs.Rule.{End, source, destination, blockAt, isUsed, lowestUnused, setsGiven}
-use lib.ListN.{length-set}
+use lib.ListN.{length, length-set}
 use Rattle.split.specs.Mask.{FlippedAt}
+use Rattle.split.specs.Ends.{reciprocal}
 use Rattle.split.specs.Work.{Blocked}
-use Rattle.split.proofs.PathLaws.{block-room, of-block}
+use Rattle.split.proofs.PathLaws.{pages-fit, block-room, of-block}
 use Rattle.split.proofs.Filling.{lowest-free, lowest-fits, blocked, given-more, gives-plain, gives-exchanged, Fresh}
 use borrow.Author.Needs.{needs}
 use Rattle.split.proofs.rule.give.Statement.{statement}
 use Rattle.split.proofs.rule.give.Tie as tie
 
-block-at-requires : tie.Need-block-at-requires
-block-at-requires c κs = search needs
+listed : (c : tie.After-slice-known) → (let start = c .before .before in let m = start .args .m in let k = start .args .k in
+    (1 ≤ m) × (m ≤ 64) × (start .args .by ≡ reciprocal m) × (k < length (start .args .list .now)) × (k < 65536))
+listed c =
+    let start = c .before .before in
+    let A = start .pre .0 .accepted in
+    let p = start .pre .1 in
+    (A .some-pages, A .m-fits, p .0, p .1, omega (arith, p .1, pages-fit _ _ _ A))
 
-block-at-requires-2 : tie.Need-block-at-requires-2
-block-at-requires-2 c κs = search needs
+block-by-requires : tie.Need-block-by-requires
+block-by-requires c κs = listed c
+
+block-by-requires-2 : tie.Need-block-by-requires-2
+block-by-requires-2 c κs = listed (c .before)
 
 -- the blocks of page k
 fits : (c : tie.After-slice-known) (end : End) (block : ℕ)
@@ -25,12 +34,12 @@ fits : (c : tie.After-slice-known) (end : End) (block : ℕ)
 fits c end block e =
     let start = c .before .before in
     let W = start .pre .0 in
-    let r = block-room _ _ _ (W .accepted) end (start .args .k) block (omega (arith, start .pre .1, W .accepted .listed)) e in
+    let r = block-room _ _ _ (W .accepted) end (start .args .k) block (omega (arith, start .pre .1 .1, W .accepted .listed)) e in
     (r .low, r .high)
 
-rooms : (c : tie.After-block-at2) → (let h = c .before .block-at .result in let t = c .block-at2 .result in
+rooms : (c : tie.After-block-by2) → (let h = c .before .block-by .result in let t = c .block-by2 .result in
     ((1 ≤ h) × (h ≤ 64)) × ((1 ≤ t) × (t ≤ 64)))
-rooms c = (fits (c .before .before) source _ (c .before .block-at .ensures), fits (c .before .before) destination _ (c .block-at2 .ensures))
+rooms c = (fits (c .before .before) source _ (c .before .block-by .ensures), fits (c .before .before) destination _ (c .block-by2 .ensures))
 
 mul-lowest-free : tie.Need-mul-lowest-free
 mul-lowest-free c = record { fits = omega (arith, rooms c) }
@@ -57,14 +66,14 @@ a-is c =
     let start = c .before .before .before .before .before .before in
     let W = start .pre .0 in
     c .lowest-free .ensures
-    ∙ lowest-free _ _ _ _ _ _ W (omega (arith, start .pre .1, W .accepted .listed)) source (start .args .sources .now)
-    (W .source-masks) _ (c .before .before .before .block-at .ensures)
+    ∙ lowest-free _ _ _ _ _ _ W (omega (arith, start .pre .1 .1, W .accepted .listed)) source (start .args .sources .now)
+    (W .source-masks) _ (c .before .before .before .block-by .ensures)
 
 a-lt : (c : tie.After-lowest-free) → c .lowest-free .result < 64
 a-lt c =
     let start = c .before .before .before .before .before .before in
     let W = start .pre .0 in
-    omega (arith, a-is c, lowest-fits _ _ _ _ _ _ W (omega (arith, start .pre .1, W .accepted .listed)) source)
+    omega (arith, a-is c, lowest-fits _ _ _ _ _ _ W (omega (arith, start .pre .1 .1, W .accepted .listed)) source)
 
 lowest-free-requires-2 : tie.Need-lowest-free-requires-2
 lowest-free-requires-2 c κs = search needs
@@ -83,8 +92,8 @@ used-is c =
     let l = c .before .before .before in
     let start = l .before .before .before .before .before .before in
     let W = start .pre .0 in
-    c .has .ensures ∙ blocked _ _ _ _ _ _ W (omega (arith, start .pre .1, W .accepted .listed)) _ _
-    (l .before .before .block-at2 .ensures)
+    c .has .ensures ∙ blocked _ _ _ _ _ _ W (omega (arith, start .pre .1 .1, W .accepted .listed)) _ _
+    (l .before .before .block-by2 .ensures)
 
 -- and the second the rule's b
 b-is : (c : tie.After-lowest-free2)
@@ -97,14 +106,14 @@ b-is c =
     let start = l .before .before .before .before .before .before in
     let W = start .pre .0 in
     c .lowest-free2 .ensures
-    ∙ lowest-free _ _ _ _ _ _ W (omega (arith, start .pre .1, W .accepted .listed)) destination (start .args .destinations .now)
-    (W .destination-masks) _ (l .before .before .block-at2 .ensures)
+    ∙ lowest-free _ _ _ _ _ _ W (omega (arith, start .pre .1 .1, W .accepted .listed)) destination (start .args .destinations .now)
+    (W .destination-masks) _ (l .before .before .block-by2 .ensures)
 
 b-lt : (c : tie.After-lowest-free2) → c .lowest-free2 .result < 64
 b-lt c =
     let start = c .before .before .before .before .before .before .before .before in
     let W = start .pre .0 in
-    omega (arith, b-is c, lowest-fits _ _ _ _ _ _ W (omega (arith, start .pre .1, W .accepted .listed)) destination)
+    omega (arith, b-is c, lowest-fits _ _ _ _ _ _ W (omega (arith, start .pre .1 .1, W .accepted .listed)) destination)
 
 is-blocked : (c : tie.Then1)
     → (let f = c .before .before in
@@ -117,9 +126,9 @@ is-blocked c =
 
 exchange-requires : tie.Need-exchange-requires
 exchange-requires c κs =
-    let t = c .before .before .before .before .before in
+    let t = c .before .before .before .before in
     let start = t .before .before .before .before .before .before .before .before .before .before in
-    (start .pre .0, (start .pre .1, is-blocked t))
+    (start .pre .0, (start .pre .1 .0, start .pre .1 .1, is-blocked t))
 
 cast-sets : tie.Need-cast-sets
 cast-sets c =
@@ -138,11 +147,11 @@ fresh c =
     let start = l .before .before .before .before .before .before in
     let W = start .pre .0 in
     ⊎-elim
-    (λ w. rw (w .9, w .10, w .11) (record {
-      sized = w .6 .kept .1 .1 .1 .1 .1 .0;
-      gives = gives-exchanged _ _ _ _ _ _ W _ _ _ _ _ (is-blocked (record { before = h; if1 = w .0 })) (w .6 .ensures);
-      source-masks = w .6 .ensures .source-masks;
-      destination-masks = w .6 .ensures .destination-masks;
+    (λ w. rw (w .8, w .9, w .10) (record {
+      sized = w .5 .kept .1 .1 .1 .1 .1 .1 .0;
+      gives = gives-exchanged _ _ _ _ _ _ W _ _ _ _ _ (is-blocked (record { before = h; if1 = w .0 })) (w .5 .ensures);
+      source-masks = w .5 .ensures .source-masks;
+      destination-masks = w .5 .ensures .destination-masks;
     }))
     (λ w. rw (w .1, w .2, w .3) (record {
       sized = refl;
@@ -155,45 +164,45 @@ fresh c =
 slice-write-sets : tie.Need-slice-write-sets
 slice-write-sets c =
     let start = c .before .before .before .before .before .before .before .before .before .before in
-    omega (arith, fresh c .sized, start .pre .0 .sized, start .pre .0 .accepted .listed, start .pre .1)
+    omega (arith, fresh c .sized, start .pre .0 .sized, start .pre .0 .accepted .listed, start .pre .1 .1)
 
 note-requires : tie.Need-note-requires
 note-requires c κs =
-    let l = c .before .before .before .before .before .before in
+    let l = c .before .before .before .before .before in
     let start = l .before .before .before .before .before .before in
     let A = start .pre .0 .accepted in
     let r = rooms (l .before .before) in
-    ((a-lt l, r .0 .0, r .0 .1, r .1 .0, r .1 .1), of-block _ _ _ _ (A .some-pages) (A .m-fits) (l .before .before .before .block-at .ensures))
+    ((a-lt l, r .0 .0, r .0 .1, r .1 .0, r .1 .1), of-block _ _ _ _ (A .some-pages) (A .m-fits) (l .before .before .before .block-by .ensures))
 
 flip-requires : tie.Need-flip-requires
-flip-requires c κs = let l = c .before .before .before .before .before .before .before .before in (omega (arith, rooms (l .before .before), c .flip-arg .given), a-lt l)
+flip-requires c κs = let l = c .before .before .before .before .before .before .before in (omega (arith, rooms (l .before .before), c .flip-arg .given), a-lt l)
 
 flip-requires-2 : tie.Need-flip-requires-2
-flip-requires-2 c κs = let l = c .before .before .before .before .before .before .before .before .before .before in (omega (arith, rooms (l .before .before), c .flip-arg2 .given), a-lt l)
+flip-requires-2 c κs = let l = c .before .before .before .before .before .before .before .before .before in (omega (arith, rooms (l .before .before), c .flip-arg2 .given), a-lt l)
 
 same-length : tie.Need-same-length
-same-length c = simp length-set (omega (arith, fresh (c .before .before .before .before .before .before .before) .sized))
+same-length c = simp length-set (omega (arith, fresh (c .before .before .before .before .before .before) .sized))
 
 returns : tie.Need-returns
 returns c =
-    let j = c .before .before .before .before .before .before .before in
+    let j = c .before .before .before .before .before .before in
     let f = fresh j in
     let l = j .before .before .before .before in
     let start = l .before .before .before .before .before .before in
     let W = start .pre .0 in
-    given-more _ _ _ _ _ _ W (omega (arith, start .pre .1, W .accepted .listed)) _ _ _ _ _ _ (f .sized) (f .gives)
+    given-more _ _ _ _ _ _ W (omega (arith, start .pre .1 .1, W .accepted .listed)) _ _ _ _ _ _ (f .sized) (f .gives)
     (f .source-masks) (f .destination-masks)
     (subst (λ (at : ℕ). FlippedAt (j .if1 .sources) at (l .lowest-free .result) (c .before .before .flip .last .0))
-    (l .before .before .before .block-at .ensures) (c .before .before .flip .ensures .1))
+    (l .before .before .before .block-by .ensures) (c .before .before .flip .ensures .1))
     (subst (λ (at : ℕ). FlippedAt (j .if1 .destinations) at (l .lowest-free .result) (c .flip2 .last .0))
-    (l .before .before .block-at2 .ensures) (c .flip2 .ensures .1))
+    (l .before .before .block-by2 .ensures) (c .flip2 .ensures .1))
 
 pub give-spec : {M : Type 1} → statement M
 give-spec =
     tie.close
     (tie.spec
-    block-at-requires
-    block-at-requires-2
+    block-by-requires
+    block-by-requires-2
     mul-lowest-free
     element-copy-out-lowest-free
     lowest-free-requires
