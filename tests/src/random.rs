@@ -52,8 +52,20 @@ impl Random {
 
 /// The seed from the environment variable MOVER_SEED, else 1.
 pub fn seed_from_environment() -> u64 {
-    match std::env::var("MOVER_SEED") {
-        Ok(text) => text.parse().expect("MOVER_SEED must be a decimal number"),
+    number_from_environment("MOVER_SEED")
+}
+
+/// The environment variable MOVER_ROUNDS, else 1: how much longer than in the
+/// gate the random lists of events are to be.
+pub fn rounds_from_environment() -> u64 {
+    number_from_environment("MOVER_ROUNDS")
+}
+
+fn number_from_environment(name: &str) -> u64 {
+    match std::env::var(name) {
+        Ok(text) => text
+            .parse()
+            .unwrap_or_else(|_| panic!("{name} must be a decimal number")),
         Err(_) => 1,
     }
 }

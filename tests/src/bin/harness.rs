@@ -4,9 +4,12 @@
 use mover_tests::checks::tally::Tally;
 use mover_tests::faults::all_faults;
 use mover_tests::faults::exports::{calls, Clean};
+use mover_tests::faults::lists;
 use mover_tests::faults::operations::faulty_tellings;
 use mover_tests::faults::programs::faulty_programs;
-use mover_tests::harness::compare::{check_mover, first_difference};
+use mover_tests::harness::compare::{
+    check_mover, first_broken_demand, first_difference, first_in_lists,
+};
 use mover_tests::harness::operations::compare_operations;
 use mover_tests::harness::programs::compare_program;
 use mover_tests::random::seed_from_environment;
@@ -32,12 +35,17 @@ fn main() -> ExitCode {
         compare_operations(|_, _, due| due),
     );
     faults_reported(&mut tally, seed);
+    demand_3_reported(&mut tally, seed);
     tally.finish()
 }
 
 fn faults_reported(tally: &mut Tally, seed: u64) {
     for fault in all_faults() {
         let found = first_difference(&fault.calls, seed).map(|(family, _)| family);
+        reported(tally, fault.name, found);
+    }
+    for fault in lists::faults() {
+        let found = first_in_lists(&fault.calls, seed).map(|(family, _)| family);
         reported(tally, fault.name, found);
     }
     for fault in faulty_tellings() {
@@ -50,9 +58,23 @@ fn faults_reported(tally: &mut Tally, seed: u64) {
     }
 }
 
+/// The checks of demand 3 pass the simulator, and notice some faults without
+/// its answers.
+fn demand_3_reported(tally: &mut Tally, seed: u64) {
+    let itself = first_broken_demand(&calls::<Correct, Clean>(), seed);
+    tally.check("demand 3 of the simulator", itself.map_or(Ok(()), Err));
+    let faults = || all_faults().into_iter().chain(lists::faults());
+    for (name, words) in lists::BREAKING_DEMAND_3 {
+        let fault = faults().find(|fault| fault.name == name);
+        let found = fault.and_then(|fault| first_broken_demand(&fault.calls, seed));
+        let found = found.filter(|what| what.starts_with("demand 3") && what.contains(words));
+        reported(tally, name, found.as_deref());
+    }
+}
+
 fn reported(tally: &mut Tally, name: &str, found: Option<&str>) {
-    if let Some(family) = found {
-        println!("reported: {name} ({family})");
+    if let Some(how) = found {
+        println!("reported: {name} ({how})");
     }
     tally.check(name, found.map(|_| ()).ok_or("not reported".into()));
 }

@@ -1,10 +1,12 @@
 //! Faults in reading.
 
 use super::{fault, Fault};
+use crate::simulator::calls::move_of;
 use crate::simulator::flash::Flash;
 use crate::simulator::permutation::Move;
 use crate::simulator::request::{Answer, Call, Request};
 use crate::simulator::rules::Rules;
+use crate::simulator::sizes::UNWRITTEN;
 
 pub fn faults() -> Vec<Fault> {
     vec![
@@ -12,6 +14,7 @@ pub fn faults() -> Vec<Fault> {
         fault::<BackByTopAlone>("rule 2 forgets the blocks full of s"),
         fault::<BackByRestAlone>("rule 2 forgets where c(top) lies"),
         fault::<CountWithoutLast>("read does not count the last page"),
+        fault::<ByBytes>("read copies a torn page that still holds the original"),
     ]
 }
 
@@ -46,6 +49,30 @@ impl Rules for CountWithoutLast {
     fn amend(request: &Request, answer: &mut Answer) {
         if request.call == Call::Read && answer.numbers.count > 1 {
             answer.numbers.count -= 1;
+        }
+    }
+}
+
+/// The page is right, but other pages are summed than under the same marks
+/// with other bytes.
+struct ByBytes;
+
+impl Rules for ByBytes {
+    fn amend(request: &Request, given: &mut Answer) {
+        if request.call != Call::Read || given.numbers.returned != 0 {
+            return;
+        }
+        let flash = Flash::new(request.sizes, &request.parts.store, &request.parts.marks);
+        let moves = move_of(request);
+        let original = request.original as usize;
+        let slots = [
+            flash.sizes.slot_of(original),
+            moves.destination_slot(original),
+        ];
+        let still_there =
+            |&slot: &usize| flash.marks[slot] == UNWRITTEN && flash.page(slot) == given.parts.work;
+        if slots.iter().any(still_there) {
+            given.numbers.count = 1;
         }
     }
 }

@@ -1,11 +1,11 @@
 //! The comparison of a mover with the simulator.
 
 use super::drive::drive;
-use super::families::FAMILIES;
+use super::families::{Family, FAMILIES, LISTS};
 use super::interface::Calls;
 use super::shrink::shrink;
-use crate::checks::tally::Tally;
-use crate::random::Random;
+use crate::checks::tally::{ensure, Tally};
+use crate::random::{rounds_from_environment, Random};
 use crate::simulator::calls::answer;
 use crate::simulator::request::{Answer, Request, ALL_PARTS, CALLS};
 use std::fmt;
@@ -37,6 +37,13 @@ impl fmt::Display for Difference {
 pub struct Comparer<'a> {
     calls: &'a Calls,
     compared: [u64; 4],
+    /// The events of lists: calls, cut ones among them, and cuts between calls.
+    pub events: u64,
+    pub cuts: u64,
+    /// How often the random lists of events are played.
+    pub rounds: u64,
+    /// Without the simulator's answers nothing but demand 3 is looked at.
+    with_simulator: bool,
     /// Print each request before the call, to see the one that a crash ends in.
     trace: bool,
 }
@@ -46,17 +53,26 @@ impl<'a> Comparer<'a> {
         Comparer {
             calls,
             compared: [0; 4],
+            events: 0,
+            cuts: 0,
+            rounds: rounds_from_environment(),
+            with_simulator: true,
             trace: std::env::var_os("MOVER_TRACE").is_some(),
         }
     }
 
-    /// Compares one call; the simulator's answer is handed back, so that a
-    /// chain of calls can go on from it.
+    /// Compares one call; the answer is handed back, so that a chain of calls
+    /// can go on from it.
     pub fn compare(&mut self, request: &Request) -> Result<Answer, Box<Difference>> {
-        let due = answer(request);
         if self.trace {
             println!("{request}");
         }
+        if !self.with_simulator {
+            let request = request.clone();
+            return drive(self.calls, &request)
+                .map_err(|what| Box::new(Difference { request, what }));
+        }
+        let due = answer(request);
         if let Some(what) = difference(drive(self.calls, request), &due) {
             return Err(Box::new(shrink(self.calls, request.clone(), what)));
         }
@@ -72,6 +88,8 @@ impl<'a> Comparer<'a> {
         for (call, count) in CALLS.iter().zip(self.compared) {
             println!("{call:?}: {count} calls compared");
         }
+        println!("rounds: {}", self.rounds);
+        println!("events: {}, {} of them cut", self.events, self.cuts);
     }
 }
 
@@ -99,6 +117,9 @@ pub fn difference(given: Result<Answer, String>, due: &Answer) -> Option<String>
     None
 }
 
+/// What the gate asks of the lists of events.
+const LEAST_EVENTS: u64 = 100_000;
+
 /// Each family has its own random numbers from the seed.
 fn random_of(seed: u64, family: usize) -> Random {
     Random::new(seed.wrapping_mul(1000).wrapping_add(family as u64))
@@ -118,15 +139,42 @@ pub fn check_mover(tally: &mut Tally, name: &str, calls: &Calls, seed: u64) {
         tally.check(&format!("{name}, {}", family.name), outcome);
     }
     comparer.print_counts();
+    tally.check(
+        &format!("{name}, events"),
+        ensure(comparer.events >= LEAST_EVENTS, || {
+            format!("{} are fewer than {LEAST_EVENTS}", comparer.events)
+        }),
+    );
+}
+
+/// The first difference that one of these families finds, with its name.
+fn first_of(
+    families: &'static [Family],
+    mut comparer: Comparer,
+    seed: u64,
+) -> Option<(&'static str, Box<Difference>)> {
+    families.iter().enumerate().find_map(|(index, family)| {
+        let outcome = (family.cases)(&mut comparer, &mut random_of(seed, index));
+        Some((family.name, outcome.err()?))
+    })
 }
 
 /// Compares up to the first difference.
 pub fn first_difference(calls: &Calls, seed: u64) -> Option<(&'static str, Box<Difference>)> {
-    let mut comparer = Comparer::new(calls);
-    for (index, family) in FAMILIES.iter().enumerate() {
-        if let Err(difference) = (family.cases)(&mut comparer, &mut random_of(seed, index)) {
-            return Some((family.name, difference));
-        }
-    }
-    None
+    first_of(&FAMILIES, Comparer::new(calls), seed)
+}
+
+/// Compares lists of events up to the first difference.
+pub fn first_in_lists(calls: &Calls, seed: u64) -> Option<(&'static str, Box<Difference>)> {
+    first_of(&LISTS, Comparer::new(calls), seed)
+}
+
+/// What the checks of demand 3 report of a mover by themselves, when its
+/// answers are not compared.
+pub fn first_broken_demand(calls: &Calls, seed: u64) -> Option<String> {
+    let comparer = Comparer {
+        with_simulator: false,
+        ..Comparer::new(calls)
+    };
+    first_of(&LISTS, comparer, seed).map(|(_, difference)| difference.what)
 }

@@ -2,10 +2,14 @@
 //! the simulator's answer.
 
 pub mod compare;
+mod demand;
 pub mod drive;
 pub mod families;
 pub mod interface;
 pub mod lent;
 pub mod operations;
+mod player;
 pub mod programs;
 pub mod shrink;
+mod story;
+mod tears;

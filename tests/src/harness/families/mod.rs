@@ -1,5 +1,7 @@
 //! The families of cases, in the order of the comparison.
 
+mod events;
+mod every_cut;
 mod limits;
 mod nonsense;
 mod other_splits;
@@ -20,7 +22,20 @@ pub struct Family {
     pub cases: fn(&mut Comparer, &mut Random) -> Outcome,
 }
 
-pub const FAMILIES: [Family; 10] = [
+const EVERY_CUT: Family = Family {
+    name: "every cut of small moves",
+    cases: every_cut::cases,
+};
+
+const EVENTS: Family = Family {
+    name: "lists of events",
+    cases: events::cases,
+};
+
+/// The families that look at demand 3 over whole lists.
+pub static LISTS: [Family; 2] = [EVERY_CUT, EVENTS];
+
+pub static FAMILIES: [Family; 12] = [
     Family {
         name: "refusals, one and two at once",
         cases: refusals::cases,
@@ -45,6 +60,8 @@ pub const FAMILIES: [Family; 10] = [
         name: "splits made by another rule",
         cases: other_splits::cases,
     },
+    EVERY_CUT,
+    EVENTS,
     Family {
         name: "the papers' lists, page by page",
         cases: papers::cases,

@@ -94,7 +94,7 @@ fn other_places(comparer: &mut Comparer, scene: &Scene, random: &mut Random) -> 
 }
 
 /// One mark changed, or one byte of a page not written.
-fn wrong_mark(scene: &mut Scene, random: &mut Random) {
+pub fn wrong_mark(scene: &mut Scene, random: &mut Random) {
     let slot = random.below(scene.sizes.slots());
     if scene.flash.marks[slot] == UNWRITTEN && random.one_in(2) {
         let byte = slot * scene.sizes.bytes() + random.below(scene.sizes.bytes());

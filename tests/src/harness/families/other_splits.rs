@@ -16,13 +16,18 @@ pub fn cases(comparer: &mut Comparer, random: &mut Random) -> Outcome {
             random.below(3),
         );
         let mut scene = random_scene(shape, random);
-        scene.sets = match round % 2 {
-            0 => relabelled(&scene, random),
-            _ => peeled(&scene, random),
-        };
+        scene.sets = elsewhere(&scene, random);
         walk(comparer, &scene, shape.pages(), 4, random)?;
     }
     Ok(())
+}
+
+/// A split of the list in one of two other ways.
+pub fn elsewhere(scene: &Scene, random: &mut Random) -> Vec<u8> {
+    match random.below(2) {
+        0 => relabelled(scene, random),
+        _ => peeled(scene, random),
+    }
 }
 
 /// The same sets under other numbers.

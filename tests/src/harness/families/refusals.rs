@@ -6,7 +6,7 @@ use crate::harness::compare::Comparer;
 use crate::random::Random;
 use crate::simulator::request::{Call, Part, Request, CALLS};
 
-type Flaw = Box<dyn Fn(&mut Request)>;
+pub type Flaw = Box<dyn Fn(&mut Request)>;
 
 pub fn cases(comparer: &mut Comparer, random: &mut Random) -> Outcome {
     for (n, m, bytes) in [(1, 1, 1), (2, 1, 1), (1, 2, 2), (2, 2, 1), (3, 2, 3)] {
@@ -61,7 +61,7 @@ fn flawed(comparer: &mut Comparer, request: &Request) -> Outcome {
 }
 
 /// Lengths come last, so that a flaw inside a part finds it at its length.
-fn flaws(request: &Request) -> Vec<Flaw> {
+pub fn flaws(request: &Request) -> Vec<Flaw> {
     let call = request.call;
     let mut flaws = size_flaws();
     if call != Call::Mend {

@@ -1,0 +1,130 @@
+//! Demand 3 over one list of events: what is counted, and what must hold.
+
+use crate::checks::tally::{ensure, same};
+use crate::checks::trace::all_moved;
+use crate::scene::Scene;
+use crate::simulator::request::{Answer, Numbers};
+use crate::simulator::sizes::Sizes;
+use crate::simulator::steps::{all_steps, Step};
+
+type Outcome = Result<(), String>;
+
+/// What has been counted since the store was at rest.
+#[derive(Clone)]
+pub struct Ledger {
+    erases_begun: u32,
+    recoveries: u32,
+    cuts: u32,
+    /// The erases of each block by runs.
+    wear: Vec<u32>,
+    finished: bool,
+}
+
+impl Ledger {
+    pub fn at_rest(sizes: &Sizes) -> Ledger {
+        Ledger {
+            erases_begun: 0,
+            recoveries: 0,
+            cuts: 0,
+            wear: vec![0; sizes.data_blocks() + 1],
+            finished: false,
+        }
+    }
+
+    /// The steps that a run finished, whether it returned or was cut after
+    /// them. A run returns how many blocks it erased; which ones they are is
+    /// told by its steps.
+    pub fn ran(&mut self, sizes: &Sizes, place: u32, numbers: &Numbers) {
+        self.erases_begun += numbers.erases;
+        let steps = all_steps(sizes).into_iter().skip(place as usize);
+        for step in steps.take(numbers.steps as usize) {
+            if let Step::Erase { block } = step {
+                self.wear[block] += 1;
+            }
+        }
+    }
+
+    /// Only a run that returns it reports the finish.
+    pub fn returned(&mut self, numbers: &Numbers) {
+        self.finished |= numbers.finished == 1;
+    }
+
+    /// A recovery call, refused, cut or not, with the erases it finished.
+    pub fn recovery(&mut self, erases: u32) {
+        self.recoveries += 1;
+        self.erases_begun += erases;
+    }
+
+    /// A cut, inside this step if one was begun.
+    pub fn cut(&mut self, begun: Option<Step>) {
+        self.cuts += 1;
+        if let Some(Step::Erase { .. }) = begun {
+            self.erases_begun += 1;
+        }
+    }
+
+    /// What must hold after each event.
+    pub fn holds(&self, scene: &Scene) -> Outcome {
+        let most = 2 * scene.sizes.n + self.recoveries;
+        ensure(self.erases_begun <= most, || {
+            format!("{} erases, at most {most}", self.erases_begun)
+        })?;
+        let quiet = self.cuts == 0 && self.recoveries == 0;
+        ensure(
+            !quiet || self.wear.iter().all(|&erases| erases <= 2),
+            || {
+                format!(
+                    "a block is erased more than twice: {:?} by block",
+                    self.wear
+                )
+            },
+        )?;
+        if self.finished {
+            all_moved(scene).map_err(|why| format!("the finish is not final: {why}"))?;
+        }
+        Ok(())
+    }
+}
+
+/// The stored pages that a read sums under some marks. The slots are known
+/// where a page has a bit for each.
+pub struct Summed {
+    pub count: u32,
+    pub slots: Option<Vec<usize>>,
+}
+
+/// A read gives the original, as the sum of at most n whole pages, which are
+/// the same ones whenever the marks are equal.
+pub fn right_read(scene: &Scene, k: usize, answer: &Answer, summed: &Summed) -> Outcome {
+    let count = answer.numbers.count;
+    same("the number of read", answer.numbers.returned, 0)?;
+    same(
+        &format!("original {k} read"),
+        &answer.parts.work[..],
+        scene.original(k),
+    )?;
+    ensure((1..=scene.sizes.n).contains(&count), || {
+        format!("{count} pages summed, at most {}", scene.sizes.n)
+    })?;
+    ensure(count == summed.count, || {
+        let before = summed.count;
+        format!("{count} pages summed, and {before} under the same marks before")
+    })?;
+    match &summed.slots {
+        Some(slots) => right_slots(scene, k, count, slots),
+        None => Ok(()),
+    }
+}
+
+fn right_slots(scene: &Scene, k: usize, count: u32, slots: &[usize]) -> Outcome {
+    same("the number of slots summed", slots.len() as u32, count)?;
+    let mut whole = slots.iter().map(|&slot| scene.flash.is_whole(slot));
+    ensure(whole.all(|whole| whole), || {
+        format!("a page of {slots:?} is not whole")
+    })?;
+    same(
+        &format!("original {k} from {slots:?}"),
+        &scene.flash.sum(slots)[..],
+        scene.original(k),
+    )
+}

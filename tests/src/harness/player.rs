@@ -1,0 +1,73 @@
+//! A mover that plays lists of events, and what is known of its reads.
+
+use super::compare::{Comparer, Difference};
+use super::demand::{right_read, Summed};
+use crate::scene::Scene;
+use crate::simulator::request::{Answer, Request};
+use std::collections::HashMap;
+
+pub type Played<T> = Result<T, Box<Difference>>;
+
+/// What the report of a broken demand looks like.
+pub fn broken(request: &Request, why: String) -> Box<Difference> {
+    let what = format!("demand 3: {why}");
+    let request = request.clone();
+    Box::new(Difference { request, what })
+}
+
+/// A mover that plays the lists of one move, with what its reads have summed
+/// under which marks so far.
+pub struct Player<'a, 'b> {
+    pub comparer: &'a mut Comparer<'b>,
+    summed: HashMap<(Vec<u8>, usize), Summed>,
+}
+
+impl<'a, 'b> Player<'a, 'b> {
+    pub fn new(comparer: &'a mut Comparer<'b>) -> Player<'a, 'b> {
+        Player {
+            comparer,
+            summed: HashMap::new(),
+        }
+    }
+
+    /// One event of the list.
+    pub fn event(&mut self, request: &Request) -> Played<Answer> {
+        self.comparer.events += 1;
+        self.comparer.compare(request)
+    }
+
+    /// A call aside from the list: its store may be any, and what it leaves is
+    /// compared and forgotten.
+    pub fn aside(&mut self, request: &Request) -> Played<()> {
+        self.event(request).map(|_| ())
+    }
+
+    pub fn read(&mut self, scene: &Scene, k: usize) -> Played<()> {
+        let request = scene.read_request(k);
+        let answer = self.event(&request)?;
+        let key = (scene.flash.marks.clone(), k);
+        if !self.summed.contains_key(&key) {
+            let slots = self.slots_summed(scene, k)?;
+            let count = answer.numbers.count;
+            self.summed.insert(key.clone(), Summed { count, slots });
+        }
+        right_read(scene, k, &answer, &self.summed[&key]).map_err(|why| broken(&request, why))
+    }
+
+    /// Lays a bit of its own in the page of each slot, under the same marks:
+    /// the page read then shows which slots were summed.
+    fn slots_summed(&mut self, scene: &Scene, k: usize) -> Played<Option<Vec<usize>>> {
+        let (slots, bytes) = (scene.sizes.slots(), scene.sizes.bytes());
+        if slots > 8 * bytes {
+            return Ok(None);
+        }
+        let mut request = scene.read_request(k);
+        request.parts.store.fill(0);
+        for slot in 0..slots {
+            request.parts.store[slot * bytes + slot / 8] = 1 << (slot % 8);
+        }
+        let page = self.comparer.compare(&request)?.parts.work;
+        let shown = |slot: &usize| page[slot / 8] >> (slot % 8) & 1 == 1;
+        Ok(Some((0..slots).filter(shown).collect()))
+    }
+}
