@@ -23,13 +23,13 @@ unfolding highest
 highest-first x [] = omega arith
 highest-first x (y ∷ ys) = omega (arith, highest-first (max x y) ys)
 
-highest-ge : (x : ℕ) (ys : List ℕ) (i : ℕ) → i < length ys → getD ys i 0 ≤ highest x ys
+pub highest-ge : (x : ℕ) (ys : List ℕ) (i : ℕ) → i < length ys → getD ys i 0 ≤ highest x ys
 unfolding highest
 highest-ge x [] i h = absurd (not-suc-le-zero h)
 highest-ge x (y ∷ ys) zero h = omega (arith, highest-first (max x y) ys)
 highest-ge x (y ∷ ys) (suc i) h = highest-ge (max x y) ys i (omega arith)
 
-highest-is : (x : ℕ) (ys : List ℕ) → (highest x ys ≡ x) ⊎ ((i : ℕ) × (i < length ys) × (highest x ys ≡ getD ys i 0))
+pub highest-is : (x : ℕ) (ys : List ℕ) → (highest x ys ≡ x) ⊎ ((i : ℕ) × (i < length ys) × (highest x ys ≡ getD ys i 0))
 unfolding highest
 highest-is x [] = inl refl
 highest-is x (y ∷ ys) =

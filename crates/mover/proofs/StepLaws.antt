@@ -11,7 +11,6 @@ use Rattle.flash.specs.Lists.{concatMap, part}
 use Rattle.flash.specs.Geometry.{Sizes, slot, numberAt}
 use Rattle.flash.specs.PageSum.{sum}
 use Rattle.flash.specs.Chip.{Holds, pageAt, writePage, eraseBlock}
-use Rattle.flash.proofs.Bounds.{product-le}
 use Rattle.method.specs.Move.{Move, letter}
 use Rattle.method.specs.Cycle.{D, pred, top, isTop, coded, sentTo}
 use Rattle.method.specs.Place.{Pass, forward, backward, Operation, write, erase, done, markOf, writes, forwardTurn, backwardTurn, operations, lastPlace, operationAt, passAt, filling, filled, written}
@@ -38,11 +37,8 @@ module _ (M : Move) (G : Given M) (block page : ℕ) (page-in : page < M .sizes 
   open Sizes (M .sizes) using (n, m)
 
   -- a page of a data block has a number
-  pub number-lt : 1 ≤ block → block ≤ n → numberAt m block page < n * m
+  number-lt : 1 ≤ block → block ≤ n → numberAt m block page < n * m
   number-lt low high = slot-lt m (block - 1) page n (omega arith) page-in
-
-  pub number-small : 1 ≤ block → block ≤ n → numberAt m block page < 4096
-  number-small low high = omega (arith, number-lt low high, product-le n m {c = 64} {d = 64} (G .n-high) (G .m-high))
 
   pub sent-lt : (k : ℕ) → 1 ≤ block → block ≤ n → k ≡ sentTo M (numberAt m block page) → k < n * m
   sent-lt k low high e = rw e (sent-in M (accepted M G) (numberAt m block page) (number-lt low high))

@@ -7,16 +7,8 @@ use lib.ListN.{length}
 use Rattle.flash.specs.Geometry.{storeLength, marksLength, workLength}
 use Rattle.method.specs.Move.{Move}
 use Rattle.method.specs.Place.{Pass, forward, backward}
-use Rattle.method.specs.Cycle.{dest, pred}
 use Rattle.method.specs.Step as method
 use Rattle.method.specs.Step.{Running}
-use Rattle.walk.specs.Moving.{Given, Tells}
-
--- an accepted move with the tables of its cycles
-pub record Ready (M : Move) (to from : List ℕ) : Type 0 where
-  pub given : Given M
-  pub to-tells : Tells (M .sizes .n) (M .sizes .m) to (dest M)
-  pub from-tells : Tells (M .sizes .n) (M .sizes .m) from (pred M)
 
 -- lent parts of their exact lengths
 pub record Lent (M : Move) (store marks work : List ℕ) : Type 0 where

@@ -41,11 +41,11 @@ fn rebuild(
     ensures { λ r. ⌜ (r ≡ length (readSlots (moveOf z (now (list .entry)) (now (sets .entry))) (now (marks .entry)) k)) × (r < 66) ⌝ }
     ensures { λ _. ⌜ now (work .exit) ≡ readPage (moveOf z (now (list .entry)) (now (sets .entry))) (record { store = now (store .entry); marks = now (marks .entry) }) k ⌝ }
 {
-    let mut to = [0u8; 4096];
+    let mut pages = [0u8; 4096];
     let mut from = [0u8; 4096];
-    follow(z, list, sets, &mut to, &mut from);
+    follow(z, list, sets, &mut pages, &mut from);
     let mut slots = [0usize; 130];
-    let count = read_slots(z, list, sets, &to, &from, marks, k, &mut slots, 0);
+    let count = read_slots(z, list, sets, &pages, &from, marks, k, &mut slots, 0);
     sum_pages(store, z.p, &slots, count, work);
     count
 }

@@ -7,8 +7,8 @@ ghost use Rattle.method.specs.Place.{lastPlace};
 ghost use Rattle.method.specs.Step as method;
 ghost use Rattle.method.specs.Step.{tally, operationsFrom};
 ghost use Rattle.method.specs.Answers.{runCarriedOut, runAnswer};
-ghost use Rattle.walk.specs.Moving.{sizesOf, moveOf, Given};
-ghost use Rattle.mover.specs.Steps.{Ready, Lent, runningOf, Leaves, Counted};
+ghost use Rattle.walk.specs.Moving.{sizesOf, moveOf, Given, Tables};
+ghost use Rattle.mover.specs.Steps.{Lent, runningOf, Leaves, Counted};
 ghost use Rattle.mover.specs.Answers.{Answers};
 use crate::place::Place;
 use crate::place::last_place;
@@ -34,7 +34,7 @@ fn take_steps(
     z: Sizes,
     list: &[u16],
     sets: &[u8],
-    to: &[u8; 4096],
+    pages: &[u8; 4096],
     from: &[u8; 4096],
     store: &mut [u8],
     marks: &mut [u8],
@@ -42,7 +42,7 @@ fn take_steps(
     place: usize,
     taken: usize,
 ) -> Tally
-    requires { ⌜ Ready (moveOf z (now list) (now sets)) (now to) (now from) × Lent (moveOf z (now list) (now sets)) (now store) (now marks) (now work) × (place + taken ≤ lastPlace (sizesOf z)) ⌝ }
+    requires { ⌜ Tables (moveOf z (now list) (now sets)) (now pages) (now from) × Lent (moveOf z (now list) (now sets)) (now store) (now marks) (now work) × (place + taken ≤ lastPlace (sizesOf z)) ⌝ }
     ensures { λ _. ⌜ Leaves (method.steps (moveOf z (now (list .entry)) (now (sets .entry))) taken place (runningOf (now (store .entry)) (now (marks .entry)) (now (work .entry)))) (now (store .exit)) (now (marks .exit)) (now (work .exit)) ⌝ }
     ensures { λ r. ⌜ Counted (tally (operationsFrom (moveOf z (now (list .entry)) (now (sets .entry))) place taken)) (r .steps) (r .writes) (r .erases) ⌝ }
 {
@@ -52,7 +52,7 @@ fn take_steps(
     let mut erases: u32 = 0;
     let mut i = 0;
     while i < taken {
-        let done = step(z, list, sets, to, from, store, marks, work, at);
+        let done = step(z, list, sets, pages, from, store, marks, work, at);
         steps += done.steps;
         writes += done.writes;
         erases += done.erases;
@@ -93,12 +93,23 @@ fn carry_out(
     requires { ⌜ Given (moveOf z (now list) (now sets)) × Lent (moveOf z (now list) (now sets)) (now store) (now marks) (now work) × (place ≤ lastPlace (sizesOf z)) ⌝ }
     ensures { λ r. ⌜ Answers (runCarriedOut (moveOf z (now (list .entry)) (now (sets .entry))) (record { store = now (store .entry); marks = now (marks .entry) }) (now (work .entry)) place budget) r (now (store .exit)) (now (marks .exit)) (now (work .exit)) ⌝ }
 {
-    let mut to = [0u8; 4096];
+    let mut pages = [0u8; 4096];
     let mut from = [0u8; 4096];
-    follow(z, list, sets, &mut to, &mut from);
+    follow(z, list, sets, &mut pages, &mut from);
     let last = last_place(z);
     let taken = smaller(budget, last - place);
-    let done = take_steps(z, list, sets, &to, &from, store, marks, work, place, taken);
+    let done = take_steps(
+        z,
+        list,
+        sets,
+        &pages,
+        &from,
+        store,
+        marks,
+        work,
+        place,
+        taken,
+    );
     let reached = place + taken;
     Ran {
         number: 0,

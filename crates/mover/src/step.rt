@@ -7,8 +7,8 @@ ghost use lib.ListN.{length, take};
 ghost use Rattle.method.specs.Place.{operationAt, write as writing, markOf};
 ghost use Rattle.method.specs.Step as method;
 ghost use Rattle.method.specs.Step.{writeSlots, perform, tally};
-ghost use Rattle.walk.specs.Moving.{sizesOf, moveOf};
-ghost use Rattle.mover.specs.Steps.{Ready, Lent, runningOf, Leaves, Counted, passOf};
+ghost use Rattle.walk.specs.Moving.{sizesOf, moveOf, Tables};
+ghost use Rattle.mover.specs.Steps.{Lent, runningOf, Leaves, Counted, passOf};
 use crate::place::Op;
 use crate::place::Place;
 use flash::block::erase_block;
@@ -34,7 +34,7 @@ fn write_slots(
     z: Sizes,
     list: &[u16],
     sets: &[u8],
-    to: &[u8; 4096],
+    pages: &[u8; 4096],
     from: &[u8; 4096],
     marks: &[u8],
     backward: bool,
@@ -42,24 +42,23 @@ fn write_slots(
     page: usize,
     slots: &mut [usize],
 ) -> usize
-    requires { ⌜ Ready (moveOf z (now list) (now sets)) (now to) (now from) × (length (now marks) ≡ (z .n + 1) * z .m) × (length (now slots) ≡ 130) ⌝ }
+    requires { ⌜ Tables (moveOf z (now list) (now sets)) (now pages) (now from) × (length (now marks) ≡ (z .n + 1) * z .m) × (length (now slots) ≡ 130) ⌝ }
     requires { ⌜ (page < z .m) × (block ≤ z .n) × (backward ≡ true → 1 ≤ block) × (backward ≡ false → block + 1 ≤ z .n) ⌝ }
     ensures { λ r. ⌜ (take r (now (slots .exit)) ≡ writeSlots (moveOf z (now (list .entry)) (now (sets .entry))) (passOf backward) block page (now (marks .entry))) × (1 ≤ r) × (r ≤ 130) ⌝ }
 {
-    let m = z.m;
     if backward {
-        let k = sent_to(z, list, (block - 1) * m + page);
-        return read_slots(z, list, sets, to, from, marks, k, slots, 0);
+        let k = sent_to(z, list, sets, pages, from, block, page);
+        return read_slots(z, list, sets, pages, from, marks, k, slots, 0);
     }
     let i = block + 1;
-    let k = page_of(z, sets, page, i);
-    let count = read_slots(z, list, sets, to, from, marks, k, slots, 0);
-    if top_of(z, to, page, i) == i {
+    let k = page_of(z, pages, page, i);
+    let count = read_slots(z, list, sets, pages, from, marks, k, slots, 0);
+    if top_of(z, from, page, i) == i {
         return count;
     }
-    let u = wide(from[block * m + page]);
-    let k = page_of(z, sets, page, u);
-    read_slots(z, list, sets, to, from, marks, k, slots, count)
+    let u = wide(from[block * z.m + page]);
+    let k = page_of(z, pages, page, u);
+    read_slots(z, list, sets, pages, from, marks, k, slots, count)
 }
 
 // Writes a page with its mark, by way of the work page.
@@ -67,7 +66,7 @@ fn write(
     z: Sizes,
     list: &[u16],
     sets: &[u8],
-    to: &[u8; 4096],
+    pages: &[u8; 4096],
     from: &[u8; 4096],
     store: &mut [u8],
     marks: &mut [u8],
@@ -77,7 +76,7 @@ fn write(
     page: usize,
     mark: u8,
 )
-    requires { ⌜ Ready (moveOf z (now list) (now sets)) (now to) (now from) × Lent (moveOf z (now list) (now sets)) (now store) (now marks) (now work) ⌝ }
+    requires { ⌜ Tables (moveOf z (now list) (now sets)) (now pages) (now from) × Lent (moveOf z (now list) (now sets)) (now store) (now marks) (now work) ⌝ }
     requires { ⌜ (page < z .m) × (block ≤ z .n) × (backward ≡ true → 1 ≤ block) × (backward ≡ false → block + 1 ≤ z .n) × (mark ≡ markOf (sizesOf z) (passOf backward)) ⌝ }
     ensures { λ _. ⌜ Leaves (perform (moveOf z (now (list .entry)) (now (sets .entry))) (writing (passOf backward) block page) (runningOf (now (store .entry)) (now (marks .entry)) (now (work .entry)))) (now (store .exit)) (now (marks .exit)) (now (work .exit)) ⌝ }
 {
@@ -86,7 +85,7 @@ fn write(
         z,
         list,
         sets,
-        to,
+        pages,
         from,
         marks,
         backward,
@@ -103,14 +102,14 @@ pub fn step(
     z: Sizes,
     list: &[u16],
     sets: &[u8],
-    to: &[u8; 4096],
+    pages: &[u8; 4096],
     from: &[u8; 4096],
     store: &mut [u8],
     marks: &mut [u8],
     work: &mut [u8],
     place: Place,
 ) -> Tally
-    requires { ⌜ Ready (moveOf z (now list) (now sets)) (now to) (now from) × Lent (moveOf z (now list) (now sets)) (now store) (now marks) (now work) ⌝ }
+    requires { ⌜ Tables (moveOf z (now list) (now sets)) (now pages) (now from) × Lent (moveOf z (now list) (now sets)) (now store) (now marks) (now work) ⌝ }
     ensures { λ _. ⌜ Leaves (method.step (moveOf z (now (list .entry)) (now (sets .entry))) (place .at) (runningOf (now (store .entry)) (now (marks .entry)) (now (work .entry)))) (now (store .exit)) (now (marks .exit)) (now (work .exit)) ⌝ }
     ensures { λ r. ⌜ Counted (tally (operationAt (sizesOf z) (place .at) ∷ [])) (r .steps) (r .writes) (r .erases) ⌝ }
 {
@@ -125,7 +124,7 @@ pub fn step(
                 z,
                 list,
                 sets,
-                to,
+                pages,
                 from,
                 store,
                 marks,

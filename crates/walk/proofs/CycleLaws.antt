@@ -1,30 +1,25 @@
--- Searches for a page, the tables of the cycles, and the top that they tell.
-use mathlib.Core.Path.{_≡_, refl, sym, ap, ap₂, _∙_}
-use mathlib.Core.Logic.{_≢_, ⊎-elim}
-use mathlib.Core.Bool.{true, false}
-use mathlib.Core.List.{List, _∷_}
-use Prim.Native.Nat.{ℕ, zero, suc, _+_, _-_, _*_, _/_, _%_, _≤_, _<_, max}
-use native.Mathlib.Nat.{suc-mul, div-lt-iff-lt-mul}
+-- The tables of the cycles, and the originals that they lead to.
+use mathlib.Core.Path.{_≡_, sym, ap, ap₂, _∙_}
+use mathlib.Core.Logic.{⊎-elim}
+use mathlib.Core.List.{List}
+use Prim.Native.Nat.{ℕ, _+_, _-_, _*_, _/_, _%_, _≤_, _<_}
+use native.Mathlib.Nat.{suc-mul, div-add-mod', div-lt-iff-lt-mul, mod-lt}
+use native.Mathlib.Numerals.{add-one}
 use native.Mathlib.Omega.{arith}
-use lib.Dec.{eqb}
 use lib.ListN.{length, getD, set}
 use lib.Seq.{getD-set-same, getD-set-other}
-use borrow.Author.Tests.{eq-eqb, ne-eqb}
-use Rattle.flash.specs.Lists.{range, first, iterates}
-use Rattle.flash.specs.Geometry.{Sizes}
+use Rattle.flash.specs.Geometry.{Sizes, blockOf, numberAt}
 use Rattle.flash.proofs.Bounds.{product-le}
-use Rattle.flash.proofs.Ranges.{first-is, none-is}
-use Rattle.flash.proofs.Searches.{first-none}
 use Rattle.split.specs.Split.{sourceBlock, destBlock, setOf}
 use Rattle.split.proofs.Lists.{lt-cases}
-use Rattle.split.proofs.SplitLaws.{same-from, same-to}
+use Rattle.split.proofs.SplitLaws.{same-from, same-to, place-block}
 use Rattle.method.specs.Move.{Move}
-use Rattle.method.specs.Cycle.{highest, D, dest, pred, sentTo, cycle, top}
+use Rattle.method.specs.Cycle.{D, dest, pred, sentTo}
 use Rattle.method.proofs.Indexes.{slot-div, slot-mod, slot-lt}
 use Rattle.method.proofs.Orbit.{DataBlock}
 use Rattle.method.proofs.Shape.{Accepted}
-use Rattle.method.proofs.Cycles.{set-in, entry-in, D-page, dest-in, pred-in, dest-pred}
-use Rattle.walk.specs.Moving.{Given, entryOf, Tells, Leads, highestMet}
+use Rattle.method.proofs.Cycles.{set-in, entry-in, block-in, D-page, D-is, dest-is, pred-in, dest-pred, pred-dest, sent-in, entry-sent, sent-entry}
+use Rattle.walk.specs.Moving.{Given, entryOf, Tables, Leads}
 
 -- what was given is an accepted move
 pub accepted : (M : Move) → Given M → Accepted M
@@ -44,50 +39,35 @@ accepted M G = record {
   split = G .split;
 }
 
--- ---- a search in a range
-module _ (f : ℕ → ℕ) (x start size : ℕ) where
-  pub found : (k : ℕ) → start ≤ k → k < start + size → f k ≡ x → ((j : ℕ) → start ≤ j → j < k → f j ≡ x → ⊥)
-      → k ≡ first (λ j. eqb (f j) x) (range start size) 0
-  found k low high e none =
-      sym (first-is (λ j. eqb (f j) x) start size 0 k
-      (record { low = low; high = high; passes = eq-eqb (f k) x e; before = λ j a b. ne-eqb (f j) x (none j a b) }))
-
-  pub absent : ((j : ℕ) → start ≤ j → j < start + size → f j ≡ x → ⊥) → 0 ≡ first (λ j. eqb (f j) x) (range start size) 0
-  absent none =
-      sym (first-none (λ j. eqb (f j) x) (range start size) 0
-      (none-is (λ j. eqb (f j) x) start size (λ j a b. ne-eqb (f j) x (none j a b))))
-
-pub before-block : (m block : ℕ) → 1 ≤ block → block * m ≡ (block - 1) * m + m
-before-block m block h =
-    let e : block ≡ suc (block - 1) = omega arith in
-    ap (λ (b : ℕ). b * m) e ∙ suc-mul (block - 1) m
-
--- none before, and this is not it
-pub none-more : (f : ℕ → ℕ) (x start k : ℕ) → ((j : ℕ) → start ≤ j → j < k → f j ≡ x → ⊥) → (f k ≡ x → ⊥) → (j : ℕ) → start ≤ j → j < k + 1 → f j ≡ x → ⊥
-none-more f x start k none this j a b e =
-    ⊎-elim
-    (λ (h : j < k). none j a h e)
-    (λ (h : k ≤ j). let at : j ≡ k = omega arith in this (ap f (sym at) ∙ e))
-    (lt-cases j k)
-
 -- ---- an entry lies in a table of 4,096
 pub table-fits : (n m : ℕ) → n ≤ 64 → m ≤ 64 → (block set : ℕ) → block < n → set < m → block * m + set < 4096
 table-fits n m a b block set h k = omega (arith, slot-lt m block set n h k, product-le n m {c = 64} {d = 64} a b)
 
--- the two entries of original k, with its destination and its set
-pub record Fits (m k entry set : ℕ) : Type 0 where
-  pub source-low : k / m < 64
+-- the two entries of an original from block `source`, with its destination and its set
+pub record Fits (m source entry set : ℕ) : Type 0 where
+  pub source-low : source < 64
   pub target-low : entry / m < 64
-  pub source-in : k / m * m + set < 4096
+  pub source-in : source * m + set < 4096
   pub target-in : entry / m * m + set < 4096
 
 -- ---- the tables, after the first k originals
-pub record Followed (m : ℕ) (list sets to from : List ℕ) (k : ℕ) : Type 0 where
-  pub to-is : (j : ℕ) → j < k → getD to (j / m * m + setOf sets j) 0 ≡ getD list j 0 / m + 1
+pub record Followed (m : ℕ) (list sets pages from : List ℕ) (k : ℕ) : Type 0 where
+  pub pages-is : (j : ℕ) → j < k → getD pages (j / m * m + setOf sets j) 0 ≡ j % m
   pub from-is : (j : ℕ) → j < k → getD from (getD list j 0 / m * m + setOf sets j) 0 ≡ j / m + 1
 
-pub none-followed : (m : ℕ) (list sets to from : List ℕ) → Followed m list sets to from 0
-none-followed m list sets to from = record { to-is = λ j h. absurd (omega arith); from-is = λ j h. absurd (omega arith) }
+pub none-followed : (m : ℕ) (list sets pages from : List ℕ) → Followed m list sets pages from 0
+none-followed m list sets pages from = record { pages-is = λ j h. absurd (omega arith); from-is = λ j h. absurd (omega arith) }
+
+-- the block and the page of original k, counted along
+pub record Counts (m k source page : ℕ) : Type 0 where
+  pub is : k ≡ source * m + page
+  pub page-lt : page < m
+
+pub counts-more : (m k source page : ℕ) → Counts m k source page → (page + 1 ≡ m → ⊥) → Counts m (k + 1) source (page + 1)
+counts-more m k source page C h = record { is = omega (arith, C .is); page-lt = omega (arith, C .page-lt) }
+
+pub counts-turn : (m k source page : ℕ) → Counts m k source page → page + 1 ≡ m → Counts m (k + 1) (source + 1) 0
+counts-turn m k source page C h = record { is = omega (arith, C .is, suc-mul source m, add-one source); page-lt = omega arith }
 
 -- one entry more, at an index that no original before had
 one-more : (table : List ℕ) (at value : ℕ → ℕ) (k : ℕ) → ((j : ℕ) → j < k → at j ≡ at k → ⊥) → at k < length table → ((j : ℕ) → j < k → getD table (at j) 0 ≡ value j)
@@ -140,82 +120,104 @@ module _ (M : Move) (G : Given M) where
     target-in : getD list k 0 / m < n
     target-in = div-lt-iff-lt-mul (G .m-low) .1 (entry-in M A k k-in)
 
-    pub fits : (entry set : ℕ) → entry ≡ getD list k 0 → set ≡ getD sets k 0 → Fits m k entry set
-    unfolding setOf
-    fits entry set e q =
-        let s = set-in M A k k-in in
-        rw (e, q)
-        (record {
-          source-low = omega (arith, source-in, G .n-high);
-          target-low = omega (arith, target-in, G .n-high);
-          source-in = entry-in-table (k / m) (getD sets k 0) source-in s;
-          target-in = entry-in-table (getD list k 0 / m) (getD sets k 0) target-in s;
-        })
+    module _ (source page : ℕ) (C : Counts m k source page) where
+      source-is : source ≡ k / m
+      source-is = sym (ap (λ (x : ℕ). x / m) (C .is) ∙ slot-div m source page (C .page-lt))
 
-    pub follow-more : (to from : List ℕ) → length to ≡ 4096 → length from ≡ 4096 → Followed m list sets to from k
-        → Followed m list sets (set to (k / m * m + setOf sets k) (getD list k 0 / m + 1)) (set from (getD list k 0 / m * m + setOf sets k) (k / m + 1)) (k + 1)
-    follow-more to from a b F =
-        let s = set-in M A k k-in in
-        record {
-          to-is = one-more to (λ j. j / m * m + setOf sets j) (λ j. getD list j 0 / m + 1) k from-apart (rw a (entry-in-table (k / m) (setOf sets k) source-in s)) (F .to-is);
-          from-is = one-more from (λ j. getD list j 0 / m * m + setOf sets j) (λ j. j / m + 1) k to-apart (rw b (entry-in-table (getD list k 0 / m) (setOf sets k) target-in s)) (F .from-is);
-        }
+      page-is : page ≡ k % m
+      page-is = sym (ap (λ (x : ℕ). x % m) (C .is) ∙ slot-mod m source page (C .page-lt))
 
-  -- ---- after all originals the tables tell dest and pred
-  module _ (to from : List ℕ) (F : Followed m list sets to from (n * m)) where
+      pub fits : (entry set : ℕ) → entry ≡ getD list k 0 → set ≡ getD sets k 0 → Fits m source entry set
+      unfolding setOf
+      fits entry set e q =
+          let s = set-in M A k k-in in
+          rw (e, q, source-is)
+          (record {
+            source-low = omega (arith, source-in, G .n-high);
+            target-low = omega (arith, target-in, G .n-high);
+            source-in = entry-in-table (k / m) (getD sets k 0) source-in s;
+            target-in = entry-in-table (getD list k 0 / m) (getD sets k 0) target-in s;
+          })
+
+      pub follow-more : (pages from : List ℕ) → length pages ≡ 4096 → length from ≡ 4096 → Followed m list sets pages from k
+          → Followed m list sets (set pages (source * m + setOf sets k) page) (set from (getD list k 0 / m * m + setOf sets k) (source + 1)) (k + 1)
+      follow-more pages from a b F =
+          let s = set-in M A k k-in in
+          rw (source-is, page-is)
+          (record {
+            pages-is = one-more pages (λ j. j / m * m + setOf sets j) (λ j. j % m) k from-apart (rw a (entry-in-table (k / m) (setOf sets k) source-in s)) (F .pages-is);
+            from-is = one-more from (λ j. getD list j 0 / m * m + setOf sets j) (λ j. j / m + 1) k to-apart (rw b (entry-in-table (getD list k 0 / m) (setOf sets k) target-in s)) (F .from-is);
+          })
+
+  -- ---- after all originals the tables are the move's
+  module _ (pages from : List ℕ) (F : Followed m list sets pages from (n * m)) where
     -- the entry of original k
     told : (table : List ℕ) (set block at q : ℕ) → 1 ≤ block → at + 1 ≡ block → q ≡ set → entryOf m table set block ≡ getD table (at * m + q) 0
     told table set block at q h e f =
         let b : block - 1 ≡ at = omega arith in
         ap₂ (λ (x y : ℕ). getD table (x * m + y) 0) b (sym f)
 
-    pub tells-dest : Tells n m to (dest M)
+    pages-tell : (set block : ℕ) → set < m → 1 ≤ block → block ≤ n → numberAt m block (entryOf m pages set block) ≡ D M set block
+    unfolding sourceBlock
+    pages-tell set block h low high =
+        let k : ℕ = D M set block in
+        let p = D-page M A set h block (record { low = low; high = high }) in
+        let page = told pages set block (k / m) (setOf sets k) low (p .at-block) (p .in-set) ∙ F .pages-is k (p .inside) in
+        let b : block - 1 ≡ k / m = omega (arith, p .at-block) in
+        ap₂ (λ (x y : ℕ). x * m + y) b page ∙ div-add-mod' k m
+
+    from-tells : (set block : ℕ) → set < m → 1 ≤ block → block ≤ n → entryOf m from set block ≡ pred M set block
     unfolding dest destBlock sourceBlock
-    tells-dest = record {
-      entry-is = λ set block h low high.
-          let k : ℕ = D M set block in
-          let p = D-page M A set h block (record { low = low; high = high }) in
-          told to set block (k / m) (setOf sets k) low (p .at-block) (p .in-set) ∙ F .to-is k (p .inside);
-    }
+    from-tells set block h low high =
+        let b : DataBlock n block = record { low = low; high = high } in
+        let k : ℕ = D M set (pred M set block) in
+        let p = D-page M A set h (pred M set block) (pred-in M A set h block b) in
+        told from set block (getD list k 0 / m) (setOf sets k) low (dest-pred M A set h block b) (p .in-set) ∙ F .from-is k (p .inside) ∙ p .at-block
 
-    pub tells-pred : Tells n m from (pred M)
-    unfolding dest destBlock sourceBlock
-    tells-pred = record {
-      entry-is = λ set block h low high.
-          let b : DataBlock n block = record { low = low; high = high } in
-          let k : ℕ = D M set (pred M set block) in
-          let p = D-page M A set h (pred M set block) (pred-in M A set h block b) in
-          told from set block (getD list k 0 / m) (setOf sets k) low (dest-pred M A set h block b) (p .in-set) ∙ F .from-is k (p .inside) ∙ p .at-block;
-    }
+    pub tables : Tables M pages from
+    tables = record { given = G; page-is = pages-tell; from-is = from-tells }
 
-  -- ---- what the tables tell
-  module _ (set : ℕ) (set-ok : set < m) where
-    pub leads : (table : List ℕ) (f : (set block : ℕ) → ℕ) → Tells n m table f → ((i : ℕ) → DataBlock n i → DataBlock n (f set i)) → Leads n m table set
-    leads table f T into = record {
-      entry-low = λ block low high. rw (T .entry-is set block set-ok low high) (into block (record { low = low; high = high }) .low);
-      entry-high = λ block low high. rw (T .entry-is set block set-ok low high) (into block (record { low = low; high = high }) .high);
-    }
+-- ---- what the tables tell
+module _ (M : Move) (pages from : List ℕ) (T : Tables M pages from) where
+  open Sizes (M .sizes) using (n, m)
+  open Move M using (list, sets)
 
-    pub to-leads : (to : List ℕ) → Tells n m to (dest M) → Leads n m to set
-    to-leads to T = leads to (dest M) T (dest-in M A set set-ok)
+  abbrev T-accepted : Accepted M
+  T-accepted = accepted M (T .given)
 
-    pub from-leads : (from : List ℕ) → Tells n m from (pred M) → Leads n m from set
-    from-leads from T = leads from (pred M) T (pred-in M A set set-ok)
+  pub leads : (set : ℕ) → set < m → Leads n m from set
+  leads set set-ok = record {
+    entry-low = λ block low high. rw (T .from-is set block set-ok low high) (pred-in M T-accepted set set-ok block (record { low = low; high = high }) .low);
+    entry-high = λ block low high. rw (T .from-is set block set-ok low high) (pred-in M T-accepted set set-ok block (record { low = low; high = high }) .high);
+  }
 
-    module _ (to : List ℕ) (T : Tells n m to (dest M)) where
-      same-way : (count v : ℕ) → DataBlock n v → iterates (entryOf m to set) count v ≡ iterates (dest M set) count v
-      unfolding iterates
-      same-way zero v b = refl
-      same-way (suc count) v b =
-          rw (T .entry-is set v set-ok (b .low) (b .high)) (ap (λ (vs : List ℕ). v ∷ vs) (same-way count (dest M set v) (dest-in M A set set-ok v b)))
+  pub page-lt : (set : ℕ) → set < m → (block : ℕ) → 1 ≤ block → block ≤ n → entryOf m pages set block < m
+  unfolding sourceBlock
+  page-lt set set-ok block low high =
+      let k : ℕ = D M set block in
+      let p = D-page M T-accepted set set-ok block (record { low = low; high = high }) in
+      let b : k / m ≡ block - 1 = omega (arith, p .at-block) in
+      let parts : (block - 1) * m + k % m ≡ k = rw (← b) (div-add-mod' k m) in
+      omega (arith, T .page-is set block set-ok low high, mod-lt k (T .given .m-low))
 
-      pub top-told : (v : ℕ) → DataBlock n v → highestMet n m to set v ≡ top M set v
-      unfolding highestMet top cycle
-      top-told v b = ap (highest v) (same-way n v b)
+  -- the originals that go to a block, one for each set
+  module _ (block page : ℕ) (b : DataBlock n block) (page-ok : page < m) where
+    number-ok : numberAt m block page < n * m
+    number-ok = slot-lt m (block - 1) page n (omega (arith, b .low, b .high)) page-ok
 
--- ---- one turn of the search for the top
-pub top-turn : (f : ℕ → ℕ) (top u n turns : ℕ) → turns < n → highest top (iterates f (n - turns) u) ≡ highest (max top u) (iterates f (n - (turns + 1)) (f u))
-unfolding highest iterates
-top-turn f top u n turns h =
-    let e : n - turns ≡ suc (n - (turns + 1)) = omega arith in
-    rw e
+    pub sent-found : (k : ℕ) → k < n * m → getD list k 0 ≡ numberAt m block page → k ≡ sentTo M (numberAt m block page)
+    sent-found k h e = sym (ap (sentTo M) (sym e) ∙ sent-entry M T-accepted k h)
+
+    pub sent-missed : ((set : ℕ) → set < m → getD list (D M set (pred M set block)) 0 ≡ numberAt m block page → ⊥) → ⊥
+    unfolding destBlock
+    sent-missed none =
+        let k : ℕ = sentTo M (numberAt m block page) in
+        let h = sent-in M T-accepted (numberAt m block page) number-ok in
+        let set : ℕ = setOf sets k in
+        let set-ok = set-in M T-accepted k h in
+        let e = entry-sent M T-accepted (numberAt m block page) number-ok in
+        let goes : dest M set (blockOf m k) ≡ block =
+        dest-is M T-accepted k h ∙ ap (blockOf m) e ∙ place-block m block page (b .low) page-ok in
+        let comes : pred M set block ≡ blockOf m k =
+        ap (pred M set) (sym goes) ∙ pred-dest M T-accepted set set-ok (blockOf m k) (block-in M T-accepted k h) in
+        none set set-ok (ap (λ (x : ℕ). getD list (D M set x) 0) comes ∙ ap (λ (x : ℕ). getD list x 0) (D-is M T-accepted k h) ∙ e)

@@ -1,3 +1,4 @@
 pub mod CycleLaws
+pub mod TopLaws
 pub mod WalkLaws
 pub mod SlotLaws

@@ -4,7 +4,7 @@ use mathlib.Core.Logic.{_≢_}
 use mathlib.Core.Bool.{Bool, true, false, _||_}
 use mathlib.Core.List.{List, [], _∷_, _++_, append-assoc, append-nil}
 use Prim.Native.Nat.{ℕ, suc, _+_, _-_, _*_, _/_, _≤_, _<_}
-use native.Mathlib.Nat.{div-add-mod', suc-mul, mul-le-mul-right}
+use native.Mathlib.Nat.{div-add-mod', suc-mul}
 use native.Mathlib.Numerals.{add-one}
 use native.Mathlib.Omega.{arith}
 use lib.ListN.{length, getD, set, take, length-set}
@@ -17,15 +17,15 @@ use Rattle.flash.specs.Chip.{isFull}
 use Rattle.flash.proofs.Bounds.{product-le}
 use Rattle.flash.proofs.Ranges.{any-more}
 use Rattle.flash.proofs.Sums.{nil-⊕, sum-more}
-use Rattle.split.specs.Split.{setOf}
+use Rattle.split.specs.Split.{destBlock, setOf}
 use Rattle.method.specs.Move.{Move, letter}
 use Rattle.method.specs.Cycle.{D, dest, pred, top, isTop}
 use Rattle.method.specs.Read.{fullOf, codedSlot, plainSlot, finalSlot, goBack, goOn, readSlots}
 use Rattle.method.proofs.Orbit.{DataBlock}
-use Rattle.method.proofs.Cycles.{set-in, block-in, D-page, dest-in, pred-in}
+use Rattle.method.proofs.Cycles.{set-in, block-in, D-page, D-is, dest-in, pred-in}
 use Rattle.method.proofs.Tops.{top-in, top-pred}
-use Rattle.walk.specs.Moving.{Given, Tells, highestMet}
-use Rattle.walk.proofs.CycleLaws.{accepted, top-told}
+use Rattle.walk.specs.Moving.{Given, Tables}
+use Rattle.walk.proofs.CycleLaws.{accepted}
 
 -- the slot of a page number
 pub home-is : (m k : ℕ) → k + m ≡ slotOf m k
@@ -66,23 +66,19 @@ pub record Next (f : ℕ → ℕ) (n v u : ℕ) : Type 0 where
 module _ (M : Move) (G : Given M) (set : ℕ) (set-ok : set < M .sizes .m) where
   open Sizes (M .sizes) using (n, m)
 
-  next-by : (table : List ℕ) (f : (set block : ℕ) → ℕ) → Tells n m table f → ((i : ℕ) → DataBlock n i → DataBlock n (f set i))
-      → (v u : ℕ) → 1 ≤ v → v ≤ n → u ≡ getD table ((v - 1) * m + set) 0 → Next (f set) n v u
-  next-by table f T into v u low high e =
-      let is : u ≡ f set v = e ∙ T .entry-is set v set-ok low high in
+  next-in : (f : ℕ → ℕ) → ((i : ℕ) → DataBlock n i → DataBlock n (f i)) → (v u : ℕ) → 1 ≤ v → v ≤ n → u ≡ f v → Next f n v u
+  next-in f into v u low high is =
       let b = into v (record { low = low; high = high }) in
       record { is = is; low = rw is (b .low); high = rw is (b .high) }
 
-  pub back-next : (from : List ℕ) → Tells n m from (pred M) → (v u : ℕ) → 1 ≤ v → v ≤ n → u ≡ getD from ((v - 1) * m + set) 0 → Next (pred M set) n v u
-  back-next from T = next-by from (pred M) T (pred-in M (accepted M G) set set-ok)
+  pub back-next : (pages from : List ℕ) → Tables M pages from → (v u : ℕ) → 1 ≤ v → v ≤ n → u ≡ getD from ((v - 1) * m + set) 0 → Next (pred M set) n v u
+  back-next pages from T v u low high e = next-in (pred M set) (pred-in M (accepted M G) set set-ok) v u low high (e ∙ T .from-is set v set-ok low high)
 
-  pub on-next : (to : List ℕ) → Tells n m to (dest M) → (v u : ℕ) → 1 ≤ v → v ≤ n → u ≡ getD to ((v - 1) * m + set) 0 → Next (dest M set) n v u
-  on-next to T = next-by to (dest M) T (dest-in M (accepted M G) set set-ok)
+  pub on-next : (v k u : ℕ) → 1 ≤ v → v ≤ n → k ≡ D M set v → u ≡ destBlock m (M .list) k → Next (dest M set) n v u
+  unfolding dest
+  on-next v k u low high d e = next-in (dest M set) (dest-in M (accepted M G) set set-ok) v u low high (e ∙ ap (destBlock m (M .list)) d)
 
-  -- the pages of a block lie among the set bytes, and so does its page of the set
-  pub pages-in : (block : ℕ) → block ≤ n → block * m ≤ length (M .sets)
-  pages-in block h = rw (G .sets-length) (mul-le-mul-right m h)
-
+  -- the original of a set from a block is in the list
   pub page-in : (block k : ℕ) → 1 ≤ block → block ≤ n → k ≡ D M set block → k < length (M .list)
   page-in block k low high e =
       rw (e, G .list-length) (D-page M (accepted M G) set set-ok block (record { low = low; high = high }) .inside)
@@ -128,6 +124,7 @@ module _ (M : Move) (G : Given M) (set : ℕ) (set-ok : set < M .sizes .m) where
 pub record Starts (M : Move) (k set : ℕ) : Type 0 where
   pub set-is : set ≡ setOf (M .sets) k
   pub set-ok : set < M .sizes .m
+  pub page-is : k ≡ D M set (blockOf (M .sizes .m) k)
   pub block : DataBlock (M .sizes .n) (blockOf (M .sizes .m) k)
 
 pub record TopIs (M : Move) (set v t : ℕ) : Type 0 where
@@ -143,12 +140,12 @@ module _ (M : Move) (G : Given M) where
   starts k set h e = record {
     set-is = e;
     set-ok = rw e (set-in M (accepted M G) k h);
+    page-is = sym (ap (λ (x : ℕ). D M x (blockOf m k)) e ∙ D-is M (accepted M G) k h);
     block = block-in M (accepted M G) k h;
   }
 
-  pub top-is : (to : List ℕ) → Tells n m to (dest M) → (set v t : ℕ) → set < m → DataBlock n v → t ≡ highestMet n m to set v → TopIs M set v t
-  top-is to T set v t set-ok b e =
-      let is : t ≡ top M set v = e ∙ top-told M G set set-ok to T v b in
+  pub top-is : (set v t : ℕ) → set < m → DataBlock n v → t ≡ top M set v → TopIs M set v t
+  top-is set v t set-ok b is =
       let in-blocks = top-in M (accepted M G) set set-ok v b in
       record { is = is; low = rw is (in-blocks .low); high = rw is (in-blocks .high) }
 

@@ -4,13 +4,12 @@ use mathlib.Core.Bool.{true}
 use mathlib.Core.List.{List}
 use Prim.Native.Nat.{ℕ, _≤_, _<_}
 use lib.ListN.{length, getD}
-use Rattle.flash.specs.Lists.{iterates}
 use Rattle.flash.specs.Geometry as geometry
 use Rattle.flash.specs.Geometry.{numberAt, originalCount, listLength, setsLength}
 use Rattle.split.specs.OneToOne.{isOneToOne}
 use Rattle.split.specs.Split.{isSplit}
 use Rattle.method.specs.Move.{Move}
-use Rattle.method.specs.Cycle.{highest}
+use Rattle.method.specs.Cycle.{D, pred}
 use Rattle.walk.specs.declared.sizes.Sizes.{Sizes}
 
 -- the document's sizes, and its move, from what the code holds
@@ -38,15 +37,14 @@ pub record Given (M : Move) : Type 0 where
 abbrev pub entryOf : (m : ℕ) → (table : List ℕ) → (set block : ℕ) → ℕ
 entryOf m table set block = getD table (numberAt m block set) 0
 
--- the table tells what f gives
-pub record Tells (n m : ℕ) (table : List ℕ) (f : (set block : ℕ) → ℕ) : Type 0 where
-  pub entry-is : (set block : ℕ) → set < m → 1 ≤ block → block ≤ n → entryOf m table set block ≡ f set block
+-- The two tables of an accepted move: the page of its block that the original of a set is, and the block where the page that
+-- goes to a block comes from.
+pub record Tables (M : Move) (pages from : List ℕ) : Type 0 where
+  pub given : Given M
+  pub page-is : (set block : ℕ) → set < M .sizes .m → 1 ≤ block → block ≤ M .sizes .n → numberAt (M .sizes .m) block (entryOf (M .sizes .m) pages set block) ≡ D M set block
+  pub from-is : (set block : ℕ) → set < M .sizes .m → 1 ≤ block → block ≤ M .sizes .n → entryOf (M .sizes .m) from set block ≡ pred M set block
 
 -- each entry of a set leads to a data block
 pub record Leads (n m : ℕ) (table : List ℕ) (set : ℕ) : Type 0 where
   pub entry-low : (block : ℕ) → 1 ≤ block → block ≤ n → 1 ≤ entryOf m table set block
   pub entry-high : (block : ℕ) → 1 ≤ block → block ≤ n → entryOf m table set block ≤ n
-
--- the top of a block's cycle, by the table of destinations
-unfoldable pub highestMet : (n m : ℕ) → (to : List ℕ) → (set v : ℕ) → ℕ
-highestMet n m to set v = highest v (iterates (entryOf m to set) n v)

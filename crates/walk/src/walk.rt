@@ -8,10 +8,10 @@ ghost use Rattle.flash.specs.Geometry.{slotOf};
 ghost use Rattle.flash.specs.Chip.{isFull};
 ghost use Rattle.method.specs.Move.{letter};
 ghost use Rattle.method.specs.Cycle as method;
-ghost use Rattle.method.specs.Cycle.{dest, pred};
 ghost use Rattle.method.specs.Read.{goBack, goOn, readSlots};
-ghost use Rattle.walk.specs.Moving.{sizesOf, moveOf, Given, Tells};
+ghost use Rattle.walk.specs.Moving.{sizesOf, moveOf, Tables};
 ghost use Rattle.walk.specs.Slots.{Appends};
+use crate::cycles::goes_to;
 use crate::cycles::page_of;
 use crate::cycles::top_of;
 use crate::letters::letter_after;
@@ -65,6 +65,7 @@ fn go_back(
     z: Sizes,
     list: &[u16],
     sets: &[u8],
+    pages: &[u8; 4096],
     from: &[u8; 4096],
     marks: &[u8],
     top: usize,
@@ -73,7 +74,7 @@ fn go_back(
     slots: &mut [usize],
     at: usize,
 ) -> usize
-    requires { ⌜ Given (moveOf z (now list) (now sets)) × Tells (z .n) (z .m) (now from) (pred (moveOf z (now list) (now sets))) ⌝ }
+    requires { ⌜ Tables (moveOf z (now list) (now sets)) (now pages) (now from) ⌝ }
     requires { ⌜ (length (now marks) ≡ (z .n + 1) * z .m) × (set < z .m) × (1 ≤ start) × (start ≤ z .n) ⌝ }
     requires { ⌜ (method.top (moveOf z (now list) (now sets)) set start ≡ top) × (length (now slots) ≡ 130) × (at ≤ 65) ⌝ }
     ensures { λ r. ⌜ Appends (now (slots .entry)) at (goBack (moveOf z (now (list .entry)) (now (sets .entry))) (now (marks .entry)) set (z .n) start) (now (slots .exit)) r ⌝ }
@@ -91,7 +92,7 @@ fn go_back(
         }
         v = wide(from[entry]);
         if full_of(z, marks, 0, v) {
-            slots[count] = home(list, m, page_of(z, sets, set, v), false);
+            slots[count] = home(list, m, page_of(z, pages, set, v), false);
             return count + 1;
         }
         turns += 1;
@@ -104,29 +105,32 @@ fn go_on(
     z: Sizes,
     list: &[u16],
     sets: &[u8],
-    to: &[u8; 4096],
+    pages: &[u8; 4096],
+    from: &[u8; 4096],
     marks: &[u8],
     set: usize,
     start: usize,
     slots: &mut [usize],
     at: usize,
 ) -> usize
-    requires { ⌜ Given (moveOf z (now list) (now sets)) × Tells (z .n) (z .m) (now to) (dest (moveOf z (now list) (now sets))) ⌝ }
+    requires { ⌜ Tables (moveOf z (now list) (now sets)) (now pages) (now from) ⌝ }
     requires { ⌜ (length (now marks) ≡ (z .n + 1) * z .m) × (set < z .m) × (1 ≤ start) × (start ≤ z .n) ⌝ }
     requires { ⌜ (length (now slots) ≡ 130) × (at ≤ 65) ⌝ }
     ensures { λ r. ⌜ Appends (now (slots .entry)) at (goOn (moveOf z (now (list .entry)) (now (sets .entry))) (now (marks .entry)) set (z .n) start) (now (slots .exit)) r ⌝ }
 {
     let m = z.m;
     let mut v = start;
+    let mut next = goes_to(list, m, page_of(z, pages, set, v));
     let mut count = at;
     let mut turns = 0;
     while turns < z.n {
-        v = wide(to[(v - 1) * m + set]);
-        let entry = (v - 1) * m + set;
-        slots[count] = entry;
+        v = next;
+        slots[count] = (v - 1) * m + set;
         count += 1;
-        if full_of(z, marks, 2, wide(to[entry])) {
-            slots[count] = home(list, m, page_of(z, sets, set, v), true);
+        let k = page_of(z, pages, set, v);
+        next = goes_to(list, m, k);
+        if full_of(z, marks, 2, next) {
+            slots[count] = home(list, m, k, true);
             return count + 1;
         }
         turns += 1;
@@ -139,15 +143,14 @@ pub fn read_slots(
     z: Sizes,
     list: &[u16],
     sets: &[u8],
-    to: &[u8; 4096],
+    pages: &[u8; 4096],
     from: &[u8; 4096],
     marks: &[u8],
     k: usize,
     slots: &mut [usize],
     at: usize,
 ) -> usize
-    requires { ⌜ Given (moveOf z (now list) (now sets)) ⌝ }
-    requires { ⌜ Tells (z .n) (z .m) (now to) (dest (moveOf z (now list) (now sets))) × Tells (z .n) (z .m) (now from) (pred (moveOf z (now list) (now sets))) ⌝ }
+    requires { ⌜ Tables (moveOf z (now list) (now sets)) (now pages) (now from) ⌝ }
     requires { ⌜ (length (now marks) ≡ (z .n + 1) * z .m) × (k < z .n * z .m) × (length (now slots) ≡ 130) × (at ≤ 65) ⌝ }
     ensures { λ r. ⌜ Appends (now (slots .entry)) at (readSlots (moveOf z (now (list .entry)) (now (sets .entry))) (now (marks .entry)) k) (now (slots .exit)) r ⌝ }
 {
@@ -158,15 +161,15 @@ pub fn read_slots(
         slots[at] = home(list, m, k, false);
         return at + 1;
     }
-    let next = wide(to[(v - 1) * m + set]);
+    let next = goes_to(list, m, k);
     if full_of(z, marks, 2, next) {
         slots[at] = home(list, m, k, true);
         return at + 1;
     }
-    let top = top_of(z, to, set, v);
+    let top = top_of(z, from, set, v);
     if goes_back(z, marks, top) {
-        go_back(z, list, sets, from, marks, top, set, v, slots, at)
+        go_back(z, list, sets, pages, from, marks, top, set, v, slots, at)
     } else {
-        go_on(z, list, sets, to, marks, set, v, slots, at)
+        go_on(z, list, sets, pages, from, marks, set, v, slots, at)
     }
 }

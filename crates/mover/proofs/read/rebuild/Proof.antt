@@ -31,7 +31,7 @@ read-slots-requires : tie.Need-read-slots-requires
 read-slots-requires c κs =
     let pre = c .before .before .before .before .before .before .before .before .before .before .before .before .before .pre in
     let f = c .before .before .before .before .before .follow .ensures in
-    (pre .0, (f, (pre .1 .marks-length, pre .2, omega arith, omega arith)))
+    (f, (pre .1 .marks-length, pre .2, omega arith, omega arith))
 
 slice-aggregate-sum-pages : tie.Need-slice-aggregate-sum-pages
 slice-aggregate-sum-pages c = search needs

@@ -29,7 +29,7 @@ take-steps-requires : tie.Need-take-steps-requires
 take-steps-requires c κs =
     let start = c .before .before .before .before .before .before .before .before .before .before .before .before .before .before .before .before .before in
     let f = c .before .before .before .before .before .before .before .before .before .follow .ensures in
-    (record { given = start .pre .0; to-tells = f .0; from-tells = f .1 }, start .pre .1, omega (arith, start .pre .2, c .before .before .before .before .before .before .last-place .ensures, c .before .before .before .before .before .smaller .ensures))
+    (f, start .pre .1, omega (arith, start .pre .2, c .before .before .before .before .before .before .last-place .ensures, c .before .before .before .before .before .smaller .ensures))
 
 -- the place reached is in the move
 inside : (c : tie.After-slice-known6) → c .before .before .before .before .before .before .before .before .before .before .before .before .before .before .before .before .before .before .before .before .before .before .before .before .args .place + c .before .before .before .before .before .before .before .before .before .before .before .before .smaller .result ≤ 8320

@@ -11,13 +11,13 @@ use Rattle.mover.proofs.run.take_steps.Statement.{statement}
 use Rattle.mover.proofs.run.take_steps.Tie as tie
 
 abbrev Inv-loop : tie.InvT-loop
-Inv-loop z list sets to from store₀ marks₀ work₀ place taken at₀ done₀ writes₀ erases₀ i₀ store marks work at done writes erases i =
+Inv-loop z list sets pages from store₀ marks₀ work₀ place taken at₀ done₀ writes₀ erases₀ i₀ store marks work at done writes erases i =
     Leaves (steps (moveOf z list sets) i place (runningOf store₀ marks₀ work₀)) store marks work
     × Counted (tally (operationsFrom (moveOf z list sets) place i)) done writes erases
     × Lent (moveOf z list sets) store marks work × (at .at ≡ place + i) × (i ≤ taken) × (done ≤ i) × (writes ≤ i) × (erases ≤ i)
 
 abbrev μ-loop : tie.MeasureT-loop
-μ-loop z list sets to from store₀ marks₀ work₀ place taken at₀ done₀ writes₀ erases₀ i₀ store marks work at done writes erases i = taken - i
+μ-loop z list sets pages from store₀ marks₀ work₀ place taken at₀ done₀ writes₀ erases₀ i₀ store marks work at done writes erases i = taken - i
 
 loop-holds : tie.Need-loop-holds Inv-loop μ-loop
 loop-holds c =

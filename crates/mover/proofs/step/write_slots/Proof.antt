@@ -2,41 +2,26 @@ use mathlib.Core.Path.{_≡_, sym, _∙_}
 use Prim.Native.Nat.{_+_, _-_, _*_, _≤_, _<_}
 use native.Mathlib.Omega.{arith}
 use borrow.Author.Needs.{needs}
-use Rattle.method.specs.Cycle.{pred}
+use Rattle.method.specs.Cycle.{D, pred}
 use Rattle.walk.specs.Moving.{moveOf}
-use Rattle.walk.proofs.CycleLaws.{table-fits, to-leads}
-use Rattle.walk.proofs.WalkLaws.{Next, back-next, pages-in, page-in, TopIs, top-is}
-use Rattle.mover.proofs.StepLaws.{appends-twice, number-small, sent-lt, final-slots, top-slots, code-slots}
+use Rattle.walk.proofs.CycleLaws.{table-fits, leads, page-lt}
+use Rattle.walk.proofs.WalkLaws.{Next, back-next, page-in, TopIs, top-is}
+use Rattle.mover.proofs.StepLaws.{appends-twice, sent-lt, final-slots, top-slots, code-slots}
 use Rattle.mover.proofs.step.write_slots.Statement.{statement}
 use Rattle.mover.proofs.step.write_slots.Tie as tie
 
-sub-sent-to : tie.Need-sub-sent-to
-sub-sent-to c = c .before .before .before .before .before .pre .1 .2 (c .if1 .taken)
-
--- the number of the page
-number-fits : (c : tie.Then1) → (let a = c .before .before .before .before .before .args in (a .block - 1) * a .z .m + a .page < 4096)
-number-fits c =
-    let start = c .before .before .before .before .before in
-    let a = start .args in
-    number-small (moveOf (a .z) (a .list .now) (a .sets .now)) (start .pre .0 .0 .given) (a .block) (a .page) (omega arith) (start .pre .1 .2 (c .if1 .taken)) (omega arith)
-
-mul-sent-to : tie.Need-mul-sent-to
-mul-sent-to c = omega (arith, number-fits c)
-
-add-sent-to : tie.Need-add-sent-to
-add-sent-to c = omega (arith, number-fits c)
-
 sent-to-requires : tie.Need-sent-to-requires
-sent-to-requires c κs = c .before .before .before .before .before .pre .0 .0 .given .list-length
+sent-to-requires c κs =
+    let pre = c .before .before .before .before .before .pre in
+    (pre .0 .0, pre .1 .0, pre .1 .2 (c .if1 .taken), pre .1 .1)
 
 read-slots-requires : tie.Need-read-slots-requires
 read-slots-requires c κs =
     let start = c .before .before .before .before .before .before .before in
     let a = start .args in
-    let M = moveOf (a .z) (a .list .now) (a .sets .now) in
-    let R = start .pre .0 .0 in
-    let G = R .given in
-    (G, ((R .to-tells, R .from-tells), (omega arith, sent-lt M G (a .block) (a .page) (omega arith) (c .before .sent-to .result) (start .pre .1 .2 (c .before .before .if1 .taken)) (omega arith) (c .before .sent-to .ensures (a .sets .now)), omega arith, omega arith)))
+    let T = start .pre .0 .0 in
+    let inside = sent-lt (moveOf (a .z) (a .list .now) (a .sets .now)) (T .given) (a .block) (a .page) (omega arith) (c .before .sent-to .result) (start .pre .1 .2 (c .before .before .if1 .taken)) (omega arith) (c .before .sent-to .ensures) in
+    (T, (omega arith, inside, omega arith, omega arith))
 
 same-length : tie.Need-same-length
 same-length c = search needs
@@ -45,10 +30,7 @@ returns : tie.Need-returns
 returns c =
     let start = c .before .before .before .before .before .before .before .before .before .before in
     let a = start .args in
-    let M = moveOf (a .z) (a .list .now) (a .sets .now) in
-    let R = start .pre .0 .0 in
-    let G = R .given in
-    let e = final-slots M G (a .block) (a .page) (omega arith) (a .marks .now) (c .before .before .before .before .sent-to .result) (c .before .before .before .before .sent-to .ensures (a .sets .now)) in
+    let e = final-slots (moveOf (a .z) (a .list .now) (a .sets .now)) (start .pre .0 .0 .given) (a .block) (a .page) (omega arith) (a .marks .now) (c .before .before .before .before .sent-to .result) (c .before .before .before .before .sent-to .ensures) in
     let A = c .before .before .read-slots .ensures in
     (rw (c .before .before .before .before .before .if1 .taken) (A .slots-are ∙ sym e), omega (arith, A .some), omega (arith, A .few))
 
@@ -59,29 +41,28 @@ page-of-requires : tie.Need-page-of-requires
 page-of-requires c κs =
     let start = c .before .before .before .before .before in
     let a = start .args in
-    let M = moveOf (a .z) (a .list .now) (a .sets .now) in
-    let R = start .pre .0 .0 in
-    let G = R .given in
-    (omega arith, pages-in M G (a .page) (omega arith) (a .block + 1) (start .pre .1 .3 (c .if1 .left)))
+    let T = start .pre .0 .0 in
+    let high = start .pre .1 .3 (c .if1 .left) in
+    (T .given .n-high, T .given .m-high, omega arith, omega arith, high, page-lt (moveOf (a .z) (a .list .now) (a .sets .now)) (a .pages .now) (a .from .now) T (a .page) (omega arith) (a .block + 1) (omega arith) high)
+
+-- D(i)
+original : (c : tie.After-page-of) → (let a = c .before .before .before .before .before .before .args in (c .page-of .result ≡ D (moveOf (a .z) (a .list .now) (a .sets .now)) (a .page) (a .block + 1)) × (c .page-of .result < a .z .n * a .z .m))
+original c =
+    let start = c .before .before .before .before .before .before in
+    let a = start .args in
+    let T = start .pre .0 .0 in
+    let e = c .page-of .ensures (a .list .now) (a .sets .now) (a .from .now) T in
+    (e, omega (arith, T .given .list-length, page-in (moveOf (a .z) (a .list .now) (a .sets .now)) (T .given) (a .page) (omega arith) (a .block + 1) (c .page-of .result) (omega arith) (start .pre .1 .3 (c .before .if1 .left)) e))
 
 read-slots-requires-2 : tie.Need-read-slots-requires-2
-read-slots-requires-2 c κs =
-    let start = c .before .before .before .before .before .before .before in
-    let a = start .args in
-    let M = moveOf (a .z) (a .list .now) (a .sets .now) in
-    let R = start .pre .0 .0 in
-    let G = R .given in
-    let inside = page-in M G (a .page) (omega arith) (a .block + 1) (c .before .page-of .result) (omega arith) (start .pre .1 .3 (c .before .before .if1 .left)) (c .before .page-of .ensures (a .list .now)) in
-    (G, ((R .to-tells, R .from-tells), (omega arith, omega (arith, G .list-length), omega arith, omega arith)))
+read-slots-requires-2 c κs = (c .before .before .before .before .before .before .before .pre .0 .0, (omega arith, original (c .before) .1, omega arith, omega arith))
 
 top-of-requires : tie.Need-top-of-requires
 top-of-requires c κs =
     let start = c .before .before .before .before .before .before .before .before .before .before in
     let a = start .args in
-    let M = moveOf (a .z) (a .list .now) (a .sets .now) in
-    let R = start .pre .0 .0 in
-    let G = R .given in
-    (omega arith, omega arith, omega arith, omega arith, start .pre .1 .3 (c .before .before .before .before .before .if1 .left), to-leads M G (a .page) (omega arith) (a .to .now) (R .to-tells))
+    let T = start .pre .0 .0 in
+    (T .given .n-high, T .given .m-high, omega arith, omega arith, start .pre .1 .3 (c .before .before .before .before .before .if1 .left), leads (moveOf (a .z) (a .list .now) (a .sets .now)) (a .pages .now) (a .from .now) T (a .page) (omega arith))
 
 -- the top of the cycle
 highest : (c : tie.After-top-of)
@@ -90,8 +71,9 @@ highest : (c : tie.After-top-of)
 highest c =
     let start = c .before .before .before .before .before .before .before .before .before .before .before in
     let a = start .args in
-    top-is (moveOf (a .z) (a .list .now) (a .sets .now)) (start .pre .0 .0 .given) (a .to .now) (start .pre .0 .0 .to-tells) (a .page) (a .block + 1) (c .top-of .result) (omega arith)
-    (record { low = omega arith; high = start .pre .1 .3 (c .before .before .before .before .before .before .if1 .left) }) (c .top-of .ensures)
+    let T = start .pre .0 .0 in
+    top-is (moveOf (a .z) (a .list .now) (a .sets .now)) (T .given) (a .page) (a .block + 1) (c .top-of .result) (omega arith)
+    (record { low = omega arith; high = start .pre .1 .3 (c .before .before .before .before .before .before .if1 .left) }) (c .top-of .ensures (a .list .now) (a .sets .now) (a .pages .now) T)
 
 same-length-2 : tie.Need-same-length-2
 same-length-2 c = search needs
@@ -100,10 +82,7 @@ returns-2 : tie.Need-returns-2
 returns-2 c =
     let start = c .before .before .before .before .before .before .before .before .before .before .before .before in
     let a = start .args in
-    let M = moveOf (a .z) (a .list .now) (a .sets .now) in
-    let R = start .pre .0 .0 in
-    let G = R .given in
-    let e = top-slots M G (a .block) (a .page) (omega arith) (a .marks .now) (c .before .before .before .before .before .before .page-of .result) (c .before .before .before .before .before .before .page-of .ensures (a .list .now)) (sym (highest (c .before) .is) ∙ c .if2 .taken) in
+    let e = top-slots (moveOf (a .z) (a .list .now) (a .sets .now)) (start .pre .0 .0 .given) (a .block) (a .page) (omega arith) (a .marks .now) (c .before .before .before .before .before .before .page-of .result) (original (c .before .before .before .before .before .before) .0) (sym (highest (c .before) .is) ∙ c .if2 .taken) in
     let A = c .before .before .before .before .read-slots2 .ensures in
     (rw (c .before .before .before .before .before .before .before .if1 .left) (A .slots-are ∙ sym e), omega (arith, A .some), omega (arith, A .few))
 
@@ -115,73 +94,65 @@ inside c =
     table-fits (a .z .n) (a .z .m) (omega arith) (omega arith) (a .block) (a .page) (omega (arith, start .pre .1 .3 (c .before .before .before .before .before .before .before .if1 .left))) (omega arith)
 
 mul-wide : tie.Need-mul-wide
-mul-wide c = omega (arith, inside c)
+mul-wide c = omega (arith, inside (c .before))
 
 add-wide : tie.Need-add-wide
-add-wide c = omega (arith, inside c)
+add-wide c = omega (arith, inside (c .before))
 
 element-copy-out-wide : tie.Need-element-copy-out-wide
-element-copy-out-wide c = inside c
+element-copy-out-wide c = inside (c .before)
 
 wide-requires : tie.Need-wide-requires
 wide-requires c κs = search needs
 
 -- pred(i)
 next : (c : tie.After-wide)
-    → (let a = c .before .before .before .before .before .before .before .before .before .before .before .before .before .before .args in
+    → (let a = c .before .before .before .before .before .before .before .before .before .before .before .before .before .before .before .args in
     Next (pred (moveOf (a .z) (a .list .now) (a .sets .now)) (a .page)) (a .z .n) (a .block + 1) (c .wide .result))
 next c =
-    let start = c .before .before .before .before .before .before .before .before .before .before .before .before .before .before in
+    let start = c .before .before .before .before .before .before .before .before .before .before .before .before .before .before .before in
     let a = start .args in
+    let T = start .pre .0 .0 in
     let at : a .block + 1 - 1 ≡ a .block = omega arith in
-    back-next (moveOf (a .z) (a .list .now) (a .sets .now)) (start .pre .0 .0 .given) (a .page) (omega arith) (a .from .now) (start .pre .0 .0 .from-tells) (a .block + 1) (c .wide .result)
-    (omega arith) (start .pre .1 .3 (c .before .before .before .before .before .before .before .before .before .if1 .left)) (rw at (c .wide .ensures))
+    back-next (moveOf (a .z) (a .list .now) (a .sets .now)) (T .given) (a .page) (omega arith) (a .pages .now) (a .from .now) T (a .block + 1) (c .wide .result)
+    (omega arith) (start .pre .1 .3 (c .before .before .before .before .before .before .before .before .before .before .if1 .left)) (rw at (c .wide .ensures))
 
 page-of-requires-2 : tie.Need-page-of-requires-2
 page-of-requires-2 c κs =
-    let start = c .before .before .before .before .before .before .before .before .before .before .before .before .before .before in
+    let start = c .before .before .before .before .before .before .before .before .before .before .before .before .before .before .before in
     let a = start .args in
-    let M = moveOf (a .z) (a .list .now) (a .sets .now) in
-    let R = start .pre .0 .0 in
-    let G = R .given in
+    let T = start .pre .0 .0 in
     let N = next c in
-    (N .low, pages-in M G (a .page) (omega arith) (c .wide .result) (N .high))
+    (T .given .n-high, T .given .m-high, omega arith, N .low, N .high, page-lt (moveOf (a .z) (a .list .now) (a .sets .now)) (a .pages .now) (a .from .now) T (a .page) (omega arith) (c .wide .result) (N .low) (N .high))
 
 read-slots-requires-3 : tie.Need-read-slots-requires-3
 read-slots-requires-3 c κs =
-    let start = c .before .before .before .before .before .before .before .before .before .before .before .before .before .before .before .before in
+    let start = c .before .before .before .before .before .before .before .before .before .before .before .before .before .before .before .before .before in
     let a = start .args in
-    let M = moveOf (a .z) (a .list .now) (a .sets .now) in
-    let R = start .pre .0 .0 in
-    let G = R .given in
+    let T = start .pre .0 .0 in
     let N = next (c .before .before) in
-    let r = c .before .before .before .before .before .before .before .before .read-slots2 in
-    let inside = page-in M G (a .page) (omega arith) (c .before .before .wide .result) (c .before .page-of2 .result) (N .low) (N .high) (c .before .page-of2 .ensures (a .list .now)) in
-    (G, ((R .to-tells, R .from-tells), (omega arith, omega (arith, G .list-length), omega (arith, r .kept .1 .1 .1 .1 .1 .1 .1 .0), omega (arith, r .ensures .few))))
+    let r = c .before .before .before .before .before .before .before .before .before .read-slots2 in
+    let inside = page-in (moveOf (a .z) (a .list .now) (a .sets .now)) (T .given) (a .page) (omega arith) (c .before .before .wide .result) (c .before .page-of2 .result) (N .low) (N .high) (c .before .page-of2 .ensures (a .list .now) (a .sets .now) (a .from .now) T) in
+    (T, (omega arith, omega (arith, T .given .list-length), omega (arith, r .kept .1 .1 .1 .1 .1 .1 .1 .0), omega (arith, r .ensures .few)))
 
 same-length-3 : tie.Need-same-length-3
 same-length-3 c = search needs
 
 returns-3 : tie.Need-returns-3
 returns-3 c =
-    let start = c .before .before .before .before .before .before .before .before .before .before .before .before .before .before .before .before .before .before .before in
+    let start = c .before .before .before .before .before .before .before .before .before .before .before .before .before .before .before .before .before .before .before .before in
     let a = start .args in
-    let M = moveOf (a .z) (a .list .now) (a .sets .now) in
-    let R = start .pre .0 .0 in
-    let G = R .given in
-    let A = c .before .before .before .before .before .before .before .before .before .before .before .read-slots2 .ensures in
+    let T = start .pre .0 .0 in
+    let A = c .before .before .before .before .before .before .before .before .before .before .before .before .read-slots2 .ensures in
     let E = c .before .before .read-slots3 .ensures in
-    let e = code-slots M G (a .block) (a .page) (omega arith) (a .marks .now) (c .before .before .before .before .before .before .before .before .before .before .before .before .before .page-of .result) (c .before .before .before .before .before .wide .result) (c .before .before .before .before .page-of2 .result)
-    (c .before .before .before .before .before .before .before .before .before .before .before .before .before .page-of .ensures (a .list .now)) (next (c .before .before .before .before .before) .is) (c .before .before .before .before .page-of2 .ensures (a .list .now)) (λ t. c .before .before .before .before .before .before .before .if2 .left (highest (c .before .before .before .before .before .before .before .before) .is ∙ t)) in
-    (rw (c .before .before .before .before .before .before .before .before .before .before .before .before .before .before .if1 .left) (appends-twice _ _ _ _ _ _ _ A E ∙ sym e), omega (arith, E .some), omega (arith, A .few, E .few))
+    let e = code-slots (moveOf (a .z) (a .list .now) (a .sets .now)) (T .given) (a .block) (a .page) (omega arith) (a .marks .now) (c .before .before .before .before .before .before .before .before .before .before .before .before .before .before .page-of .result) (c .before .before .before .before .before .wide .result) (c .before .before .before .before .page-of2 .result)
+    (original (c .before .before .before .before .before .before .before .before .before .before .before .before .before .before) .0) (next (c .before .before .before .before .before) .is) (c .before .before .before .before .page-of2 .ensures (a .list .now) (a .sets .now) (a .from .now) T) (λ t. c .before .before .before .before .before .before .before .before .if2 .left (highest (c .before .before .before .before .before .before .before .before .before) .is ∙ t)) in
+    (rw (c .before .before .before .before .before .before .before .before .before .before .before .before .before .before .before .if1 .left) (appends-twice _ _ _ _ _ _ _ A E ∙ sym e), omega (arith, E .some), omega (arith, A .few, E .few))
 
 pub write-slots-spec : {M : Type 1} → statement M
 write-slots-spec =
     tie.close
     (tie.spec
-    sub-sent-to
-    mul-sent-to
-    add-sent-to
     sent-to-requires
     read-slots-requires
     same-length

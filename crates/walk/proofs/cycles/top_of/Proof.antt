@@ -1,31 +1,28 @@
-use mathlib.Core.Path.{_≡_, sym, ap, _∙_}
+use mathlib.Core.Path.{_≡_}
 use mathlib.Core.Logic.{⊎-elim}
 use Prim.Native.Nat.{ℕ, _+_, _-_, _*_, _≤_, _<_, max}
 use native.Mathlib.Omega.{arith}
 use borrow.Author.Needs.{needs}
-use Rattle.flash.specs.Lists.{iterates}
-use Rattle.method.specs.Cycle.{highest}
-use Rattle.walk.specs.Moving.{entryOf, highestMet}
-use Rattle.walk.proofs.CycleLaws.{table-fits, top-turn}
+use Rattle.walk.specs.Moving.{moveOf, entryOf}
+use Rattle.walk.proofs.CycleLaws.{table-fits}
+use Rattle.walk.proofs.TopLaws.{Met, none-met, met-more, top-closed, top-whole}
 use Rattle.walk.proofs.cycles.top_of.Statement.{statement}
 use Rattle.walk.proofs.cycles.top_of.Tie as tie
 
 abbrev Inv-loop : tie.InvT-loop
-Inv-loop to set v m n top₀ u₀ turns₀ top u turns = (highest v (iterates (entryOf m to set) n v) ≡ highest top (iterates (entryOf m to set) (n - turns) u)) × (turns ≤ n) × (1 ≤ u) × (u ≤ n)
+Inv-loop z from set v m top₀ u₀ turns₀ top u turns = Met (entryOf (z .m) from set) v top u turns × (turns ≤ z .n) × (1 ≤ u) × (u ≤ z .n)
 
 abbrev μ-loop : tie.MeasureT-loop
-μ-loop to set v m n top₀ u₀ turns₀ top u turns = n - turns
+μ-loop z from set v m top₀ u₀ turns₀ top u turns = z .n - turns
 
 loop-holds : tie.Need-loop-holds Inv-loop μ-loop
-loop-holds c = (ap (λ (x : ℕ). highest (c .args .v) (iterates (entryOf (c .args .z .m) (c .args .to .now) (c .args .set)) x (c .args .v))) (omega arith), omega arith, omega arith, omega arith)
+loop-holds c = (none-met (entryOf (c .args .z .m) (c .args .from .now) (c .args .set)) (c .args .v), omega arith, omega arith, omega arith)
 
 sub-wide : tie.Need-sub-wide Inv-loop μ-loop
 sub-wide c = search needs
 
 -- the entry of block u is in the table
-inside : (c : tie.Joined1 Inv-loop μ-loop)
-    → (let a = c .before .before .before .args in
-    (c .before .before .loop .u - 1) * a .z .m + a .set < 4096)
+inside : (c : tie.Then1 Inv-loop μ-loop) → (c .before .before .loop .u - 1) * c .before .before .before .args .z .m + c .before .before .before .args .set < 4096
 inside c =
     let a = c .before .before .before .args in
     table-fits (a .z .n) (a .z .m) (omega arith) (omega arith) (c .before .before .loop .u - 1) (a .set) (omega arith) (omega arith)
@@ -37,10 +34,16 @@ add-wide : tie.Need-add-wide Inv-loop μ-loop
 add-wide c = omega (arith, inside c)
 
 element-copy-out-wide : tie.Need-element-copy-out-wide Inv-loop μ-loop
-element-copy-out-wide c = omega (arith, inside c)
+element-copy-out-wide c = inside c
 
 wide-requires : tie.Need-wide-requires Inv-loop μ-loop
 wide-requires c κs = search needs
+
+returns : tie.Need-returns Inv-loop μ-loop
+returns c =
+    let a = c .before .before .before .before .before .before .args in
+    let l = c .before .before .before .before .before .loop in
+    λ list sets pages T. top-closed (moveOf (a .z) list sets) pages (a .from .now) T (a .set) (omega arith) (a .v) (record { low = omega arith; high = omega arith }) (l .top) (l .u) (l .turns) (l .inv .0) (c .before .wide .result) (c .before .wide .ensures) (c .if2 .taken)
 
 add-turns : tie.Need-add-turns Inv-loop μ-loop
 add-turns c = search needs
@@ -50,23 +53,21 @@ loop-less c = search needs
 
 loop-again : tie.Need-loop-again Inv-loop μ-loop
 loop-again c =
-    let j = c .before .before in
-    let start = j .before .before .before in
+    let start = c .before .before .before .before .before .before .before in
     let a = start .args in
-    let l = j .before .before .loop in
-    let f : ℕ → ℕ = entryOf (a .z .m) (a .to .now) (a .set) in
-    let top : j .if1 .top ≡ max (l .top) (l .u) = ⊎-elim (λ w. omega arith) (λ w. omega arith) (j .if1 .came) in
-    let next : c .wide .result ≡ f (l .u) = c .wide .ensures in
+    let l = c .before .before .before .before .before .before .loop in
+    let u = c .before .before .wide in
+    let f : ℕ → ℕ = entryOf (a .z .m) (a .from .now) (a .set) in
+    let top : c .if3 .top ≡ max (l .top) (u .result) = ⊎-elim (λ w. omega arith) (λ w. omega arith) (c .if3 .came) in
+    let next : u .result ≡ f (l .u) = u .ensures in
     let L = start .pre .5 in
-    (l .inv .0 ∙ top-turn f (l .top) (l .u) (a .z .n) (l .turns) (omega arith) ∙ rw (top, next), omega arith, rw next (L .entry-low (l .u) (omega arith) (omega arith)), rw next (L .entry-high (l .u) (omega arith) (omega arith)))
+    (met-more f (a .v) (l .top) (l .u) (l .turns) _ _ (l .inv .0) next top, omega arith, rw next (L .entry-low (l .u) (omega arith) (omega arith)), rw next (L .entry-high (l .u) (omega arith) (omega arith)))
 
-returns : tie.Need-returns Inv-loop μ-loop
-unfolding highestMet highest iterates
-returns c =
-    let a = c .before .before .args in
-    let l = c .before .loop in
-    let none : a .z .n - l .turns ≡ 0 = omega arith in
-    sym (l .inv .0 ∙ rw none)
+returns-2 : tie.Need-returns-2 Inv-loop μ-loop
+returns-2 c =
+    let a = c .before .before .before .args in
+    let l = c .before .before .loop in
+    λ list sets pages T. top-whole (moveOf (a .z) list sets) pages (a .from .now) T (a .set) (omega arith) (a .v) (record { low = omega arith; high = omega arith }) (l .top) (l .u) (l .turns) (l .inv .0) (omega arith)
 
 pub top-of-spec : {M : Type 1} → statement M
 top-of-spec =
@@ -80,7 +81,8 @@ top-of-spec =
     add-wide
     element-copy-out-wide
     wide-requires
+    returns
     add-turns
     loop-less
     loop-again
-    returns)
+    returns-2)

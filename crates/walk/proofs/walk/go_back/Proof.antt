@@ -9,18 +9,18 @@ use Rattle.flash.proofs.Bounds.{block-in-marks}
 use Rattle.method.specs.Cycle.{pred, top}
 use Rattle.method.specs.Read.{goBack}
 use Rattle.walk.specs.Moving.{sizesOf, moveOf}
-use Rattle.walk.proofs.CycleLaws.{table-fits}
-use Rattle.walk.proofs.WalkLaws.{put-next, put-last, put-both, Next, back-next, pages-in, page-in, list-short, same-top, back-top, back-plain, back-turn}
+use Rattle.walk.proofs.CycleLaws.{table-fits, page-lt}
+use Rattle.walk.proofs.WalkLaws.{put-next, put-last, put-both, Next, back-next, page-in, list-short, same-top, back-top, back-plain, back-turn}
 use Rattle.walk.proofs.walk.go_back.Statement.{statement}
 use Rattle.walk.proofs.walk.go_back.Tie as tie
 
 abbrev Inv-loop : tie.InvT-loop
-Inv-loop z list sets from marks t set start slots₀ at m v₀ count₀ turns₀ slots v count turns =
+Inv-loop z list sets pages from marks t set start slots₀ at m v₀ count₀ turns₀ slots v count turns =
     (take count slots ++ goBack (moveOf z list sets) marks set (z .n - turns) v ≡ take at slots₀ ++ goBack (moveOf z list sets) marks set (z .n) start)
     × (top (moveOf z list sets) set v ≡ t) × (turns ≤ z .n) × (count ≡ at + turns) × (1 ≤ v) × (v ≤ z .n) × (length slots ≡ 130)
 
 abbrev μ-loop : tie.MeasureT-loop
-μ-loop z list sets from marks t set start slots₀ at m v₀ count₀ turns₀ slots v count turns = z .n - turns
+μ-loop z list sets pages from marks t set start slots₀ at m v₀ count₀ turns₀ slots v count turns = z .n - turns
 
 loop-holds : tie.Need-loop-holds Inv-loop μ-loop
 loop-holds c =
@@ -62,7 +62,7 @@ returns c =
     let a = start .args in
     let l = c .before .before .before .loop in
     let M = moveOf (a .z) (a .list .now) (a .sets .now) in
-    let rest = back-top M (start .pre .0 .0) (a .set) (omega arith) (a .marks .now) (l .v) (l .turns) (omega arith) (l .inv .1 ∙ sym (c .if2 .taken)) in
+    let rest = back-top M (start .pre .0 .given) (a .set) (omega arith) (a .marks .now) (l .v) (l .turns) (omega arith) (l .inv .1 ∙ sym (c .if2 .taken)) in
     record { slots-are = put-last (l .slots) (l .count) _ _ _ (omega arith) (l .inv .0) rest; some = omega arith; few = omega arith }
 
 element-copy-out-wide : tie.Need-element-copy-out-wide Inv-loop μ-loop
@@ -78,7 +78,7 @@ next : (c : tie.After-wide Inv-loop μ-loop)
 next c =
     let start = c .before .before .before .before .before .before .before .before .before .before in
     let a = start .args in
-    back-next (moveOf (a .z) (a .list .now) (a .sets .now)) (start .pre .0 .0) (a .set) (omega arith) (a .from .now) (start .pre .0 .1) (c .before .before .before .before .before .loop .v) (c .wide .result) (omega arith) (omega arith) (c .wide .ensures)
+    back-next (moveOf (a .z) (a .list .now) (a .sets .now)) (start .pre .0 .given) (a .set) (omega arith) (a .pages .now) (a .from .now) (start .pre .0) (c .before .before .before .before .before .loop .v) (c .wide .result) (omega arith) (omega arith) (c .wide .ensures)
 
 full-of-requires : tie.Need-full-of-requires Inv-loop μ-loop
 full-of-requires c κs =
@@ -90,7 +90,8 @@ page-of-requires c κs =
     let start = c .before .before .before .before .before .before .before .before .before .before .before .before in
     let a = start .args in
     let N = next (c .before .before) in
-    (N .low, pages-in (moveOf (a .z) (a .list .now) (a .sets .now)) (start .pre .0 .0) (a .set) (omega arith) (c .before .before .wide .result) (N .high))
+    let T = start .pre .0 in
+    (T .given .n-high, T .given .m-high, omega arith, N .low, N .high, page-lt (moveOf (a .z) (a .list .now) (a .sets .now)) (a .pages .now) (a .from .now) T (a .set) (omega arith) (c .before .before .wide .result) (N .low) (N .high))
 
 home-requires : tie.Need-home-requires Inv-loop μ-loop
 home-requires c κs =
@@ -98,7 +99,7 @@ home-requires c κs =
     let a = start .args in
     let M = moveOf (a .z) (a .list .now) (a .sets .now) in
     let N = next (c .before .before .before) in
-    (omega arith, omega arith, page-in M (start .pre .0 .0) (a .set) (omega arith) (c .before .before .before .wide .result) (c .page-of .result) (N .low) (N .high) (c .page-of .ensures (a .list .now)), list-short M (start .pre .0 .0) (a .set) (omega arith))
+    (omega arith, omega arith, page-in M (start .pre .0 .given) (a .set) (omega arith) (c .before .before .before .wide .result) (c .page-of .result) (N .low) (N .high) (c .page-of .ensures (a .list .now) (a .sets .now) (a .from .now) (start .pre .0)), list-short M (start .pre .0 .given) (a .set) (omega arith))
 
 mul-slots-2 : tie.Need-mul-slots-2 Inv-loop μ-loop
 mul-slots-2 c = search needs
@@ -120,8 +121,8 @@ returns-2 c =
     let M = moveOf (a .z) (a .list .now) (a .sets .now) in
     let N = next (c .before .before .before .before) in
     let apart : top M (a .set) (l .v) ≢ l .v = λ e. c .before .before .before .before .before .before .if2 .left (sym e ∙ l .inv .1) in
-    let rest = back-plain M (start .pre .0 .0) (a .set) (omega arith) (a .marks .now) (l .v) (l .turns) (omega arith)
-    (c .before .before .before .before .wide .result) (c .before .page-of .result) apart (N .is) (sym (c .before .before .before .full-of .ensures) ∙ c .before .before .if3 .taken) (c .before .page-of .ensures (a .list .now)) in
+    let rest = back-plain M (start .pre .0 .given) (a .set) (omega arith) (a .marks .now) (l .v) (l .turns) (omega arith)
+    (c .before .before .before .before .wide .result) (c .before .page-of .result) apart (N .is) (sym (c .before .before .before .full-of .ensures) ∙ c .before .before .if3 .taken) (c .before .page-of .ensures (a .list .now) (a .sets .now) (a .from .now) (start .pre .0)) in
     record {
       slots-are = rw (c .home .ensures) (put-both (l .slots) (l .count) _ _ _ (omega arith) (l .inv .0) _ (omega arith) rest);
       some = omega arith;
@@ -142,10 +143,10 @@ loop-again c =
     let M = moveOf (a .z) (a .list .now) (a .sets .now) in
     let N = next (c .before .before) in
     let apart : top M (a .set) (l .v) ≢ l .v = λ e. c .before .before .before .before .if2 .left (sym e ∙ l .inv .1) in
-    let rest = back-turn M (start .pre .0 .0) (a .set) (omega arith) (a .marks .now) (l .v) (l .turns) (omega arith)
+    let rest = back-turn M (start .pre .0 .given) (a .set) (omega arith) (a .marks .now) (l .v) (l .turns) (omega arith)
     (c .before .before .wide .result) apart (N .is) (sym (c .before .full-of .ensures) ∙ c .if3 .left) in (
       put-next (l .slots) (l .count) _ _ _ (omega arith) (l .inv .0) _ rest,
-      same-top M (start .pre .0 .0) (a .set) (omega arith) (l .v) (c .before .before .wide .result) (omega arith) (omega arith) N ∙ l .inv .1,
+      same-top M (start .pre .0 .given) (a .set) (omega arith) (l .v) (c .before .before .wide .result) (omega arith) (omega arith) N ∙ l .inv .1,
       omega arith,
       omega arith,
       N .low,

@@ -5,69 +5,67 @@ use native.Mathlib.Omega.{arith}
 use borrow.Author.Needs.{needs}
 use lib.ListN.{length, take, length-set}
 use Rattle.flash.proofs.Bounds.{block-in-marks}
-use Rattle.method.specs.Cycle.{dest}
+use Rattle.method.specs.Cycle.{D, dest}
 use Rattle.method.specs.Read.{goOn}
 use Rattle.walk.specs.Moving.{sizesOf, moveOf}
-use Rattle.walk.proofs.CycleLaws.{table-fits}
-use Rattle.walk.proofs.WalkLaws.{put-next, put-both, Next, on-next, pages-in, page-in, list-short, on-final, on-turn}
+use Rattle.walk.proofs.CycleLaws.{table-fits, page-lt}
+use Rattle.walk.proofs.WalkLaws.{put-next, put-both, Next, on-next, page-in, list-short, on-final, on-turn}
 use Rattle.walk.proofs.walk.go_on.Statement.{statement}
 use Rattle.walk.proofs.walk.go_on.Tie as tie
 
 abbrev Inv-loop : tie.InvT-loop
-Inv-loop z list sets to marks set start slots₀ at m v₀ count₀ turns₀ slots v count turns =
+Inv-loop z list sets pages from marks set start slots₀ at m v₀ next₀ count₀ turns₀ slots v next count turns =
     (take count slots ++ goOn (moveOf z list sets) marks set (z .n - turns) v ≡ take at slots₀ ++ goOn (moveOf z list sets) marks set (z .n) start)
-    × (turns ≤ z .n) × (count ≡ at + turns) × (1 ≤ v) × (v ≤ z .n) × (length slots ≡ 130)
+    × (turns ≤ z .n) × (count ≡ at + turns) × Next (dest (moveOf z list sets) set) (z .n) v next × (length slots ≡ 130)
 
 abbrev μ-loop : tie.MeasureT-loop
-μ-loop z list sets to marks set start slots₀ at m v₀ count₀ turns₀ slots v count turns = z .n - turns
+μ-loop z list sets pages from marks set start slots₀ at m v₀ next₀ count₀ turns₀ slots v next count turns = z .n - turns
+
+page-of-requires : tie.Need-page-of-requires Inv-loop μ-loop
+page-of-requires c κs =
+    let start = c .before .before .before .before in
+    let a = start .args in
+    let T = start .pre .0 in
+    (T .given .n-high, T .given .m-high, omega arith, omega arith, omega arith, page-lt (moveOf (a .z) (a .list .now) (a .sets .now)) (a .pages .now) (a .from .now) T (a .set) (omega arith) (a .start) (omega arith) (omega arith))
+
+goes-to-requires : tie.Need-goes-to-requires Inv-loop μ-loop
+goes-to-requires c κs =
+    let start = c .before .before .before .before .before in
+    let a = start .args in
+    let T = start .pre .0 in
+    (T .given .m-low, page-in (moveOf (a .z) (a .list .now) (a .sets .now)) (T .given) (a .set) (omega arith) (a .start) (c .page-of .result) (omega arith) (omega arith) (c .page-of .ensures (a .list .now) (a .sets .now) (a .from .now) T))
 
 loop-holds : tie.Need-loop-holds Inv-loop μ-loop
 loop-holds c =
-    let a = c .before .before .before .before .args in
-    let M = moveOf (a .z) (a .list .now) (a .sets .now) in
-    (ap (λ (turns : ℕ). take (a .at) (a .slots .now) ++ goOn M (a .marks .now) (a .set) turns (a .start)) (omega arith), omega arith, omega arith, omega arith, omega arith, omega arith)
-
-sub-wide : tie.Need-sub-wide Inv-loop μ-loop
-sub-wide c = search needs
-
--- the entry of a data block is in the table
-inside : (c : tie.Then1 Inv-loop μ-loop) (block : ℕ) → 1 ≤ block → block ≤ c .before .before .before .before .before .before .before .args .z .n → (block - 1) * c .before .before .before .before .before .before .before .args .z .m + c .before .before .before .before .before .before .before .args .set < 4096
-inside c block low high =
-    let a = c .before .before .before .before .before .before .before .args in
-    table-fits (a .z .n) (a .z .m) (omega arith) (omega arith) (block - 1) (a .set) (omega arith) (omega arith)
-
-mul-wide : tie.Need-mul-wide Inv-loop μ-loop
-mul-wide c = omega (arith, inside c (c .before .before .loop .v) (omega arith) (omega arith))
-
-add-wide : tie.Need-add-wide Inv-loop μ-loop
-add-wide c = omega (arith, inside c (c .before .before .loop .v) (omega arith) (omega arith))
-
-element-copy-out-wide : tie.Need-element-copy-out-wide Inv-loop μ-loop
-element-copy-out-wide c = inside c (c .before .before .loop .v) (omega arith) (omega arith)
-
-wide-requires : tie.Need-wide-requires Inv-loop μ-loop
-wide-requires c κs = search needs
-
--- the block that v becomes
-next : (c : tie.After-wide Inv-loop μ-loop)
-    → (let a = c .before .before .before .before .before .before .before .before .before .args in
-    Next (dest (moveOf (a .z) (a .list .now) (a .sets .now)) (a .set)) (a .z .n) (c .before .before .before .before .loop .v) (c .wide .result))
-next c =
-    let start = c .before .before .before .before .before .before .before .before .before in
+    let start = c .before .before .before .before .before .before in
     let a = start .args in
-    on-next (moveOf (a .z) (a .list .now) (a .sets .now)) (start .pre .0 .0) (a .set) (omega arith) (a .to .now) (start .pre .0 .1) (c .before .before .before .before .loop .v) (c .wide .result) (omega arith) (omega arith) (c .wide .ensures)
+    let M = (moveOf (a .z) (a .list .now) (a .sets .now)) in
+    let T = start .pre .0 in (
+      ap (λ (turns : ℕ). take (a .at) (a .slots .now) ++ goOn M (a .marks .now) (a .set) turns (a .start)) (omega arith),
+      omega arith,
+      omega arith,
+      on-next M (T .given) (a .set) (omega arith) (a .start) (c .before .page-of .result) (c .goes-to .result) (omega arith) (omega arith) (c .before .page-of .ensures (a .list .now) (a .sets .now) (a .from .now) T) (c .goes-to .ensures),
+      omega arith,
+    )
 
-sub-entry : tie.Need-sub-entry Inv-loop μ-loop
-sub-entry c = next c .low
+sub-slots : tie.Need-sub-slots Inv-loop μ-loop
+sub-slots c = c .before .before .loop .inv .3 .low
 
-mul-entry : tie.Need-mul-entry Inv-loop μ-loop
-mul-entry c = omega (arith, inside (c .before .before) (c .wide .result) (next c .low) (next c .high))
-
-add-entry : tie.Need-add-entry Inv-loop μ-loop
-add-entry c = omega (arith, inside (c .before .before) (c .wide .result) (next c .low) (next c .high))
+-- the block that v becomes: its coded page is in the store
+inside : (c : tie.Then1 Inv-loop μ-loop) → (c .before .before .loop .next - 1) * c .before .before .before .before .before .before .before .before .before .args .z .m + c .before .before .before .before .before .before .before .before .before .args .set < 4096
+inside c =
+    let a = c .before .before .before .before .before .before .before .before .before .args in
+    let N = c .before .before .loop .inv .3 in
+    table-fits (a .z .n) (a .z .m) (omega arith) (omega arith) (c .before .before .loop .next - 1) (a .set) (omega (arith, N .low, N .high)) (omega arith)
 
 mul-slots : tie.Need-mul-slots Inv-loop μ-loop
-mul-slots c = search needs
+mul-slots c = omega (arith, inside c)
+
+add-slots : tie.Need-add-slots Inv-loop μ-loop
+add-slots c = omega (arith, inside c)
+
+mul-slots-2 : tie.Need-mul-slots-2 Inv-loop μ-loop
+mul-slots-2 c = search needs
 
 slice-write-slots : tie.Need-slice-write-slots Inv-loop μ-loop
 slice-write-slots c = search needs
@@ -75,43 +73,51 @@ slice-write-slots c = search needs
 add-count : tie.Need-add-count Inv-loop μ-loop
 add-count c = search needs
 
-element-copy-out-wide-2 : tie.Need-element-copy-out-wide-2 Inv-loop μ-loop
-element-copy-out-wide-2 c = inside (c .before .before) (c .wide .result) (next c .low) (next c .high)
+page-of-requires-2 : tie.Need-page-of-requires-2 Inv-loop μ-loop
+page-of-requires-2 c κs =
+    let start = c .before .before .before .before .before .before .before .before .before in
+    let a = start .args in
+    let T = start .pre .0 in
+    let N = c .before .before .loop .inv .3 in
+    (T .given .n-high, T .given .m-high, omega arith, N .low, N .high, page-lt (moveOf (a .z) (a .list .now) (a .sets .now)) (a .pages .now) (a .from .now) T (a .set) (omega arith) (c .before .before .loop .next) (N .low) (N .high))
 
-wide-requires-2 : tie.Need-wide-requires-2 Inv-loop μ-loop
-wide-requires-2 c κs = search needs
+-- its original, which is in the list
+original : (c : tie.After-page-of2 Inv-loop μ-loop)
+    → (let a = c .before .before .before .before .before .before .before .before .before .before .args in
+    (c .page-of2 .result ≡ D (moveOf (a .z) (a .list .now) (a .sets .now)) (a .set) (c .before .before .before .loop .next)) × (c .page-of2 .result < length (a .list .now)))
+original c =
+    let start = c .before .before .before .before .before .before .before .before .before .before in
+    let a = start .args in
+    let T = start .pre .0 in
+    let N = c .before .before .before .loop .inv .3 in
+    let e = c .page-of2 .ensures (a .list .now) (a .sets .now) (a .from .now) T in
+    (e, page-in (moveOf (a .z) (a .list .now) (a .sets .now)) (T .given) (a .set) (omega arith) (c .before .before .before .loop .next) (c .page-of2 .result) (N .low) (N .high) e)
 
--- and the one after it
-after : (c : tie.After-wide2 Inv-loop μ-loop)
+goes-to-requires-2 : tie.Need-goes-to-requires-2 Inv-loop μ-loop
+goes-to-requires-2 c κs = (c .before .before .before .before .before .before .before .before .before .before .pre .0 .given .m-low, original c .1)
+
+-- the block after it
+after : (c : tie.After-goes-to2 Inv-loop μ-loop)
     → (let a = c .before .before .before .before .before .before .before .before .before .before .before .args in
-    Next (dest (moveOf (a .z) (a .list .now) (a .sets .now)) (a .set)) (a .z .n) (c .before .before .wide .result) (c .wide2 .result))
+    Next (dest (moveOf (a .z) (a .list .now) (a .sets .now)) (a .set)) (a .z .n) (c .before .before .before .before .loop .next) (c .goes-to2 .result))
 after c =
     let start = c .before .before .before .before .before .before .before .before .before .before .before in
     let a = start .args in
-    on-next (moveOf (a .z) (a .list .now) (a .sets .now)) (start .pre .0 .0) (a .set) (omega arith) (a .to .now) (start .pre .0 .1) (c .before .before .wide .result) (c .wide2 .result) (next (c .before .before) .low) (next (c .before .before) .high) (c .wide2 .ensures)
+    let N = c .before .before .before .before .loop .inv .3 in
+    on-next (moveOf (a .z) (a .list .now) (a .sets .now)) (start .pre .0 .given) (a .set) (omega arith) (c .before .before .before .before .loop .next) (c .before .page-of2 .result) (c .goes-to2 .result) (N .low) (N .high) (original (c .before) .0) (c .goes-to2 .ensures)
 
 full-of-requires : tie.Need-full-of-requires Inv-loop μ-loop
-full-of-requires c κs =
-    let a = c .before .before .before .before .before .before .before .before .before .before .before .args in
-    omega (arith, block-in-marks (sizesOf (a .z)) (c .wide2 .result) (after c .high))
-
-page-of-requires : tie.Need-page-of-requires Inv-loop μ-loop
-page-of-requires c κs =
-    let start = c .before .before .before .before .before .before .before .before .before .before .before .before .before in
-    let a = start .args in
-    let N = next (c .before .before .before .before) in
-    (N .low, pages-in (moveOf (a .z) (a .list .now) (a .sets .now)) (start .pre .0 .0) (a .set) (omega arith) (c .before .before .before .before .wide .result) (N .high))
+full-of-requires c κs = omega (arith, block-in-marks (sizesOf (c .before .before .before .before .before .before .before .before .before .before .before .args .z)) (c .goes-to2 .result) (after c .high))
 
 home-requires : tie.Need-home-requires Inv-loop μ-loop
 home-requires c κs =
-    let start = c .before .before .before .before .before .before .before .before .before .before .before .before .before .before in
+    let start = c .before .before .before .before .before .before .before .before .before .before .before .before .before in
     let a = start .args in
-    let M = moveOf (a .z) (a .list .now) (a .sets .now) in
-    let N = next (c .before .before .before .before .before) in
-    (omega arith, omega arith, page-in M (start .pre .0 .0) (a .set) (omega arith) (c .before .before .before .before .before .wide .result) (c .page-of .result) (N .low) (N .high) (c .page-of .ensures (a .list .now)), list-short M (start .pre .0 .0) (a .set) (omega arith))
+    let G = start .pre .0 .given in
+    (G .m-low, G .m-high, original (c .before .before .before) .1, list-short (moveOf (a .z) (a .list .now) (a .sets .now)) G (a .set) (omega arith))
 
-mul-slots-2 : tie.Need-mul-slots-2 Inv-loop μ-loop
-mul-slots-2 c = search needs
+mul-slots-3 : tie.Need-mul-slots-3 Inv-loop μ-loop
+mul-slots-3 c = search needs
 
 slice-write-slots-2 : tie.Need-slice-write-slots-2 Inv-loop μ-loop
 slice-write-slots-2 c = simp length-set (omega arith)
@@ -124,13 +130,11 @@ same-length c = simp length-set (omega arith)
 
 returns : tie.Need-returns Inv-loop μ-loop
 returns c =
-    let start = c .before .before .before .before .before .before .before .before .before .before .before .before .before .before .before in
+    let start = c .before .before .before .before .before .before .before .before .before .before .before .before .before .before in
     let a = start .args in
-    let l = c .before .before .before .before .before .before .before .before .before .before .loop in
-    let M = moveOf (a .z) (a .list .now) (a .sets .now) in
-    let rest = on-final M (start .pre .0 .0) (a .set) (omega arith) (a .marks .now) (l .v) (l .turns) (omega arith)
-    (c .before .before .before .before .before .before .wide .result) (c .before .before .before .before .wide2 .result) (c .before .page-of .result) (next (c .before .before .before .before .before .before) .is) (after (c .before .before .before .before) .is)
-    (sym (c .before .before .before .full-of .ensures) ∙ c .before .before .if2 .taken) (c .before .page-of .ensures (a .list .now)) in
+    let l = c .before .before .before .before .before .before .before .loop in
+    let rest = on-final (moveOf (a .z) (a .list .now) (a .sets .now)) (start .pre .0 .given) (a .set) (omega arith) (a .marks .now) (l .v) (l .turns) (omega arith)
+    (l .next) (c .before .before .before .goes-to2 .result) (c .before .before .before .before .page-of2 .result) (l .inv .3 .is) (after (c .before .before .before) .is) (sym (c .before .before .full-of .ensures) ∙ c .before .if2 .taken) (original (c .before .before .before .before) .0) in
     record {
       slots-are = rw (c .home .ensures) (put-both (l .slots) (l .count) _ _ _ (omega arith) (l .inv .0) _ (omega arith) rest);
       some = omega arith;
@@ -147,12 +151,10 @@ loop-again : tie.Need-loop-again Inv-loop μ-loop
 loop-again c =
     let start = c .before .before .before .before .before .before .before .before .before .before .before .before .before in
     let a = start .args in
-    let l = c .before .before .before .before .before .before .before .before .loop in
-    let M = moveOf (a .z) (a .list .now) (a .sets .now) in
-    let N = next (c .before .before .before .before) in
-    let rest = on-turn M (start .pre .0 .0) (a .set) (omega arith) (a .marks .now) (l .v) (l .turns) (omega arith)
-    (c .before .before .before .before .wide .result) (c .before .before .wide2 .result) (N .is) (after (c .before .before) .is) (sym (c .before .full-of .ensures) ∙ c .if2 .left) in
-    (put-next (l .slots) (l .count) _ _ _ (omega arith) (l .inv .0) _ rest, omega arith, omega arith, N .low, N .high, simp length-set (l .inv .5))
+    let l = c .before .before .before .before .before .before .loop in
+    let rest = on-turn (moveOf (a .z) (a .list .now) (a .sets .now)) (start .pre .0 .given) (a .set) (omega arith) (a .marks .now) (l .v) (l .turns) (omega arith)
+    (l .next) (c .before .before .goes-to2 .result) (l .inv .3 .is) (after (c .before .before) .is) (sym (c .before .full-of .ensures) ∙ c .if2 .left) in
+    (put-next (l .slots) (l .count) _ _ _ (omega arith) (l .inv .0) _ rest, omega arith, omega arith, after (c .before .before), simp length-set (l .inv .4))
 
 same-length-2 : tie.Need-same-length-2 Inv-loop μ-loop
 same-length-2 c = search needs
@@ -160,7 +162,7 @@ same-length-2 c = search needs
 returns-2 : tie.Need-returns-2 Inv-loop μ-loop
 unfolding goOn
 returns-2 c =
-    let a = c .before .before .before .before .before .before .before .args in
+    let a = c .before .before .before .before .before .before .before .before .before .args in
     let l = c .before .before .loop in
     let none : a .z .n - l .turns ≡ 0 = omega arith in
     record {
@@ -175,24 +177,20 @@ go-on-spec =
     (tie.spec
     Inv-loop
     μ-loop
+    page-of-requires
+    goes-to-requires
     loop-holds
-    sub-wide
-    mul-wide
-    add-wide
-    element-copy-out-wide
-    wide-requires
-    sub-entry
-    mul-entry
-    add-entry
+    sub-slots
     mul-slots
+    add-slots
+    mul-slots-2
     slice-write-slots
     add-count
-    element-copy-out-wide-2
-    wide-requires-2
+    page-of-requires-2
+    goes-to-requires-2
     full-of-requires
-    page-of-requires
     home-requires
-    mul-slots-2
+    mul-slots-3
     slice-write-slots-2
     add-result
     same-length

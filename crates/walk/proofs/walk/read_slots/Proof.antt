@@ -1,12 +1,12 @@
 use mathlib.Core.Path.{refl, sym, _∙_}
-use Prim.Native.Nat.{_+_, _-_, _*_, _/_, _<_}
+use Prim.Native.Nat.{_+_, _/_, _<_}
 use native.Mathlib.Omega.{arith}
 use borrow.Author.Needs.{needs}
-use lib.ListN.{length-set}
+use lib.ListN.{length}
 use Rattle.flash.proofs.Bounds.{block-in-marks}
 use Rattle.method.specs.Cycle.{dest}
 use Rattle.walk.specs.Moving.{sizesOf, moveOf}
-use Rattle.walk.proofs.CycleLaws.{table-fits, source-in, to-leads}
+use Rattle.walk.proofs.CycleLaws.{source-in, leads}
 use Rattle.walk.proofs.WalkLaws.{put-last, Next, on-next, list-short, Starts, starts, TopIs, top-is, read-plain, read-final, read-back, read-on}
 use Rattle.walk.proofs.walk.read_slots.Statement.{statement}
 use Rattle.walk.proofs.walk.read_slots.Tie as tie
@@ -14,14 +14,15 @@ use Rattle.walk.proofs.walk.read_slots.Tie as tie
 div-v : tie.Need-div-v
 div-v c = search needs
 
--- original k is in a data block
-block-in-range : (c : tie.After-slice-known) → c .before .before .before .before .args .k / c .before .before .before .before .args .z .m < c .before .before .before .before .args .z .n
-block-in-range c =
-    let a = c .before .before .before .before .args in
-    source-in (moveOf (a .z) (a .list .now) (a .sets .now)) (c .before .before .before .before .pre .0) (a .k) (omega arith)
+-- original k is in the list, and in a data block
+listed : (c : tie.Start) → (c .args .k < length (c .args .list .now)) × (length (c .args .list .now) < 4097) × (c .args .k / c .args .z .m < c .args .z .n)
+listed c =
+    let a = c .args in
+    let G = c .pre .0 .given in
+    (omega (arith, G .list-length), omega (arith, list-short (moveOf (a .z) (a .list .now) (a .sets .now)) G 0 (G .m-low)), source-in (moveOf (a .z) (a .list .now) (a .sets .now)) G (a .k) (omega arith))
 
 add-v : tie.Need-add-v
-add-v c = omega (arith, block-in-range c)
+add-v c = omega (arith, listed (c .before .before .before .before))
 
 shared-slice-read-wide : tie.Need-shared-slice-read-wide
 shared-slice-read-wide c = search needs
@@ -36,23 +37,15 @@ begins : (c : tie.After-wide)
 begins c =
     let start = c .before .before .before .before .before .before in
     let a = start .args in
-    starts (moveOf (a .z) (a .list .now) (a .sets .now)) (start .pre .0) (a .k) (c .wide .result) (omega arith) (c .wide .ensures)
+    starts (moveOf (a .z) (a .list .now) (a .sets .now)) (start .pre .0 .given) (a .k) (c .wide .result) (omega arith) (c .wide .ensures)
 
 full-of-requires : tie.Need-full-of-requires
 full-of-requires c κs =
-    let start = c .before .before .before .before .before .before in
-    let a = start .args in
-    let M = moveOf (a .z) (a .list .now) (a .sets .now) in
-    let G = start .pre .0 in
+    let a = c .before .before .before .before .before .before .args in
     omega (arith, block-in-marks (sizesOf (a .z)) (a .k / a .z .m + 1) (begins c .block .high))
 
 home-requires : tie.Need-home-requires
-home-requires c κs =
-    let start = c .before .before .before .before .before .before .before .before in
-    let a = start .args in
-    let M = moveOf (a .z) (a .list .now) (a .sets .now) in
-    let G = start .pre .0 in
-    omega (arith, list-short M G 0 (omega arith))
+home-requires c κs = omega (arith, listed (c .before .before .before .before .before .before .before .before))
 
 mul-slots : tie.Need-mul-slots
 mul-slots c = search needs
@@ -70,64 +63,31 @@ returns : tie.Need-returns
 returns c =
     let start = c .before .before .before .before .before .before .before .before .before in
     let a = start .args in
-    let M = moveOf (a .z) (a .list .now) (a .sets .now) in
-    let G = start .pre .0 in
     let f = sym (c .before .before .full-of .ensures) ∙ c .before .if1 .taken in
     record {
-      slots-are = rw (c .home .ensures) (put-last (a .slots .now) (a .at) _ _ _ (omega arith) refl (read-plain M G (a .marks .now) (a .k) _ (begins (c .before .before .before)) f));
+      slots-are = rw (c .home .ensures) (put-last (a .slots .now) (a .at) _ _ _ (omega arith) refl (read-plain (moveOf (a .z) (a .list .now) (a .sets .now)) (start .pre .0 .given) (a .marks .now) (a .k) _ (begins (c .before .before .before)) f));
       some = omega arith;
       few = omega arith;
     }
 
-sub-wide : tie.Need-sub-wide
-sub-wide c = search needs
-
--- the entry of k's block is in the table
-inside : (c : tie.Else1)
-    → (let a = c .before .before .before .before .before .before .before .before .args in
-    (a .k / a .z .m + 1 - 1) * a .z .m + c .before .before .wide .result < 4096)
-inside c =
-    let a = c .before .before .before .before .before .before .before .before .args in
-    let S = begins (c .before .before) in
-    table-fits (a .z .n) (a .z .m) (omega arith) (omega arith) (a .k / a .z .m + 1 - 1) (c .before .before .wide .result) (omega (arith, S .block .high)) (S .set-ok)
-
-mul-wide : tie.Need-mul-wide
-mul-wide c = omega (arith, inside c)
-
-add-wide : tie.Need-add-wide
-add-wide c = omega (arith, inside c)
-
-element-copy-out-wide : tie.Need-element-copy-out-wide
-element-copy-out-wide c = inside c
-
-wide-requires-2 : tie.Need-wide-requires-2
-wide-requires-2 c κs = search needs
+goes-to-requires : tie.Need-goes-to-requires
+goes-to-requires c κs = (c .before .before .before .before .before .before .before .before .pre .0 .given .m-low, listed (c .before .before .before .before .before .before .before .before) .0)
 
 -- the destination block
-next : (c : tie.After-wide2)
-    → (let a = c .before .before .before .before .before .before .before .before .before .before .args in
-    Next (dest (moveOf (a .z) (a .list .now) (a .sets .now)) (c .before .before .before .before .wide .result)) (a .z .n) (a .k / a .z .m + 1) (c .wide2 .result))
+next : (c : tie.After-goes-to)
+    → (let a = c .before .before .before .before .before .before .before .before .before .args in
+    Next (dest (moveOf (a .z) (a .list .now) (a .sets .now)) (c .before .before .before .wide .result)) (a .z .n) (a .k / a .z .m + 1) (c .goes-to .result))
 next c =
-    let start = c .before .before .before .before .before .before .before .before .before .before in
+    let start = c .before .before .before .before .before .before .before .before .before in
     let a = start .args in
-    let S = begins (c .before .before .before .before) in
-    on-next (moveOf (a .z) (a .list .now) (a .sets .now)) (start .pre .0) (c .before .before .before .before .wide .result) (S .set-ok) (a .to .now) (start .pre .1 .0 .0) (a .k / a .z .m + 1) (c .wide2 .result) (S .block .low) (S .block .high) (c .wide2 .ensures)
+    let S = begins (c .before .before .before) in
+    on-next (moveOf (a .z) (a .list .now) (a .sets .now)) (start .pre .0 .given) (c .before .before .before .wide .result) (S .set-ok) (a .k / a .z .m + 1) (a .k) (c .goes-to .result) (S .block .low) (S .block .high) (S .page-is) (c .goes-to .ensures)
 
 full-of-requires-2 : tie.Need-full-of-requires-2
-full-of-requires-2 c κs =
-    let start = c .before .before .before .before .before .before .before .before .before .before in
-    let a = start .args in
-    let M = moveOf (a .z) (a .list .now) (a .sets .now) in
-    let G = start .pre .0 in
-    omega (arith, block-in-marks (sizesOf (a .z)) (c .wide2 .result) (next c .high))
+full-of-requires-2 c κs = omega (arith, block-in-marks (sizesOf (c .before .before .before .before .before .before .before .before .before .args .z)) (c .goes-to .result) (next c .high))
 
 home-requires-2 : tie.Need-home-requires-2
-home-requires-2 c κs =
-    let start = c .before .before .before .before .before .before .before .before .before .before .before .before in
-    let a = start .args in
-    let M = moveOf (a .z) (a .list .now) (a .sets .now) in
-    let G = start .pre .0 in
-    omega (arith, list-short M G 0 (omega arith))
+home-requires-2 c κs = omega (arith, listed (c .before .before .before .before .before .before .before .before .before .before .before))
 
 mul-slots-2 : tie.Need-mul-slots-2
 mul-slots-2 c = search needs
@@ -143,92 +103,77 @@ same-length-2 c = search needs
 
 returns-2 : tie.Need-returns-2
 returns-2 c =
-    let start = c .before .before .before .before .before .before .before .before .before .before .before .before .before in
+    let start = c .before .before .before .before .before .before .before .before .before .before .before .before in
     let a = start .args in
-    let M = moveOf (a .z) (a .list .now) (a .sets .now) in
-    let G = start .pre .0 in
-    let plain = sym (c .before .before .before .before .before .before .full-of .ensures) ∙ c .before .before .before .before .before .if1 .left in
+    let plain = sym (c .before .before .before .before .before .full-of .ensures) ∙ c .before .before .before .before .if1 .left in
     let f = sym (c .before .before .full-of2 .ensures) ∙ c .before .if2 .taken in
     record {
-      slots-are = rw (c .home2 .ensures) (put-last (a .slots .now) (a .at) _ _ _ (omega arith) refl (read-final M G (a .marks .now) (a .k) _ (begins (c .before .before .before .before .before .before .before)) _ (next (c .before .before .before)) plain f));
+      slots-are = rw (c .home2 .ensures) (put-last (a .slots .now) (a .at) _ _ _ (omega arith) refl (read-final (moveOf (a .z) (a .list .now) (a .sets .now)) (start .pre .0 .given) (a .marks .now) (a .k) _ (begins (c .before .before .before .before .before .before)) _ (next (c .before .before .before)) plain f));
       some = omega arith;
       few = omega arith;
     }
 
 top-of-requires : tie.Need-top-of-requires
 top-of-requires c κs =
-    let start = c .before .before .before .before .before .before .before .before .before .before .before .before in
+    let start = c .before .before .before .before .before .before .before .before .before .before .before in
     let a = start .args in
-    let M = moveOf (a .z) (a .list .now) (a .sets .now) in
-    let G = start .pre .0 in
-    let S = begins (c .before .before .before .before .before .before) in
-    (omega arith, omega arith, S .set-ok, S .block .low, S .block .high, to-leads M G _ (S .set-ok) (a .to .now) (start .pre .1 .0 .0))
+    let T = start .pre .0 in
+    let S = begins (c .before .before .before .before .before) in
+    (T .given .n-high, T .given .m-high, S .set-ok, S .block .low, S .block .high, leads (moveOf (a .z) (a .list .now) (a .sets .now)) (a .pages .now) (a .from .now) T (c .before .before .before .before .before .wide .result) (S .set-ok))
 
 -- the top of the cycle
 highest : (c : tie.After-top-of)
-    → (let a = c .before .before .before .before .before .before .before .before .before .before .before .before .before .args in
-    TopIs (moveOf (a .z) (a .list .now) (a .sets .now)) (c .before .before .before .before .before .before .before .wide .result) (a .k / a .z .m + 1) (c .top-of .result))
+    → (let a = c .before .before .before .before .before .before .before .before .before .before .before .before .args in
+    TopIs (moveOf (a .z) (a .list .now) (a .sets .now)) (c .before .before .before .before .before .before .wide .result) (a .k / a .z .m + 1) (c .top-of .result))
 highest c =
-    let start = c .before .before .before .before .before .before .before .before .before .before .before .before .before in
+    let start = c .before .before .before .before .before .before .before .before .before .before .before .before in
     let a = start .args in
-    let S = begins (c .before .before .before .before .before .before .before) in
-    top-is (moveOf (a .z) (a .list .now) (a .sets .now)) (start .pre .0) (a .to .now) (start .pre .1 .0 .0) (c .before .before .before .before .before .before .before .wide .result) (a .k / a .z .m + 1) (c .top-of .result) (S .set-ok) (S .block) (c .top-of .ensures)
+    let T = start .pre .0 in
+    let S = begins (c .before .before .before .before .before .before) in
+    top-is (moveOf (a .z) (a .list .now) (a .sets .now)) (T .given) (c .before .before .before .before .before .before .wide .result) (a .k / a .z .m + 1) (c .top-of .result) (S .set-ok) (S .block) (c .top-of .ensures (a .list .now) (a .sets .now) (a .pages .now) T)
 
 goes-back-requires : tie.Need-goes-back-requires
 goes-back-requires c κs =
-    let start = c .before .before .before .before .before .before .before .before .before .before .before .before .before in
-    let a = start .args in
-    let M = moveOf (a .z) (a .list .now) (a .sets .now) in
-    let G = start .pre .0 in
-    let T = highest c in
-    (omega arith, omega arith, omega arith, T .low, T .high, omega arith)
+    let start = c .before .before .before .before .before .before .before .before .before .before .before .before in
+    let G = start .pre .0 .given in
+    let H = highest c in
+    (G .m-low, G .n-high, G .s-high, H .low, H .high, start .pre .1 .0)
 
 go-back-requires : tie.Need-go-back-requires
 go-back-requires c κs =
-    let start = c .before .before .before .before .before .before .before .before .before .before .before .before .before .before .before .before in
-    let a = start .args in
-    let M = moveOf (a .z) (a .list .now) (a .sets .now) in
-    let G = start .pre .0 in
-    let S = begins (c .before .before .before .before .before .before .before .before .before .before) in
-    ((G, start .pre .1 .0 .1), ((omega arith, S .set-ok, S .block .low, S .block .high), (sym (highest (c .before .before .before) .is), omega arith, omega arith)))
+    let start = c .before .before .before .before .before .before .before .before .before .before .before .before .before .before .before in
+    let S = begins (c .before .before .before .before .before .before .before .before .before) in
+    (start .pre .0, ((omega arith, S .set-ok, S .block .low, S .block .high), (sym (highest (c .before .before .before) .is), omega arith, omega arith)))
 
 go-on-requires : tie.Need-go-on-requires
 go-on-requires c κs =
-    let start = c .before .before .before .before .before .before .before .before .before .before .before .before .before .before .before .before in
-    let a = start .args in
-    let M = moveOf (a .z) (a .list .now) (a .sets .now) in
-    let G = start .pre .0 in
-    let S = begins (c .before .before .before .before .before .before .before .before .before .before) in
-    ((G, start .pre .1 .0 .0), ((omega arith, S .set-ok, S .block .low, S .block .high), (omega arith, omega arith)))
+    let start = c .before .before .before .before .before .before .before .before .before .before .before .before .before .before .before in
+    let S = begins (c .before .before .before .before .before .before .before .before .before) in
+    (start .pre .0, ((omega arith, S .set-ok, S .block .low, S .block .high), (omega arith, omega arith)))
 
 same-length-3 : tie.Need-same-length-3
 same-length-3 c = search needs
 
 returns-3 : tie.Need-returns-3
 returns-3 c =
-    let start = c .before .before .before .before .before .before .before .before .before .before .before .before .before .before .before .before .before .before .before in
+    let start = c .before .before .before .before .before .before .before .before .before .before .before .before .before .before .before .before .before .before in
     let a = start .args in
-    let M = moveOf (a .z) (a .list .now) (a .sets .now) in
-    let G = start .pre .0 in
-    let e = c .before .before .before .before in
-    let plain = sym (c .before .before .before .before .before .before .before .before .before .before .before .before .full-of .ensures) ∙ c .before .before .before .before .before .before .before .before .before .before .before .if1 .left in
+    let plain = sym (c .before .before .before .before .before .before .before .before .before .before .before .full-of .ensures) ∙ c .before .before .before .before .before .before .before .before .before .before .if1 .left in
     let final = sym (c .before .before .before .before .before .before .before .before .full-of2 .ensures) ∙ c .before .before .before .before .before .before .before .if2 .left in
     let t = sym (c .before .before .before .before .before .goes-back .ensures) ∙ c .before .before .before .before .if3 .taken in
-    rw (read-back M G (a .marks .now) (a .k) _ (begins (c .before .before .before .before .before .before .before .before .before .before .before .before .before)) _ (next (c .before .before .before .before .before .before .before .before .before)) plain _ (highest (c .before .before .before .before .before .before)) final t) (c .before .before .go-back .ensures)
+    rw (read-back (moveOf (a .z) (a .list .now) (a .sets .now)) (start .pre .0 .given) (a .marks .now) (a .k) _ (begins (c .before .before .before .before .before .before .before .before .before .before .before .before)) _ (next (c .before .before .before .before .before .before .before .before .before)) plain _ (highest (c .before .before .before .before .before .before)) final t) (c .before .before .go-back .ensures)
 
 same-length-4 : tie.Need-same-length-4
 same-length-4 c = search needs
 
 returns-4 : tie.Need-returns-4
 returns-4 c =
-    let start = c .before .before .before .before .before .before .before .before .before .before .before .before .before .before .before .before .before .before .before in
+    let start = c .before .before .before .before .before .before .before .before .before .before .before .before .before .before .before .before .before .before in
     let a = start .args in
-    let M = moveOf (a .z) (a .list .now) (a .sets .now) in
-    let G = start .pre .0 in
-    let plain = sym (c .before .before .before .before .before .before .before .before .before .before .before .before .full-of .ensures) ∙ c .before .before .before .before .before .before .before .before .before .before .before .if1 .left in
+    let plain = sym (c .before .before .before .before .before .before .before .before .before .before .before .full-of .ensures) ∙ c .before .before .before .before .before .before .before .before .before .before .if1 .left in
     let final = sym (c .before .before .before .before .before .before .before .before .full-of2 .ensures) ∙ c .before .before .before .before .before .before .before .if2 .left in
     let t = sym (c .before .before .before .before .before .goes-back .ensures) ∙ c .before .before .before .before .if3 .left in
-    rw (read-on M G (a .marks .now) (a .k) _ (begins (c .before .before .before .before .before .before .before .before .before .before .before .before .before)) _ (next (c .before .before .before .before .before .before .before .before .before)) plain _ (highest (c .before .before .before .before .before .before)) final t) (c .before .before .go-on .ensures)
+    rw (read-on (moveOf (a .z) (a .list .now) (a .sets .now)) (start .pre .0 .given) (a .marks .now) (a .k) _ (begins (c .before .before .before .before .before .before .before .before .before .before .before .before)) _ (next (c .before .before .before .before .before .before .before .before .before)) plain _ (highest (c .before .before .before .before .before .before)) final t) (c .before .before .go-on .ensures)
 
 pub read-slots-spec : {M : Type 1} → statement M
 read-slots-spec =
@@ -245,11 +190,7 @@ read-slots-spec =
     add-result
     same-length
     returns
-    sub-wide
-    mul-wide
-    add-wide
-    element-copy-out-wide
-    wide-requires-2
+    goes-to-requires
     full-of-requires-2
     home-requires-2
     mul-slots-2
