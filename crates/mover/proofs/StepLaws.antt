@@ -1,18 +1,17 @@
 -- What a step does: the slots that are summed for a write, and the operation that a place has.
 use mathlib.Core.Path.{_≡_, refl, sym, ap, _∙_}
-use mathlib.Core.Logic.{_≢_, ⊎-elim}
+use mathlib.Core.Logic.{⊎-elim}
 use mathlib.Core.Bool.{Bool, true, false}
 use mathlib.Core.List.{List, [], _∷_, _++_, append-assoc, append-nil}
 use Prim.Native.Nat.{ℕ, _+_, _-_, _*_, _≤_, _<_}
 use native.Mathlib.Omega.{arith}
 use lib.ListN.{length, take}
-use borrow.Author.Tests.{eq-eqb, ne-eqb}
 use Rattle.flash.specs.Lists.{concatMap, part}
 use Rattle.flash.specs.Geometry.{Sizes, slot, numberAt}
 use Rattle.flash.specs.PageSum.{sum}
 use Rattle.flash.specs.Chip.{Holds, pageAt, writePage, eraseBlock}
 use Rattle.method.specs.Move.{Move, letter}
-use Rattle.method.specs.Cycle.{D, pred, top, isTop, coded, sentTo}
+use Rattle.method.specs.Cycle.{D, pred, isTop, coded, sentTo}
 use Rattle.method.specs.Place.{Pass, forward, backward, Operation, write, erase, done, markOf, writes, forwardTurn, backwardTurn, operations, lastPlace, operationAt, passAt, filling, filled, written}
 use Rattle.method.specs.Read.{readSlots}
 use Rattle.method.specs.State.{heldOriginals}
@@ -49,15 +48,15 @@ module _ (M : Move) (G : Given M) (block page : ℕ) (page-in : page < M .sizes 
     unfolding writeSlots originalsOf written heldOriginals concatMap
     final-slots k e = rw (← e) (append-nil (readSlots M marks k))
 
-    pub top-slots : (k : ℕ) → k ≡ D M page (block + 1) → top M page (block + 1) ≡ block + 1 → writeSlots M forward block page marks ≡ readSlots M marks k
-    unfolding writeSlots originalsOf written heldOriginals concatMap coded isTop
-    top-slots k e t = rw (eq-eqb (top M page (block + 1)) (block + 1) t, ← e) (append-nil (readSlots M marks k))
+    pub top-slots : (k : ℕ) → k ≡ D M page (block + 1) → isTop M page (block + 1) ≡ true → writeSlots M forward block page marks ≡ readSlots M marks k
+    unfolding writeSlots originalsOf written heldOriginals concatMap coded
+    top-slots k e t = rw (t, ← e) (append-nil (readSlots M marks k))
 
-    pub code-slots : (k u j : ℕ) → k ≡ D M page (block + 1) → u ≡ pred M page (block + 1) → j ≡ D M page u → top M page (block + 1) ≢ block + 1
+    pub code-slots : (k u j : ℕ) → k ≡ D M page (block + 1) → u ≡ pred M page (block + 1) → j ≡ D M page u → isTop M page (block + 1) ≡ false
         → writeSlots M forward block page marks ≡ readSlots M marks k ++ readSlots M marks j
-    unfolding writeSlots originalsOf written heldOriginals concatMap coded isTop
+    unfolding writeSlots originalsOf written heldOriginals concatMap coded
     code-slots k u j e f g t =
-        rw (ne-eqb (top M page (block + 1)) (block + 1) t, ← e, ← f, ← g) (ap (λ (xs : List ℕ). readSlots M marks k ++ xs) (append-nil (readSlots M marks j)))
+        rw (t, ← e, ← f, ← g) (ap (λ (xs : List ℕ). readSlots M marks k ++ xs) (append-nil (readSlots M marks j)))
 
 -- ---- a write
 module _ (M : Move) (pass : Pass) (block page : ℕ) (store marks work : List ℕ) where

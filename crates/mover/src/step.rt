@@ -14,9 +14,9 @@ use crate::place::Place;
 use flash::block::erase_block;
 use flash::page::write_page;
 use flash::wide::wide;
+use walk::cycles::is_top;
 use walk::cycles::page_of;
 use walk::cycles::sent_to;
-use walk::cycles::top_of;
 use walk::pages::sum_pages;
 use walk::sizes::Sizes;
 use walk::walk::read_slots;
@@ -53,7 +53,7 @@ fn write_slots(
     let i = block + 1;
     let k = page_of(z, pages, page, i);
     let count = read_slots(z, list, sets, pages, from, marks, k, slots, 0);
-    if top_of(z, from, page, i) == i {
+    if is_top(z, from, page, i) {
         return count;
     }
     let u = wide(from[block * z.m + page]);

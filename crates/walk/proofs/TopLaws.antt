@@ -121,3 +121,8 @@ module _ (M : Move) (pages from : List ℕ) (T : Tables M pages from) (set : ℕ
 
     pub top-whole : n ≤ turns → t ≡ top M set v
     top-whole h = I .0 ∙ ap (highest v) (same-way (suc turns) v b) ∙ whole M A set set-ok v b (suc turns) (omega arith)
+
+    pub none-higher : (u′ : ℕ) → u′ ≡ f u → u′ ≤ top M set v
+    none-higher u′ e =
+        let at : u′ ≡ iterate (pred M set) (suc turns) v = e ∙ ap f (I .1) ∙ sym (iterate-last f turns v) ∙ same-block (suc turns) v b in
+        omega (arith, at, top-ge-self M A set set-ok (iterate (pred M set) (suc turns) v) (back-in M A set set-ok v b (suc turns)), same-top M A set set-ok v b (suc turns))

@@ -6,7 +6,7 @@ ghost use lib.ListN.{length};
 ghost use Rattle.flash.specs.Geometry.{numberAt};
 ghost use Rattle.split.specs.Split.{destBlock};
 ghost use Rattle.method.specs.Cycle as method;
-ghost use Rattle.method.specs.Cycle.{D, sentTo};
+ghost use Rattle.method.specs.Cycle.{D, isTop, sentTo};
 ghost use Rattle.walk.specs.Moving.{moveOf, Given, entryOf, Tables, Leads};
 use crate::sizes::Sizes;
 use flash::wide::entry;
@@ -100,4 +100,25 @@ pub fn top_of(z: Sizes, from: &[u8; 4096], set: usize, v: usize) -> usize
         turns += 1;
     }
     top
+}
+
+// Whether block v is the top of its cycle: no block above it is met on the way back to v.
+pub fn is_top(z: Sizes, from: &[u8; 4096], set: usize, v: usize) -> bool
+    requires { ⌜ (z .n ≤ 64) × (z .m ≤ 64) × (set < z .m) × (1 ≤ v) × (v ≤ z .n) × Leads (z .n) (z .m) (now from) set ⌝ }
+    ensures { λ r. ⌜ ((list sets pages : List ℕ) → Tables (moveOf z list sets) pages (now (from .entry)) → r ≡ isTop (moveOf z list sets) set v) ⌝ }
+{
+    let m = z.m;
+    let mut u = v;
+    let mut turns = 0;
+    while turns < z.n {
+        u = wide(from[(u - 1) * m + set]);
+        if u == v {
+            return true;
+        }
+        if v < u {
+            return false;
+        }
+        turns += 1;
+    }
+    true
 }

@@ -2,10 +2,10 @@ use mathlib.Core.Path.{_≡_, sym, _∙_}
 use Prim.Native.Nat.{_+_, _-_, _*_, _≤_, _<_}
 use native.Mathlib.Omega.{arith}
 use borrow.Author.Needs.{needs}
-use Rattle.method.specs.Cycle.{D, pred}
+use Rattle.method.specs.Cycle.{D, pred, isTop}
 use Rattle.walk.specs.Moving.{moveOf}
 use Rattle.walk.proofs.CycleLaws.{table-fits, leads, page-lt}
-use Rattle.walk.proofs.WalkLaws.{Next, back-next, page-in, TopIs, top-is}
+use Rattle.walk.proofs.WalkLaws.{Next, back-next, page-in}
 use Rattle.mover.proofs.StepLaws.{appends-twice, sent-lt, final-slots, top-slots, code-slots}
 use Rattle.mover.proofs.step.write_slots.Statement.{statement}
 use Rattle.mover.proofs.step.write_slots.Tie as tie
@@ -57,23 +57,16 @@ original c =
 read-slots-requires-2 : tie.Need-read-slots-requires-2
 read-slots-requires-2 c κs = (c .before .before .before .before .before .before .before .pre .0 .0, (omega arith, original (c .before) .1, omega arith, omega arith))
 
-top-of-requires : tie.Need-top-of-requires
-top-of-requires c κs =
+is-top-requires : tie.Need-is-top-requires
+is-top-requires c κs =
     let start = c .before .before .before .before .before .before .before .before .before .before in
     let a = start .args in
     let T = start .pre .0 .0 in
     (T .given .n-high, T .given .m-high, omega arith, omega arith, start .pre .1 .3 (c .before .before .before .before .before .if1 .left), leads (moveOf (a .z) (a .list .now) (a .sets .now)) (a .pages .now) (a .from .now) T (a .page) (omega arith))
 
--- the top of the cycle
-highest : (c : tie.After-top-of)
-    → (let a = c .before .before .before .before .before .before .before .before .before .before .before .args in
-    TopIs (moveOf (a .z) (a .list .now) (a .sets .now)) (a .page) (a .block + 1) (c .top-of .result))
-highest c =
-    let start = c .before .before .before .before .before .before .before .before .before .before .before in
-    let a = start .args in
-    let T = start .pre .0 .0 in
-    top-is (moveOf (a .z) (a .list .now) (a .sets .now)) (T .given) (a .page) (a .block + 1) (c .top-of .result) (omega arith)
-    (record { low = omega arith; high = start .pre .1 .3 (c .before .before .before .before .before .before .if1 .left) }) (c .top-of .ensures (a .list .now) (a .sets .now) (a .pages .now) T)
+-- the test of the top
+top-told : (c : tie.After-is-top) → (let a = c .before .before .before .before .before .before .before .before .before .before .before .args in c .is-top .result ≡ isTop (moveOf (a .z) (a .list .now) (a .sets .now)) (a .page) (a .block + 1))
+top-told c = let a = c .before .before .before .before .before .before .before .before .before .before .before .args in c .is-top .ensures (a .list .now) (a .sets .now) (a .pages .now) (c .before .before .before .before .before .before .before .before .before .before .before .pre .0 .0)
 
 same-length-2 : tie.Need-same-length-2
 same-length-2 c = search needs
@@ -82,7 +75,7 @@ returns-2 : tie.Need-returns-2
 returns-2 c =
     let start = c .before .before .before .before .before .before .before .before .before .before .before .before in
     let a = start .args in
-    let e = top-slots (moveOf (a .z) (a .list .now) (a .sets .now)) (start .pre .0 .0 .given) (a .block) (a .page) (omega arith) (a .marks .now) (c .before .before .before .before .before .before .page-of .result) (original (c .before .before .before .before .before .before) .0) (sym (highest (c .before) .is) ∙ c .if2 .taken) in
+    let e = top-slots (moveOf (a .z) (a .list .now) (a .sets .now)) (start .pre .0 .0 .given) (a .block) (a .page) (omega arith) (a .marks .now) (c .before .before .before .before .before .before .page-of .result) (original (c .before .before .before .before .before .before) .0) (sym (top-told (c .before)) ∙ c .if2 .taken) in
     let A = c .before .before .before .before .read-slots2 .ensures in
     (rw (c .before .before .before .before .before .before .before .if1 .left) (A .slots-are ∙ sym e), omega (arith, A .some), omega (arith, A .few))
 
@@ -146,7 +139,7 @@ returns-3 c =
     let A = c .before .before .before .before .before .before .before .before .before .before .before .before .read-slots2 .ensures in
     let E = c .before .before .read-slots3 .ensures in
     let e = code-slots (moveOf (a .z) (a .list .now) (a .sets .now)) (T .given) (a .block) (a .page) (omega arith) (a .marks .now) (c .before .before .before .before .before .before .before .before .before .before .before .before .before .before .page-of .result) (c .before .before .before .before .before .wide .result) (c .before .before .before .before .page-of2 .result)
-    (original (c .before .before .before .before .before .before .before .before .before .before .before .before .before .before) .0) (next (c .before .before .before .before .before) .is) (c .before .before .before .before .page-of2 .ensures (a .list .now) (a .sets .now) (a .from .now) T) (λ t. c .before .before .before .before .before .before .before .before .if2 .left (highest (c .before .before .before .before .before .before .before .before .before) .is ∙ t)) in
+    (original (c .before .before .before .before .before .before .before .before .before .before .before .before .before .before) .0) (next (c .before .before .before .before .before) .is) (c .before .before .before .before .page-of2 .ensures (a .list .now) (a .sets .now) (a .from .now) T) (sym (top-told (c .before .before .before .before .before .before .before .before .before)) ∙ c .before .before .before .before .before .before .before .before .if2 .left) in
     (rw (c .before .before .before .before .before .before .before .before .before .before .before .before .before .before .before .if1 .left) (appends-twice _ _ _ _ _ _ _ A E ∙ sym e), omega (arith, E .some), omega (arith, A .few, E .few))
 
 pub write-slots-spec : {M : Type 1} → statement M
@@ -160,7 +153,7 @@ write-slots-spec =
     add-i
     page-of-requires
     read-slots-requires-2
-    top-of-requires
+    is-top-requires
     same-length-2
     returns-2
     mul-wide
