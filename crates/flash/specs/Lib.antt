@@ -3,3 +3,4 @@ pub mod Tables
 pub mod Geometry
 pub mod PageSum
 pub mod Chip
+pub mod Reciprocal

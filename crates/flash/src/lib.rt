@@ -4,6 +4,7 @@
 pub mod block;
 pub mod page;
 pub mod part;
+pub mod quotient;
 pub mod sizes;
 pub mod wide;
 

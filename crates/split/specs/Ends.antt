@@ -2,7 +2,7 @@
 use mathlib.Core.Path.{_≡_}
 use mathlib.Core.Bool.{Bool, true, false}
 use mathlib.Core.List.{List}
-use Prim.Native.Nat.{ℕ, _+_, _/_, _%_}
+use Prim.Native.Nat.{ℕ, _%_}
 use lib.ListN.{getD}
 use Rattle.flash.specs.Lists.{range, count}
 use Rattle.split.specs.Rule.{End, source, destination, isPageOf}
@@ -18,7 +18,3 @@ endOf false = destination
 abbrev pub Masks : (m : ℕ) → (list sets : List ℕ) → (k : ℕ) → End → (masks : List ℕ) → Type 0
 Masks m list sets k end masks =
     (block set : ℕ) → bitAt (getD masks block 0) set ≡ count (isPageOf m list sets end block set) (range 0 k) % 2
-
--- x * reciprocal m / 2 ^ 22 is x / m, for each x of 16 bits and each m from 1 to 64.
-unfoldable pub reciprocal : (m : ℕ) → ℕ
-reciprocal m = 4194304 / m + 1

@@ -4,15 +4,15 @@ ghost use Prim.Native.Nat.{_+_, _*_, _≤_, _<_};
 ghost use lib.ListN.{length};
 ghost use Rattle.split.specs.Rule.{splitByRule};
 ghost use Rattle.split.specs.Accepted.{Accepted};
-ghost use Rattle.split.specs.Ends.{reciprocal};
+ghost use Rattle.flash.specs.Reciprocal.{reciprocal};
 ghost use Rattle.split.specs.Work.{Working};
 use crate::ends::block_by;
-use crate::ends::reciprocal;
 use crate::mask::flip;
 use crate::mask::has;
 use crate::mask::lowest_free;
 use crate::path::exchange;
 use crate::tables::note;
+use flash::quotient::reciprocal;
 
 // Gives page k its set.
 fn give(

@@ -4,9 +4,10 @@ ghost use Prim.Native.Nat.{_*_};
 ghost use lib.ListN.{length};
 ghost use Rattle.split.specs.Split.{isSplit, isCorrectSplit};
 ghost use Rattle.split.specs.Accepted.{Accepted};
-use crate::ends::block_at;
+use crate::ends::block_by;
 use crate::list::check;
 use crate::mask::flip;
+use flash::quotient::reciprocal;
 use flash::sizes::in_range;
 use flash::sizes::original_count;
 use flash::wide::wide;
@@ -16,6 +17,7 @@ fn sets_differ(n: usize, m: usize, list: &[u16], sets: &[u8]) -> bool
     requires { ⌜ Accepted n m (now list) × (length (now sets) ≡ n * m) ⌝ }
     ensures { λ r. ⌜ r ≡ isSplit n m (now (list .entry)) (now (sets .entry)) ⌝ }
 {
+    let by = reciprocal(m);
     let mut from = [0u64; 65];
     let mut to = [0u64; 65];
     // the block of original k, counted along, and the first original behind it
@@ -30,7 +32,7 @@ fn sets_differ(n: usize, m: usize, list: &[u16], sets: &[u8]) -> bool
         if flip(&mut from, block, set) {
             return false;
         }
-        if flip(&mut to, block_at(list, m, false, k), set) {
+        if flip(&mut to, block_by(list, m, by, false, k), set) {
             return false;
         }
         k += 1;

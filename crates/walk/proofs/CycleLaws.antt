@@ -44,11 +44,11 @@ pub table-fits : (n m : ℕ) → n ≤ 64 → m ≤ 64 → (block set : ℕ) →
 table-fits n m a b block set h k = omega (arith, slot-lt m block set n h k, product-le n m {c = 64} {d = 64} a b)
 
 -- the two entries of an original from block `source`, with its destination and its set
-pub record Fits (m source entry set : ℕ) : Type 0 where
+pub record Fits (m source target set : ℕ) : Type 0 where
   pub source-low : source < 64
-  pub target-low : entry / m < 64
+  pub target-low : target < 64
   pub source-in : source * m + set < 4096
-  pub target-in : entry / m * m + set < 4096
+  pub target-in : target * m + set < 4096
 
 -- ---- the tables, after the first k originals
 pub record Followed (m : ℕ) (list sets pages from : List ℕ) (k : ℕ) : Type 0 where
@@ -127,9 +127,9 @@ module _ (M : Move) (G : Given M) where
       page-is : page ≡ k % m
       page-is = sym (ap (λ (x : ℕ). x % m) (C .is) ∙ slot-mod m source page (C .page-lt))
 
-      pub fits : (entry set : ℕ) → entry ≡ getD list k 0 → set ≡ getD sets k 0 → Fits m source entry set
+      pub fits : (target set : ℕ) → target ≡ getD list k 0 / m → set ≡ getD sets k 0 → Fits m source target set
       unfolding setOf
-      fits entry set e q =
+      fits target set e q =
           let s = set-in M A k k-in in
           rw (e, q, source-is)
           (record {

@@ -9,6 +9,8 @@ ghost use Rattle.method.specs.Cycle as method;
 ghost use Rattle.method.specs.Cycle.{D, isTop, sentTo};
 ghost use Rattle.walk.specs.Moving.{moveOf, Given, entryOf, Tables, Leads};
 use crate::sizes::Sizes;
+use flash::quotient::quotient;
+use flash::quotient::reciprocal;
 use flash::wide::entry;
 use flash::wide::narrow;
 use flash::wide::wide;
@@ -20,12 +22,13 @@ pub fn follow(z: Sizes, list: &[u16], sets: &[u8], pages: &mut [u8], from: &mut 
     ensures { λ _. ⌜ Tables (moveOf z (now (list .entry)) (now (sets .entry))) (now (pages .exit)) (now (from .exit)) ⌝ }
 {
     let m = z.m;
+    let by = reciprocal(m);
     let mut k = 0;
     let mut source = 0;
     let mut page = 0;
     while k < list.len() {
         let set = wide(sets[k]);
-        let target = entry(list[k]) / m;
+        let target = quotient(entry(list[k]), m, by);
         pages[source * m + set] = narrow(page);
         from[target * m + set] = narrow(source + 1);
         k += 1;

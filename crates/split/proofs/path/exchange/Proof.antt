@@ -6,7 +6,8 @@ use borrow.Author.Needs.{needs}
 use lib.ListN.{length, getD}
 use Rattle.split.specs.Rule.{End, source, destination, blockAt}
 use Rattle.split.specs.Mask.{FlippedBoth}
-use Rattle.split.specs.Ends.{endOf, reciprocal}
+use Rattle.flash.specs.Reciprocal.{reciprocal}
+use Rattle.split.specs.Ends.{endOf}
 use Rattle.split.specs.Work.{Sought}
 use Rattle.split.proofs.PathLaws.{pages-fit, block-room, of-block}
 use Rattle.split.proofs.Walking.{Walking, set-lt, block-of, unchanged, ready, walk-starts, walk-less, walk-more, walk-done}

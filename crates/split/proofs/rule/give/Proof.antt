@@ -5,7 +5,7 @@ use native.Mathlib.Omega.{arith}
 use Rattle.split.specs.Rule.{End, source, destination, blockAt, isUsed, lowestUnused, setsGiven}
 use lib.ListN.{length, length-set}
 use Rattle.split.specs.Mask.{FlippedAt}
-use Rattle.split.specs.Ends.{reciprocal}
+use Rattle.flash.specs.Reciprocal.{reciprocal}
 use Rattle.split.specs.Work.{Blocked}
 use Rattle.split.proofs.PathLaws.{pages-fit, block-room, of-block}
 use Rattle.split.proofs.Filling.{lowest-free, lowest-fits, blocked, given-more, gives-plain, gives-exchanged, Fresh}

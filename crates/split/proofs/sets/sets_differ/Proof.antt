@@ -5,20 +5,24 @@ use borrow.Author.Needs.{needs}
 use lib.ListN.{length}
 use Rattle.split.specs.Split.{setOf}
 use Rattle.split.specs.Rule.{End, source, destination, blockAt}
+use Rattle.split.proofs.PathLaws.{pages-fit}
 use Rattle.split.proofs.SetsLaws.{Flips, flips-at, SoFar, none-yet, Along, along-start, along-block, along-same, along-next, block-lt, no-such-set, met-twice, all-met, one-more}
 use Rattle.split.proofs.sets.sets_differ.Statement.{statement}
 use Rattle.split.proofs.sets.sets_differ.Tie as tie
 
 abbrev Inv-loop : tie.InvT-loop
-Inv-loop n m list sets from₀ to₀ block₀ end₀ k₀ from to block end k =
+Inv-loop n m list sets by from₀ to₀ block₀ end₀ k₀ from to block end k =
     SoFar n m list sets from to k × (length from ≡ 65) × (length to ≡ 65) × Along m k block end
 
 abbrev μ-loop : tie.MeasureT-loop
-μ-loop n m list sets from₀ to₀ block₀ end₀ k₀ from to block end k = length list - k
+μ-loop n m list sets by from₀ to₀ block₀ end₀ k₀ from to block end k = length list - k
+
+reciprocal-requires : tie.Need-reciprocal-requires Inv-loop μ-loop
+reciprocal-requires c κs = c .before .before .pre .0 .some-pages
 
 loop-holds : tie.Need-loop-holds Inv-loop μ-loop
 loop-holds c =
-    let start = c .before .before in
+    let start = c .before .before .before in
     let a = start .args in
     (none-yet (a .n) (a .m) 65 (a .list .now) (a .sets .now), refl, refl, along-start (a .m) (start .pre .0 .some-pages))
 
@@ -33,7 +37,7 @@ unfolding setOf
 returns c =
     let s = c .before in
     let i = s .before .before in
-    let pre = i .before .before .before .before .pre in
+    let pre = i .before .before .before .before .before .pre in
     sym (no-such-set _ _ _ _ (pre .0) (pre .1) (i .before .loop .k) (omega arith) (omega arith))
 
 slice-aggregate-flip : tie.Need-slice-aggregate-flip Inv-loop μ-loop
@@ -41,15 +45,15 @@ slice-aggregate-flip c = search needs
 
 -- the mask of a block is in its table
 fits : (i : tie.In-loop Inv-loop μ-loop) (end : End)
-    → (let a = i .before .before .before .before .args in blockAt (a .m) (a .list .now) end (i .before .loop .k) < 65)
+    → (let a = i .before .before .before .before .before .args in blockAt (a .m) (a .list .now) end (i .before .loop .k) < 65)
 fits i end =
-    let start = i .before .before .before .before in
+    let start = i .before .before .before .before .before in
     block-lt (start .args .n) (start .args .m) (start .args .list .now) (start .args .sets .now) (start .pre .0)
     (start .pre .1) end (i .before .loop .k) (omega arith)
 
 -- the block that is counted along is page k's
 counted : (i : tie.In-loop Inv-loop μ-loop)
-    → (let a = i .before .before .before .before .args in
+    → (let a = i .before .before .before .before .before .args in
     i .before .loop .block ≡ blockAt (a .m) (a .list .now) source (i .before .loop .k))
 counted i = along-block _ _ _ _ (i .before .loop .inv .3) _
 
@@ -59,7 +63,7 @@ flip-requires c κs = let i = c .before .before .before .before in omega (arith,
 -- what the flips of page k's bits tell and leave
 from-flips : (c : tie.After-flip Inv-loop μ-loop)
     → (let i = c .before .before .before .before .before in
-    let a = i .before .before .before .before .args in
+    let a = i .before .before .before .before .before .args in
     Flips (blockAt (a .m) (a .list .now) source (i .before .loop .k)) (setOf (a .sets .now) (i .before .loop .k))
     (i .before .loop .from) (c .flip .last .0) (c .flip .result))
 unfolding setOf
@@ -67,27 +71,30 @@ from-flips c = flips-at (counted (c .before .before .before .before .before)) (c
 
 to-flips : (c : tie.After-flip2 Inv-loop μ-loop)
     → (let i = c .before .before .before .before .before .before .before .before .before .before in
-    let a = i .before .before .before .before .args in
+    let a = i .before .before .before .before .before .args in
     Flips (blockAt (a .m) (a .list .now) destination (i .before .loop .k)) (setOf (a .sets .now) (i .before .loop .k))
     (i .before .loop .to) (c .flip2 .last .0) (c .flip2 .result))
 unfolding setOf
 to-flips c =
-    flips-at (c .before .block-at .ensures)
+    flips-at (c .before .block-by .ensures)
     (c .before .before .before .before .before .before .before .before .wide .ensures) (c .flip2 .ensures)
 
 returns-2 : tie.Need-returns-2 Inv-loop μ-loop
 returns-2 c =
     let f = c .before .before in
     let i = f .before .before .before .before .before in
-    let start = i .before .before .before .before in
+    let start = i .before .before .before .before .before in
     sym (met-twice _ _ _ _ (start .pre .0) (start .pre .1) source _ _ (i .before .loop .k) (omega arith)
     (i .before .loop .inv .0 .from-masks) _ (from-flips f) (c .if2 .taken))
 
 slice-aggregate-flip-2 : tie.Need-slice-aggregate-flip-2 Inv-loop μ-loop
 slice-aggregate-flip-2 c = search needs
 
-block-at-requires : tie.Need-block-at-requires Inv-loop μ-loop
-block-at-requires c κs = search needs
+block-by-requires : tie.Need-block-by-requires Inv-loop μ-loop
+block-by-requires c κs =
+    let i = c .before .before .before .before .before .before .before .before in
+    let A = i .before .before .before .before .before .pre .0 in
+    (A .some-pages, A .m-fits, i .before .before .reciprocal .ensures, omega arith, omega (arith, pages-fit _ _ _ A))
 
 flip-requires-2 : tie.Need-flip-requires-2 Inv-loop μ-loop
 flip-requires-2 c κs = omega (arith, fits (c .before .before .before .before .before .before .before .before .before) destination)
@@ -96,7 +103,7 @@ returns-3 : tie.Need-returns-3 Inv-loop μ-loop
 returns-3 c =
     let t = c .before .before in
     let i = t .before .before .before .before .before .before .before .before .before .before in
-    let start = i .before .before .before .before in
+    let start = i .before .before .before .before .before in
     sym (met-twice _ _ _ _ (start .pre .0) (start .pre .1) destination _ _ (i .before .loop .k) (omega arith)
     (i .before .loop .inv .0 .to-masks) _ (to-flips t) (c .if3 .taken))
 
@@ -111,7 +118,7 @@ page-passed : (c : tie.Else3 Inv-loop μ-loop)
     → (let i = turn c in
     let t = c .before .before in
     let f = t .before .before .before .before .before in
-    let a = i .before .before .before .before .args in
+    let a = i .before .before .before .before .before .args in
     SoFar (a .n) (a .m) (a .list .now) (a .sets .now) (f .flip .last .0) (t .flip2 .last .0) (i .before .loop .k + 1)
     × (length (f .flip .last .0) ≡ 65) × (length (t .flip2 .last .0) ≡ 65))
 unfolding setOf
@@ -119,7 +126,7 @@ page-passed c =
     let t = c .before .before in
     let f = t .before .before .before .before .before in
     let i = f .before .before .before .before .before in
-    let start = i .before .before .before .before in (
+    let start = i .before .before .before .before .before in (
       one-more _ _ _ _ (start .pre .0) (start .pre .1) _ _ _ (i .before .loop .inv .0) (omega arith) (omega arith) _ _ _ _
           (from-flips f) (to-flips t)
           (t .before .before .before .if2 .left) (c .if3 .left),
@@ -131,7 +138,7 @@ add-block : tie.Need-add-block Inv-loop μ-loop
 add-block c = let i = turn (c .before) in omega (arith, fits i source, counted i)
 
 add-end : tie.Need-add-end Inv-loop μ-loop
-add-end c = let i = turn (c .before) in omega (arith, i .before .before .before .before .pre .0 .m-fits)
+add-end c = let i = turn (c .before) in omega (arith, i .before .before .before .before .before .pre .0 .m-fits)
 
 loop-less : tie.Need-loop-less Inv-loop μ-loop
 loop-less c = search needs
@@ -140,7 +147,7 @@ loop-again : tie.Need-loop-again Inv-loop μ-loop
 loop-again c =
     let i = turn (c .before) in
     let p = page-passed (c .before) in
-    let some = i .before .before .before .before .pre .0 .some-pages in
+    let some = i .before .before .before .before .before .pre .0 .some-pages in
     (p .0, p .1, p .2, along-next _ _ _ _ (i .before .loop .inv .3) (c .if4 .taken) some)
 
 loop-less-2 : tie.Need-loop-less-2 Inv-loop μ-loop
@@ -154,7 +161,7 @@ loop-again-2 c =
 
 returns-4 : tie.Need-returns-4 Inv-loop μ-loop
 returns-4 c =
-    let pre = c .before .before .before .before .pre in
+    let pre = c .before .before .before .before .before .pre in
     sym (all-met _ _ _ _ (pre .0) (pre .1) _ _ _ (c .before .loop .inv .0) (omega arith))
 
 pub sets-differ-spec : {M : Type 1} → statement M
@@ -163,6 +170,7 @@ sets-differ-spec =
     (tie.spec
     Inv-loop
     μ-loop
+    reciprocal-requires
     loop-holds
     shared-slice-read-wide
     wide-requires
@@ -171,7 +179,7 @@ sets-differ-spec =
     flip-requires
     returns-2
     slice-aggregate-flip-2
-    block-at-requires
+    block-by-requires
     flip-requires-2
     returns-3
     add-k

@@ -1,5 +1,5 @@
-use mathlib.Core.Path.{_≡_}
-use Prim.Native.Nat.{_+_, _-_, _*_, _/_, _≤_, _<_}
+use mathlib.Core.Path.{_≡_, ap, _∙_}
+use Prim.Native.Nat.{ℕ, _+_, _-_, _*_, _/_, _≤_, _<_}
 use native.Mathlib.Omega.{arith}
 use borrow.Author.Needs.{needs}
 use lib.ListN.{length, set, length-set}
@@ -10,15 +10,18 @@ use Rattle.walk.proofs.cycles.follow.Statement.{statement}
 use Rattle.walk.proofs.cycles.follow.Tie as tie
 
 abbrev Inv-loop : tie.InvT-loop
-Inv-loop list sets pages₀ from₀ m k₀ source₀ page₀ pages from k source page =
+Inv-loop list sets pages₀ from₀ m by k₀ source₀ page₀ pages from k source page =
     (k ≤ length list) × Followed m list sets pages from k × (length pages ≡ 4096) × (length from ≡ 4096) × Counts m k source page
 
 abbrev μ-loop : tie.MeasureT-loop
-μ-loop list sets pages₀ from₀ m k₀ source₀ page₀ pages from k source page = length list - k
+μ-loop list sets pages₀ from₀ m by k₀ source₀ page₀ pages from k source page = length list - k
+
+reciprocal-requires : tie.Need-reciprocal-requires Inv-loop μ-loop
+reciprocal-requires c κs = search needs
 
 loop-holds : tie.Need-loop-holds Inv-loop μ-loop
 loop-holds c =
-    let start = c .before .before .before .before in
+    let start = c .before .before .before .before .before in
     let a = start .args in
     (omega arith, none-followed (a .z .m) (a .list .now) (a .sets .now) (a .pages .now) (a .from .now), omega arith, omega arith, record { is = omega arith; page-lt = start .pre .0 .m-low })
 
@@ -37,18 +40,19 @@ shared-slice-read-entry c = search needs
 entry-requires : tie.Need-entry-requires Inv-loop μ-loop
 entry-requires c κs = search needs
 
-div-target : tie.Need-div-target Inv-loop μ-loop
-div-target c = search needs
+quotient-requires : tie.Need-quotient-requires Inv-loop μ-loop
+quotient-requires c κs =
+    let G = c .before .before .before .before .before .before .before .before .before .before .before .pre .0 in
+    (omega (arith, c .entry .ensures, c .before .shared-slice-known4 .given (c .before .before .before .before .before .loop .k)), G .m-low, G .m-high, c .before .before .before .before .before .before .reciprocal .ensures)
 
 -- where the entries of original k lie
-inside : (c : tie.After-entry Inv-loop μ-loop)
-    → (let l = c .before .before .before .before .before .loop in
-    Fits (c .before .before .before .before .before .before .before .before .before .before .args .z .m) (l .source) (c .entry .result) (c .before .before .wide .result) × (l .page < 64))
+inside : (c : tie.After-quotient Inv-loop μ-loop)
+    → (let l = c .before .before .before .before .before .before .loop in Fits (c .before .before .before .before .before .before .before .before .before .before .before .before .args .z .m) (l .source) (c .quotient .result) (c .before .before .before .wide .result) × (l .page < 64))
 inside c =
-    let start = c .before .before .before .before .before .before .before .before .before .before in
-    let l = c .before .before .before .before .before .loop in (
+    let start = c .before .before .before .before .before .before .before .before .before .before .before .before in
+    let l = c .before .before .before .before .before .before .loop in (
       fits (moveOf (start .args .z) (start .args .list .now) (start .args .sets .now)) (start .pre .0) (l .k) (omega arith) (l .source) (l .page) (l .inv .4)
-          (c .entry .result) (c .before .before .wide .result) (c .entry .ensures) (c .before .before .wide .ensures),
+          (c .quotient .result) (c .before .before .before .wide .result) (c .quotient .ensures ∙ ap (λ (x : ℕ). x / start .args .z .m) (c .before .entry .ensures)) (c .before .before .before .wide .ensures),
       omega (arith, l .inv .4 .page-lt, start .pre .0 .m-high),
     )
 
@@ -90,15 +94,15 @@ add-source c = omega (arith, inside (c .before .before .before))
 
 -- the tables with the entries of original k
 more : (c : tie.After-narrow2 Inv-loop μ-loop)
-    → (let a = c .before .before .before .before .before .before .before .before .before .before .before .before .args in
-    let l = c .before .before .before .before .before .before .before .loop in
-    Followed (a .z .m) (a .list .now) (a .sets .now) (set (l .pages) (l .source * a .z .m + c .before .before .before .before .wide .result) (c .before .narrow .result)) (set (l .from) (c .before .before .entry .result / a .z .m * a .z .m + c .before .before .before .before .wide .result) (c .narrow2 .result)) (l .k + 1))
+    → (let a = c .before .before .before .before .before .before .before .before .before .before .before .before .before .before .args in
+    let l = c .before .before .before .before .before .before .before .before .loop in
+    Followed (a .z .m) (a .list .now) (a .sets .now) (set (l .pages) (l .source * a .z .m + c .before .before .before .before .before .wide .result) (c .before .narrow .result)) (set (l .from) (c .before .before .quotient .result * a .z .m + c .before .before .before .before .before .wide .result) (c .narrow2 .result)) (l .k + 1))
 unfolding setOf
 more c =
-    let start = c .before .before .before .before .before .before .before .before .before .before .before .before in
+    let start = c .before .before .before .before .before .before .before .before .before .before .before .before .before .before in
     let a = start .args in
-    let l = c .before .before .before .before .before .before .before .loop in
-    rw (c .narrow2 .ensures, c .before .narrow .ensures, c .before .before .entry .ensures, c .before .before .before .before .wide .ensures)
+    let l = c .before .before .before .before .before .before .before .before .loop in
+    rw (c .narrow2 .ensures, c .before .narrow .ensures, c .before .before .quotient .ensures, c .before .before .before .entry .ensures, c .before .before .before .before .before .wide .ensures)
     (follow-more (moveOf (a .z) (a .list .now) (a .sets .now)) (start .pre .0) (l .k) (omega arith) (l .source) (l .page) (l .inv .4) (l .pages) (l .from) (l .inv .2) (l .inv .3) (l .inv .1))
 
 loop-less : tie.Need-loop-less Inv-loop μ-loop
@@ -106,16 +110,16 @@ loop-less c = search needs
 
 loop-again : tie.Need-loop-again Inv-loop μ-loop
 loop-again c =
-    let l = c .before .before .before .before .before .before .before .before .loop in
-    (omega arith, more (c .before), simp length-set (l .inv .2), simp length-set (l .inv .3), counts-turn (c .before .before .before .before .before .before .before .before .before .before .before .before .before .args .z .m) (l .k) (l .source) (l .page) (l .inv .4) (c .if1 .taken))
+    let l = c .before .before .before .before .before .before .before .before .before .loop in
+    (omega arith, more (c .before), simp length-set (l .inv .2), simp length-set (l .inv .3), counts-turn (c .before .before .before .before .before .before .before .before .before .before .before .before .before .before .before .args .z .m) (l .k) (l .source) (l .page) (l .inv .4) (c .if1 .taken))
 
 loop-less-2 : tie.Need-loop-less-2 Inv-loop μ-loop
 loop-less-2 c = search needs
 
 loop-again-2 : tie.Need-loop-again-2 Inv-loop μ-loop
 loop-again-2 c =
-    let l = c .before .before .before .before .before .before .before .before .loop in
-    (omega arith, more (c .before), simp length-set (l .inv .2), simp length-set (l .inv .3), counts-more (c .before .before .before .before .before .before .before .before .before .before .before .before .before .args .z .m) (l .k) (l .source) (l .page) (l .inv .4) (c .if1 .left))
+    let l = c .before .before .before .before .before .before .before .before .before .loop in
+    (omega arith, more (c .before), simp length-set (l .inv .2), simp length-set (l .inv .3), counts-more (c .before .before .before .before .before .before .before .before .before .before .before .before .before .before .before .args .z .m) (l .k) (l .source) (l .page) (l .inv .4) (c .if1 .left))
 
 same-length : tie.Need-same-length Inv-loop μ-loop
 same-length c = search needs
@@ -125,7 +129,7 @@ same-length-2 c = search needs
 
 returns : tie.Need-returns Inv-loop μ-loop
 returns c =
-    let start = c .before .before .before .before .before .before in
+    let start = c .before .before .before .before .before .before .before in
     let a = start .args in
     let l = c .before .loop in
     let all : l .k ≡ a .z .n * a .z .m = omega arith in
@@ -137,13 +141,14 @@ follow-spec =
     (tie.spec
     Inv-loop
     μ-loop
+    reciprocal-requires
     loop-holds
     shared-slice-read-wide
     wide-requires
     mul-entry
     shared-slice-read-entry
     entry-requires
-    div-target
+    quotient-requires
     narrow-requires
     mul-pages
     add-pages

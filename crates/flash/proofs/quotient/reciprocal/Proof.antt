@@ -2,9 +2,9 @@ use mathlib.Core.Path.{refl}
 use native.Mathlib.Nat.{div-le-self}
 use native.Mathlib.Omega.{arith}
 use borrow.Author.Needs.{needs}
-use Rattle.split.specs.Ends.{reciprocal}
-use Rattle.split.proofs.ends.reciprocal.Statement.{statement}
-use Rattle.split.proofs.ends.reciprocal.Tie as tie
+use Rattle.flash.specs.Reciprocal.{reciprocal}
+use Rattle.flash.proofs.quotient.reciprocal.Statement.{statement}
+use Rattle.flash.proofs.quotient.reciprocal.Tie as tie
 
 div-result : tie.Need-div-result
 div-result c = search needs

@@ -3,9 +3,9 @@ use Prim.Native.Nat.{ℕ, _+_, _*_, _/_, _%_, _≤_, _<_}
 use native.Mathlib.Nat.{div-add-mod', mod-lt, div-le-self, le-div-iff-mul-le, mul-le-mul, mul-le-mul-left, mul-le-mul-right}
 use native.Mathlib.Omega.{arith}
 use borrow.Author.Needs.{needs}
-use Rattle.split.specs.Ends.{reciprocal}
-use Rattle.split.proofs.ends.block_of.Statement.{statement}
-use Rattle.split.proofs.ends.block_of.Tie as tie
+use Rattle.flash.specs.Reciprocal.{reciprocal}
+use Rattle.flash.proofs.quotient.quotient.Statement.{statement}
+use Rattle.flash.proofs.quotient.quotient.Tie as tie
 
 module _ (x m : ℕ) (small : x < 65536) (some : 1 ≤ m) (fits : m ≤ 64) where
   abbrev q : ℕ
@@ -44,20 +44,16 @@ module _ (x m : ℕ) (small : x < 65536) (some : 1 ≤ m) (fits : m ≤ 64) wher
   unfolding reciprocal
   product-fits = mul-le-mul {n₁ = x} {m₁ = d + 1} {n₂ = 65536} {m₂ = 4194305} (omega arith) (omega (arith, div-le-self 4194304 m))
 
-small : (c : tie.Start) → c .args .page * c .args .by ≤ 65536 * 4194305
-small c = let p = c .pre in rw (p .3) (product-fits (c .args .page) (c .args .m) (p .0) (p .1) (p .2))
+small : (c : tie.Start) → c .args .number * c .args .by ≤ 65536 * 4194305
+small c = let p = c .pre in rw (p .3) (product-fits (c .args .number) (c .args .m) (p .0) (p .1) (p .2))
 
 mul-result : tie.Need-mul-result
 mul-result c = record { fits = omega (arith, small c) }
 
-add-result : tie.Need-add-result
-add-result c = record { fits = omega (arith, small c) }
-
 returns : tie.Need-returns
 returns c =
     let p = c .pre in
-    ap (λ (by : ℕ). c .args .page * by / 4194304 + 1) (p .3)
-    ∙ ap (λ (y : ℕ). y + 1) (quotient-is (c .args .page) (c .args .m) (p .0) (p .1) (p .2))
+    ap (λ (by : ℕ). c .args .number * by / 4194304) (p .3) ∙ quotient-is (c .args .number) (c .args .m) (p .0) (p .1) (p .2)
 
-pub block-of-spec : {M : Type 1} → statement M
-block-of-spec = tie.close (tie.spec mul-result add-result returns)
+pub quotient-spec : {M : Type 1} → statement M
+quotient-spec = tie.close (tie.spec mul-result returns)
