@@ -1,8 +1,8 @@
 // The step at a place, for a C program that drives the chip.
 
 ghost use mathlib.Core.Path.{_≡_};
-ghost use Rattle.mover.specs.Operation.{operationAnswer};
-use mover::operation::operation;
+ghost use Rattle.places.specs.Operation.{operationAnswer};
+use places::operation::operation;
 
 #[no_mangle]
 pub extern "C" fn mover_operation(

@@ -18,7 +18,7 @@ use Rattle.method.proofs.Cycles.{pred-in}
 use Rattle.walk.specs.Moving.{Given}
 use Rattle.walk.proofs.CycleLaws.{accepted}
 use Rattle.walk.proofs.SlotLaws.{each-none, each-cond, each-append, page-lt, read-in}
-use Rattle.mover.specs.Steps.{passOf}
+use Rattle.places.specs.Place.{passOf}
 use Rattle.mover.proofs.StepLaws.{sent-lt}
 
 module _ (M : Move) (G : Given M) (marks : List ℕ) where

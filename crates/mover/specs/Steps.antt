@@ -29,7 +29,3 @@ pub record Counted (counts : method.Tally) (steps writes erases : ℕ) : Type 0 
   pub steps-is : steps ≡ counts .steps
   pub writes-is : writes ≡ counts .writes
   pub erases-is : erases ≡ counts .erases
-
-abbrev pub passOf : (isBackward : Bool) → Pass
-passOf true = backward
-passOf false = forward

@@ -1,9 +1,6 @@
 // The mover: run and read of document 01 as code, each proved equal to its definition in crate `method`.
 
-pub mod operation;
-pub mod place;
 pub mod read;
 mod refusals;
 pub mod run;
-mod stands;
 mod step;

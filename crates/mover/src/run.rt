@@ -10,12 +10,12 @@ ghost use Rattle.method.specs.Answers.{runCarriedOut, runAnswer};
 ghost use Rattle.walk.specs.Moving.{sizesOf, moveOf, Given, Tables};
 ghost use Rattle.mover.specs.Steps.{Lent, runningOf, Leaves, Counted};
 ghost use Rattle.mover.specs.Answers.{Answers};
-use crate::place::Place;
-use crate::place::last_place;
 use crate::refusals::move_refusal;
-use crate::stands::is_elsewhere;
 use crate::step::Tally;
 use crate::step::step;
+use places::place::Place;
+use places::place::last_place;
+use places::stands::is_elsewhere;
 use walk::cycles::follow;
 use walk::sizes::Sizes;
 

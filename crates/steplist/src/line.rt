@@ -6,8 +6,8 @@ ghost use Rattle.listing.specs.Lines.{Printed};
 ghost use Rattle.steplist.specs.Output.{stepLine};
 use listing::lines::put_erase;
 use listing::lines::put_write;
-use mover::place::Op;
-use mover::place::Place;
+use places::place::Op;
+use places::place::Place;
 
 // Prints the line of the step at a place: after a write the work page is the page written. Answers the next position.
 pub fn put_line(

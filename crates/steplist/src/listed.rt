@@ -7,8 +7,8 @@ ghost use Rattle.steplist.specs.Output.{moveLines};
 ghost use Rattle.steplist.specs.Listing.{moveOf, runningOf, Listable, mostLine, mostOutput, Stepped, Shows};
 use crate::line::put_line;
 use listing::lines::put_end;
-use mover::place::last_place;
 use mover::run::run;
+use places::place::last_place;
 use walk::sizes::Sizes;
 
 // How far the listing has come: the next position, and what was counted.

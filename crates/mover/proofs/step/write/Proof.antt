@@ -5,7 +5,7 @@ use borrow.Author.Needs.{needs}
 use Rattle.flash.specs.Geometry.{slotCount}
 use Rattle.flash.proofs.Bounds.{slot-in-marks, slot-in-store, product-le}
 use Rattle.walk.specs.Moving.{sizesOf, moveOf}
-use Rattle.mover.specs.Steps.{passOf}
+use Rattle.places.specs.Place.{passOf}
 use Rattle.walk.proofs.SlotLaws.{among}
 use Rattle.mover.proofs.WriteSlots.{write-in}
 use Rattle.mover.proofs.StepLaws.{written-is, wrote}

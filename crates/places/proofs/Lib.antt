@@ -1,0 +1,4 @@
+pub mod OperationLaws
+pub mod StepTold
+pub mod StandLaws
+pub mod ToldLaws

@@ -1,0 +1,163 @@
+-- The marks that a place has, block by block; and the slots marked 255 that are not blank.
+use mathlib.Core.Path.{_≡_, refl, sym, ap, _∙_, subst}
+use mathlib.Core.Logic.{⊎-elim}
+use mathlib.Core.Bool.{Bool, true, false, cond, _&&_, not}
+use mathlib.Core.List.{List}
+use Prim.Native.Nat.{ℕ, suc, _+_, _-_, _*_, _/_, _%_, _≤_, _<_}
+use native.Mathlib.Nat.{div-lt-iff-lt-mul, suc-mul}
+use native.Mathlib.Omega.{arith}
+use lib.Dec.{eqb, ltb}
+use lib.ListN.{length}
+use borrow.Author.Tests.{eqb-true, eq-eqb, ne-eqb, lt-ltb, le-ltb}
+use Rattle.flash.specs.Lists.{range, all, any, isSame}
+use Rattle.flash.specs.Geometry.{Sizes, slot, slotCount}
+use Rattle.flash.specs.Chip.{Chip, erased, markAt, isBlank, isFull}
+use Rattle.flash.proofs.Bools.{never-both, bool-eq}
+use Rattle.flash.proofs.Ranges.{all-in, all-is, all-not}
+use Rattle.flash.proofs.Same.{eq-same, ne-same}
+use Rattle.split.proofs.Lists.{lt-cases}
+use Rattle.method.specs.Move.{Move, letter}
+use Rattle.method.specs.Place.{Pass, forward, backward, lastPlace, passAt, filling, filled, Held, blank, plain, code, final, written, above, heldAt, heldMark, marksOf}
+use Rattle.method.specs.Answers.{isElsewhere}
+use Rattle.method.proofs.Places.{pages-in, forward-until, backward-from}
+use Rattle.method.proofs.Held.{held-below, held-above, held-written, held-blank, MarksAt, marksOf-at, marks-eq}
+use Rattle.places.specs.Stands.{MarksDue, blockStands}
+use Rattle.walk.proofs.WalkLaws.{none-full}
+
+module _ (Z : Sizes) (place : ℕ) where
+  open Sizes Z using (n, m, s)
+
+  -- the backward pass has n turns
+  pub turns-in : place ≤ lastPlace Z → (place - n * (m + 1)) / (m + 1) ≤ n
+  unfolding lastPlace
+  turns-in h =
+      let few = div-lt-iff-lt-mul {k = m + 1} {x = place - n * (m + 1)} {y = suc n} (omega arith) .1 (omega (arith, suc-mul n (m + 1))) in
+      omega arith
+
+  -- ---- the marks of a block
+  module _ (block : ℕ) where
+    -- all pages hold the same
+    due-all : (x : Held) (mark : ℕ) → ((page : ℕ) → heldAt Z place block page ≡ x) → mark ≡ heldMark Z x → MarksDue Z place block mark m
+    due-all x mark held e = record {
+      fits = omega arith;
+      mark-is = λ page h. ap (heldMark Z) (held page) ∙ sym e ∙ rw (lt-ltb page m h) refl;
+    }
+
+    -- the block that is being filled
+    due-part : (mark : ℕ) → block ≡ filling Z place → mark ≡ heldMark Z (written (passAt Z place)) → MarksDue Z place block mark (place % (m + 1))
+    unfolding filled heldMark
+    due-part mark here e = record {
+      fits = pages-in Z place;
+      mark-is = λ page h.
+          ⊎-elim
+          (λ (l : page < place % (m + 1)). ap (heldMark Z) (held-written Z place block page here l) ∙ sym e ∙ rw (lt-ltb page (place % (m + 1)) l) refl)
+          (λ (l : place % (m + 1) ≤ page). ap (heldMark Z) (held-blank Z place block page here l) ∙ rw (le-ltb page (place % (m + 1)) l) refl)
+          (lt-cases page (place % (m + 1)));
+    }
+
+    module _ (b mark : ℕ) (filled-is : b ≡ filling Z place) where
+      pub due-below : block < b → mark ≡ (s + 1) % 3 → MarksDue Z place block mark m
+      unfolding heldMark letter
+      due-below h e = due-all code mark (λ page. held-below Z place block page (omega arith)) e
+
+      -- what lies above, and what the pass writes
+      due-above : (pass : Pass) → passAt Z place ≡ pass → b < block → mark ≡ heldMark Z (above pass) → MarksDue Z place block mark m
+      due-above pass p h e = due-all (above pass) mark (λ page. held-above Z place block page (omega arith) ∙ ap above p) e
+
+      due-here : (pass : Pass) → passAt Z place ≡ pass → b ≤ block → block ≤ b → mark ≡ heldMark Z (written pass) → MarksDue Z place block mark (place % (m + 1))
+      due-here pass p low high e = due-part mark (omega arith) (e ∙ ap (λ (x : Pass). heldMark Z (written x)) (sym p))
+
+      module _ (h : place < n * (m + 1)) where
+        pub due-plain : b < block → mark ≡ (s + 0) % 3 → MarksDue Z place block mark m
+        unfolding heldMark letter above
+        due-plain l e = due-above forward (forward-until Z place h) l e
+
+        pub due-code : b ≤ block → block ≤ b → mark ≡ (s + 1) % 3 → MarksDue Z place block mark (place % (m + 1))
+        unfolding heldMark letter written
+        due-code low high e = due-here forward (forward-until Z place h) low high e
+
+      module _ (h : n * (m + 1) ≤ place) where
+        pub due-final : b < block → mark ≡ (s + 2) % 3 → MarksDue Z place block mark m
+        unfolding heldMark letter above
+        due-final l e = due-above backward (backward-from Z place h) l e
+
+        pub due-finals : b ≤ block → block ≤ b → mark ≡ (s + 2) % 3 → MarksDue Z place block mark (place % (m + 1))
+        unfolding heldMark letter written
+        due-finals low high e = due-here backward (backward-from Z place h) low high e
+
+-- ---- a block stands where each of its marks does
+all-same : (f g : ℕ → Bool) (size : ℕ) → ((j : ℕ) → j < size → f j ≡ g j) → all f (range 0 size) ≡ all g (range 0 size)
+all-same f g size same =
+    bool-eq (all f (range 0 size)) (all g (range 0 size))
+    (λ e. all-is g 0 size (λ j a b. sym (same j (omega arith)) ∙ all-in f 0 size e j a b))
+    (λ e. all-is f 0 size (λ j a b. same j (omega arith) ∙ all-in g 0 size e j a b))
+
+module _ (Z : Sizes) (place block mark wr : ℕ) (D : MarksDue Z place block mark wr) (marks : List ℕ) where
+  open Sizes Z using (m)
+
+  abbrev due : ℕ → ℕ
+  due page = cond (ltb page wr) mark erased
+
+  stands-is : blockStands Z marks place block ≡ all (λ page. eqb (markAt marks (slot m block page)) (due page)) (range 0 m)
+  unfolding blockStands
+  stands-is = all-same _ _ m (λ j h. ap (eqb (markAt marks (slot m block j))) (D .mark-is j h))
+
+  pub stands-full : wr ≡ m → isFull m marks block mark ≡ blockStands Z marks place block
+  unfolding isFull
+  stands-full e =
+      all-same (λ page. eqb (markAt marks (slot m block page)) mark) (λ page. eqb (markAt marks (slot m block page)) (due page)) m
+      (λ j h. rw (lt-ltb j wr (omega arith)) refl) ∙ sym stands-is
+
+  pub stands-all : ((j : ℕ) → j < m → markAt marks (slot m block j) ≡ due j) → true ≡ blockStands Z marks place block
+  stands-all f = sym (stands-is ∙ all-is (λ page. eqb (markAt marks (slot m block page)) (due page)) 0 m (λ j a b. eq-eqb _ _ (f j (omega arith))))
+
+  pub stands-not : (j : ℕ) → j < m → (markAt marks (slot m block j) ≡ due j → ⊥) → false ≡ blockStands Z marks place block
+  stands-not j h ne = sym (stands-is ∙ all-not (λ page. eqb (markAt marks (slot m block page)) (due page)) 0 m j (omega arith) (omega arith) (ne-eqb _ _ ne))
+
+-- ---- the marks are those of the place where each block stands
+module _ (Z : Sizes) (marks : List ℕ) (place : ℕ) where
+  open Sizes Z using (n, m)
+
+  stood : (block page : ℕ) → page < m → blockStands Z marks place block ≡ true → markAt marks (slot m block page) ≡ heldMark Z (heldAt Z place block page)
+  unfolding blockStands
+  stood block page h e = eqb-true _ _ (all-in (λ page. eqb (markAt marks (slot m block page)) (heldMark Z (heldAt Z place block page))) 0 m e page (omega arith) (omega arith))
+
+  pub all-stand : 1 ≤ m → length marks ≡ slotCount Z → ((b : ℕ) → b < n + 1 → blockStands Z marks place b ≡ true) → true ≡ isSame marks (marksOf Z place)
+  all-stand low size f =
+      sym (eq-same _ _ (marks-eq Z place marks low (record { length-is = size; mark-is = λ b q h k. stood b q k (f b (omega arith)) })))
+
+  pub one-falls : (b : ℕ) → b ≤ n → blockStands Z marks place b ≡ false → false ≡ isSame marks (marksOf Z place)
+  unfolding blockStands
+  one-falls b h e =
+      sym (ne-same _ _ (λ same.
+      let A = subst (MarksAt Z place) (sym same) (marksOf-at Z place) in
+      never-both (all-is (λ page. eqb (markAt marks (slot m b page)) (heldMark Z (heldAt Z place b page))) 0 m (λ q x y. eq-eqb _ _ (A .mark-is b q h (omega arith)))) e))
+
+-- ---- slots marked 255 that are not blank
+module _ (P : ℕ) (chip : Chip) where
+  abbrev torn : ℕ → Bool
+  torn t = eqb (markAt (chip .marks) t) erased && not (isBlank P chip t)
+
+  pub torn-more : (t : ℕ) → any torn (range 0 t) ≡ false → torn t ≡ false → any torn (range 0 (t + 1)) ≡ false
+  torn-more t none this = none-full torn t none this
+
+  pub not-marked : (t : ℕ) → (markAt (chip .marks) t ≡ erased → ⊥) → torn t ≡ false
+  not-marked t ne = rw (ne-eqb _ _ ne) refl
+
+  pub is-torn : (t : ℕ) (r : Bool) → r ≡ isBlank P chip t → markAt (chip .marks) t ≡ erased → torn t ≡ not r
+  is-torn t r e f = rw (eq-eqb _ _ f, e) refl
+
+-- ---- the three grounds of number 5
+module _ (M : Move) (chip : Chip) (place : ℕ) where
+  pub too-far : lastPlace (M .sizes) < place → true ≡ isElsewhere M chip place
+  unfolding isElsewhere
+  too-far h = rw (lt-ltb (lastPlace (M .sizes)) place h) refl
+
+  pub other-marks : place ≤ lastPlace (M .sizes) → isSame (chip .marks) (marksOf (M .sizes) place) ≡ false → true ≡ isElsewhere M chip place
+  unfolding isElsewhere
+  other-marks h e = rw (le-ltb (lastPlace (M .sizes)) place h, e) refl
+
+  pub else-torn : place ≤ lastPlace (M .sizes) → isSame (chip .marks) (marksOf (M .sizes) place) ≡ true
+      → any (torn (M .sizes .P) chip) (range 0 (slotCount (M .sizes))) ≡ isElsewhere M chip place
+  unfolding isElsewhere
+  else-torn h e = rw (le-ltb (lastPlace (M .sizes)) place h, e) refl

@@ -1,0 +1,19 @@
+-- The step at a place, as numbers. This call is ours and not the document's; its refusals are numbers of the document's table.
+use mathlib.Core.Bool.{cond, not}
+use Prim.Native.Nat.{ℕ}
+use lib.Dec.{ltb}
+use Rattle.flash.specs.Geometry.{Sizes, inRange}
+use Rattle.method.specs.Place.{Operation, write, erase, done, markOf, operationAt, lastPlace}
+use Rattle.places.specs.declared.operation.Told.{Told}
+
+-- 0 for a write, 1 for an erase, 2 where no step is left; numbers that do not apply are 0
+unfoldable pub toldOf : Sizes → Operation → Told
+toldOf Z (write pass block page) = record { number = 0; kind = 0; block = block; page = page; mark = markOf Z pass }
+toldOf Z (erase block) = record { number = 0; kind = 1; block = block; page = 0; mark = 0 }
+toldOf Z done = record { number = 0; kind = 2; block = 0; page = 0; mark = 0 }
+
+-- "n, m, P or s out of its range", "place above 2 × n × (m + 1)"
+unfoldable pub operationAnswer : Sizes → (place : ℕ) → Told
+operationAnswer Z place =
+    let refused : ℕ → Told = λ number. record { number = number; kind = 0; block = 0; page = 0; mark = 0 } in
+    cond (not (inRange Z)) (refused 1) (cond (ltb (lastPlace Z) place) (refused 5) (toldOf Z (operationAt Z place)))

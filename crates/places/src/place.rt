@@ -1,0 +1,80 @@
+// A place in the move: a step number.
+
+ghost use mathlib.Core.Path.{_≡_};
+ghost use Prim.Native.Nat.{_+_, _≤_, _<_};
+ghost use Rattle.method.specs.Place.{operationAt, lastPlace};
+ghost use Rattle.walk.specs.Moving.{sizesOf};
+ghost use Rattle.places.specs.Place.{opOf};
+use walk::letters::letter_after;
+use walk::sizes::Sizes;
+
+// What is to be done at a place.
+pub enum Op {
+    // A page is written with its mark: a coded page in the forward pass, an original in the backward pass.
+    Write {
+        backward: bool,
+        block: usize,
+        page: usize,
+        mark: u8,
+    },
+    Erase {
+        block: usize,
+    },
+    Done,
+}
+
+pub struct Place {
+    pub at: usize,
+}
+
+impl Place {
+    pub fn operation(self, n: usize, m: usize, s: usize) -> Op
+        requires { ⌜ (1 ≤ n) × (n ≤ 64) × (1 ≤ m) × (m ≤ 64) × (s < 3) ⌝ }
+        ensures { λ r. ⌜ r ≡ opOf (record { n = n; m = m; P = 0; s = s }) (operationAt (record { n = n; m = m; P = 0; s = s }) (self .at)) ⌝ }
+    {
+        let at = self.at;
+        let turn = m + 1;
+        let half = n * turn;
+        let page = at % turn;
+        if at < half {
+            let block = at / turn;
+            if page < m {
+                return Op::Write {
+                    backward: false,
+                    block,
+                    page,
+                    mark: letter_after(s, 1),
+                };
+            }
+            return Op::Erase { block: block + 1 };
+        }
+        if at < half + half {
+            let block = n - (at - half) / turn;
+            if page < m {
+                return Op::Write {
+                    backward: true,
+                    block,
+                    page,
+                    mark: letter_after(s, 2),
+                };
+            }
+            return Op::Erase { block: block - 1 };
+        }
+        Op::Done
+    }
+
+    pub fn next(self) -> Place
+        requires { ⌜ self .at < 100000 ⌝ }
+        ensures { λ r. ⌜ r .at ≡ self .at + 1 ⌝ }
+    {
+        Place { at: self.at + 1 }
+    }
+}
+
+// The place after the last step.
+pub fn last_place(z: Sizes) -> usize
+    requires { ⌜ (z .n ≤ 64) × (z .m ≤ 64) ⌝ }
+    ensures { λ r. ⌜ r ≡ lastPlace (sizesOf z) ⌝ }
+{
+    2 * z.n * (z.m + 1)
+}
