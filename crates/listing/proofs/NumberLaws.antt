@@ -14,7 +14,7 @@ use borrow.Author.Tests.{leb-true}
 use Rattle.flash.specs.Lists.{all}
 use Rattle.flash.proofs.Bools.{and-left, and-right}
 use Rattle.flash.proofs.Searches.{all-append}
-use Rattle.listing.specs.Numbers.{isSeparator, isDigit, ended, wordsFrom, spelled, numberOf, numbersIn, number, malformed, end, next, taken}
+use Rattle.listing.specs.Numbers.{isSeparator, isDigit, ended, wordsFrom, spelled, numberOf, numbersIn, number, malformed, end, next}
 use Rattle.listing.proofs.WordLaws.{slice-more, spelled-more, word-ends, word-parted, word-goes-on, malformed-first, number-of, too-long, no-digit}
 
 -- the bytes from `start` to `at` are digits of one word, and spell `value`

@@ -1,10 +1,10 @@
 -- The numbers that the calls return are small, so that they fit 32 bits.
-use mathlib.Core.Path.{_≡_, refl, sym, ap, _∙_}
+use mathlib.Core.Path.{_≡_, refl}
 use mathlib.Core.Logic.{⊎-elim}
-use mathlib.Core.Bool.{Bool, true, false, cond, _&&_}
+use mathlib.Core.Bool.{Bool, true, false, _&&_}
 use mathlib.Core.Option.{Option, none, some}
 use mathlib.Core.List.{List, [], _∷_}
-use Prim.Native.Nat.{ℕ, _+_, _-_, _*_, _≤_, _<_}
+use Prim.Native.Nat.{ℕ, _+_, _-_, _*_, _≤_}
 use native.Mathlib.Nat.{mul-le-mul}
 use native.Mathlib.Omega.{arith}
 use lib.Dec.{eqb, leb}
@@ -17,7 +17,7 @@ use Rattle.flash.proofs.Tables.{refusal-hit, refusal-miss, refusal-nil, refusal
 use Rattle.flash.proofs.Bounds.{Bounds, in-range}
 use Rattle.method.specs.Mend.{Reading, reading, lines, legalMarks, forwardTorn, backwardTorn, forwardFull, backwardFull}
 use Rattle.method.specs.Answers.{MendAnswer, mendRows, mended, mendAnswer}
-use Rattle.method.proofs.MendLines.{Torn, Filled, Fit, torn-forth, torn-back, full-forth, full-back, fit}
+use Rattle.method.proofs.MendLines.{Fit, torn-forth, torn-back, full-forth, full-back, fit}
 use Rattle.method.proofs.Fits.{first-fit}
 
 -- no number of a table is above a limit

@@ -12,7 +12,7 @@ use Rattle.flash.specs.Geometry.{inRange, listLength}
 use Rattle.flash.specs.Chip.{Chip}
 use Rattle.flash.proofs.Bools.{bool-cases}
 use Rattle.method.specs.Move.{Move}
-use Rattle.method.specs.Answers.{badParts, moveRows, runRows, runRefused, runAnswer, readRows, ReadAnswer, readAnswer}
+use Rattle.method.specs.Answers.{badParts, moveRows, runRows, runRefused, runAnswer, readRows, readAnswer}
 
 not-zero : (ranged : Bool) → eqb (cond ranged 2 1) 0 ≡ false
 not-zero true = refl

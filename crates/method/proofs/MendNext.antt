@@ -7,11 +7,11 @@ use mathlib.Core.Option.{none, some}
 use Prim.Native.Nat.{ℕ, _+_, _-_, _*_, _≤_, _<_}
 use native.Mathlib.Omega.{arith}
 use Rattle.flash.specs.Tables.{Row}
-use Rattle.flash.specs.Geometry.{Sizes, inRange}
+use Rattle.flash.specs.Geometry.{Sizes}
 use Rattle.flash.proofs.Bools.{bool-cases}
 use Rattle.flash.proofs.Bounds.{in-range}
 use Rattle.split.proofs.Lists.{lt-cases}
-use Rattle.method.specs.Place.{Pass, forward, backward, operationAt, lastPlace}
+use Rattle.method.specs.Place.{Pass, forward, backward, lastPlace}
 use Rattle.method.specs.Mend.{Reading, forwardTorn, backwardTorn, forwardFull, backwardFull, lines, legalMarks, reading}
 use Rattle.method.specs.Claims.{WrittenNext, ErasesNext}
 use Rattle.method.proofs.Fits.{first-fit}

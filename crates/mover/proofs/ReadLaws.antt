@@ -1,5 +1,5 @@
 -- The answer of read, case by case.
-use mathlib.Core.Path.{_≡_, refl, sym, ap, _∙_}
+use mathlib.Core.Path.{_≡_, refl, _∙_}
 use mathlib.Core.Logic.{_≢_}
 use mathlib.Core.Bool.{Bool, true, false, cond}
 use mathlib.Core.List.{List, [], _∷_}
@@ -8,7 +8,7 @@ use native.Mathlib.Omega.{arith}
 use lib.Dec.{leb}
 use lib.ListN.{length}
 use borrow.Author.Tests.{ne-eqb}
-use Rattle.flash.specs.Tables.{Row, firstFit, numberOr0, refusal}
+use Rattle.flash.specs.Tables.{firstFit, numberOr0, refusal}
 use Rattle.flash.specs.Geometry.{originalCount}
 use Rattle.flash.specs.Chip.{Chip}
 use Rattle.method.specs.Move.{Move}

@@ -1,20 +1,18 @@
 -- A run step by step: what one step more leaves and counts.
-use mathlib.Core.Path.{_≡_, refl, sym, ap, ap₂, _∙_}
+use mathlib.Core.Path.{_≡_, refl, ap₂}
 use mathlib.Core.Bool.{cond}
 use mathlib.Core.List.{List, [], _∷_}
-use Prim.Native.Nat.{ℕ, zero, suc, _+_, _-_, _*_, _≤_, _<_, min}
-use native.Mathlib.Nat.{add-zero}
+use Prim.Native.Nat.{ℕ, _+_, _-_, _*_, _≤_, _<_, min}
 use native.Mathlib.Omega.{arith}
 use lib.Dec.{eqb}
-use Rattle.flash.specs.Geometry.{Sizes}
 use Rattle.flash.specs.Chip.{Chip}
 use Rattle.flash.proofs.Bounds.{product-le}
 use Rattle.method.specs.Move.{Move}
 use Rattle.method.specs.Place.{Operation, write, erase, done, operationAt, lastPlace}
-use Rattle.method.specs.Step.{Running, step, steps, Tally, tallied, tally, operationsFrom}
+use Rattle.method.specs.Step.{Running, step, steps, tallied, tally, operationsFrom}
 use Rattle.method.specs.Answers.{stepsTaken, runCarriedOut}
 use Rattle.method.proofs.Runs.{steps-add}
-use Rattle.method.proofs.Tallies.{Added, tally-split, operationsFrom-suc}
+use Rattle.method.proofs.Tallies.{tally-split, operationsFrom-suc}
 use Rattle.walk.specs.Moving.{Given}
 use Rattle.mover.specs.Steps.{runningOf, Leaves, Counted}
 use Rattle.mover.specs.Answers.{Answers}

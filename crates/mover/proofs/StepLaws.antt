@@ -1,31 +1,24 @@
 -- What a step does: the slots that are summed for a write, and the operation that a place has.
-use mathlib.Core.Path.{_≡_, refl, sym, ap, _∙_}
-use mathlib.Core.Logic.{⊎-elim}
-use mathlib.Core.Bool.{Bool, true, false}
-use mathlib.Core.List.{List, [], _∷_, _++_, append-assoc, append-nil}
+use mathlib.Core.Path.{_≡_, refl, ap, _∙_}
+use mathlib.Core.Bool.{true, false}
+use mathlib.Core.List.{List, [], _∷_, _++_, append-nil}
 use Prim.Native.Nat.{ℕ, _+_, _-_, _*_, _≤_, _<_}
 use native.Mathlib.Omega.{arith}
-use lib.ListN.{length, take}
+use lib.ListN.{take}
 use Rattle.flash.specs.Lists.{concatMap, part}
 use Rattle.flash.specs.Geometry.{Sizes, slot, numberAt}
 use Rattle.flash.specs.PageSum.{sum}
 use Rattle.flash.specs.Chip.{Holds, pageAt, writePage, eraseBlock}
-use Rattle.method.specs.Move.{Move, letter}
+use Rattle.method.specs.Move.{Move}
 use Rattle.method.specs.Cycle.{D, pred, isTop, coded, sentTo}
-use Rattle.method.specs.Place.{Pass, forward, backward, Operation, write, erase, done, markOf, writes, forwardTurn, backwardTurn, operations, lastPlace, operationAt, passAt, filling, filled, written}
+use Rattle.method.specs.Place.{Pass, forward, backward, Operation, write, erase, done, markOf, writes, operationAt, written}
 use Rattle.method.specs.Read.{readSlots}
 use Rattle.method.specs.State.{heldOriginals}
 use Rattle.method.specs.Step.{originalsOf, writeSlots, writtenPage, perform, Running, step, tallied, tally}
-use Rattle.split.proofs.Lists.{lt-cases}
-use Rattle.method.proofs.Indexes.{clash, slot-lt}
-use Rattle.method.proofs.Places.{nextBlock, backward-low, forward-high, operation-done}
-use Rattle.method.proofs.Held.{Change, by-write, by-erase, change}
+use Rattle.method.proofs.Indexes.{slot-lt}
 use Rattle.method.proofs.Cycles.{sent-in}
-use Rattle.places.specs.declared.place.Op.the-variants.{Write, Erase, Done}
-use Rattle.places.specs.Place.{opOf}
 use Rattle.walk.specs.Moving.{Given}
 use Rattle.walk.specs.Slots.{Appends}
-use Rattle.places.specs.Place.{passOf}
 use Rattle.mover.specs.Steps.{runningOf, Leaves, Counted}
 use Rattle.walk.proofs.CycleLaws.{accepted}
 

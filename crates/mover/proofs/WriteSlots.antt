@@ -8,7 +8,7 @@ use Rattle.flash.specs.Lists.{concatMap}
 use Rattle.flash.specs.Geometry.{Sizes, numberAt, slotCount}
 use Rattle.method.specs.Move.{Move}
 use Rattle.method.specs.Cycle.{D, pred, isTop, coded, sentTo}
-use Rattle.method.specs.Place.{Pass, forward, backward, written}
+use Rattle.method.specs.Place.{forward, backward, written}
 use Rattle.method.specs.Read.{readSlots}
 use Rattle.method.specs.State.{heldOriginals}
 use Rattle.method.specs.Step.{originalsOf, writeSlots}

@@ -1,12 +1,10 @@
 -- What a step is given and what it leaves.
 use mathlib.Core.Path.{_≡_}
-use mathlib.Core.Bool.{Bool, true, false}
 use mathlib.Core.List.{List}
 use Prim.Native.Nat.{ℕ}
 use lib.ListN.{length}
 use Rattle.flash.specs.Geometry.{storeLength, marksLength, workLength}
 use Rattle.method.specs.Move.{Move}
-use Rattle.method.specs.Place.{Pass, forward, backward}
 use Rattle.method.specs.Step as method
 use Rattle.method.specs.Step.{Running}
 

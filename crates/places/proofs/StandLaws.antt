@@ -17,7 +17,7 @@ use Rattle.flash.proofs.Ranges.{all-in, all-is, all-not}
 use Rattle.flash.proofs.Same.{eq-same, ne-same}
 use Rattle.split.proofs.Lists.{lt-cases}
 use Rattle.method.specs.Move.{Move, letter}
-use Rattle.method.specs.Place.{Pass, forward, backward, lastPlace, passAt, filling, filled, Held, blank, plain, code, final, written, above, heldAt, heldMark, marksOf}
+use Rattle.method.specs.Place.{Pass, forward, backward, lastPlace, passAt, filling, filled, Held, code, written, above, heldAt, heldMark, marksOf}
 use Rattle.method.specs.Answers.{isElsewhere}
 use Rattle.method.proofs.Places.{pages-in, forward-until, backward-from}
 use Rattle.method.proofs.Held.{held-below, held-above, held-written, held-blank, MarksAt, marksOf-at, marks-eq}

@@ -1,20 +1,19 @@
 -- The check of a list, window by window: a table of bits tells which entries of a window were met.
 use mathlib.Core.Path.{_≡_, refl, sym, ap, _∙_, subst}
-use mathlib.Core.Logic.{_⊎_, inl, inr, _≢_, ⊎-elim}
+use mathlib.Core.Logic.{inl, inr, _≢_, ⊎-elim}
 use mathlib.Core.Bool.{true, false}
 use mathlib.Core.List.{List}
-use Prim.Native.Nat.{ℕ, _+_, _-_, _*_, _/_, _%_, _≤_, _<_}
+use Prim.Native.Nat.{ℕ, _+_, _*_, _/_, _%_, _≤_, _<_}
 use native.Mathlib.Omega.{arith}
 use native.Mathlib.Nat.{not-suc-le-zero}
 use lib.Dec.{eqb, ltb}
 use lib.ListN.{length, getD, replicate}
-use borrow.Author.Tests.{eqb-true, eqb-false, eq-eqb, ne-eqb, ltb-true, lt-ltb, le-ltb, not-true}
-use Rattle.flash.specs.Lists.{range, any}
+use borrow.Author.Tests.{eq-eqb, ne-eqb, ltb-true, lt-ltb, not-true}
 use Rattle.split.specs.OneToOne.{isOneToOne}
 use Rattle.split.specs.Window.{isGood, differWithin}
 use Rattle.split.specs.Mask.{bitAt, FlippedAt}
-use Rattle.flash.proofs.Bools.{bool-cases, never-both, fails, and-left, and-right}
-use Rattle.flash.proofs.Ranges.{all-in, all-is, all-not, none-in, none-is, any-is}
+use Rattle.flash.proofs.Bools.{never-both, fails, and-left, and-right}
+use Rattle.flash.proofs.Ranges.{all-in, all-is, all-not, none-in, none-is}
 use Rattle.split.proofs.Lists.{lt-cases, eq-cases, ne-lt}
 use Rattle.split.proofs.MaskLaws.{zeros-at, no-bits, bit-lt}
 use Rattle.split.proofs.OneToOneLaws.{one-to-one-of, entry-lt, entry-same}

@@ -1,7 +1,6 @@
 -- The proofs of what specs/Claims.antt claims.
 use mathlib.Core.Path.{_≡_, refl}
 use mathlib.Core.Bool.{true}
-use Prim.Native.Nat.{_-_}
 use native.Mathlib.Omega.{arith}
 use borrow.Author.Tests.{eq-eqb}
 use Rattle.flash.specs.Geometry.{originalCount}

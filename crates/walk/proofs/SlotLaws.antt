@@ -1,5 +1,5 @@
 -- Every slot that is summed is one of the store, whatever the marks.
-use mathlib.Core.Path.{_≡_, refl}
+use mathlib.Core.Path.{_≡_}
 use mathlib.Core.Bool.{Bool, true, false, cond, _||_}
 use mathlib.Core.List.{List, [], _∷_, _++_}
 use Prim.Native.Nat.{ℕ, zero, suc, _+_, _-_, _*_, _%_, _≤_, _<_}
@@ -7,16 +7,13 @@ use native.Mathlib.Nat.{not-suc-le-zero, mod-lt}
 use native.Mathlib.Omega.{arith}
 use lib.ListN.{length, getD, take}
 use lib.Seq.{getD-take, length-take-le}
-use Rattle.flash.specs.Lists.{range, any, concatMap}
-use Rattle.flash.specs.Geometry.{Sizes, blockOf, numberAt, slotCount}
+use Rattle.flash.specs.Lists.{range, any}
+use Rattle.flash.specs.Geometry.{Sizes, blockOf, slotCount}
 use Rattle.flash.proofs.Bounds.{slot-in-marks}
 use Rattle.split.specs.Split.{setOf}
 use Rattle.method.specs.Move.{Move}
-use Rattle.method.specs.Cycle.{D, dest, pred, top, isTop, coded, sentTo}
-use Rattle.method.specs.Place.{Pass, forward, backward, written}
+use Rattle.method.specs.Cycle.{D, dest, pred, top, isTop}
 use Rattle.method.specs.Read.{fullOf, codedSlot, plainSlot, finalSlot, goBack, goOn, readSlots}
-use Rattle.method.specs.State.{heldOriginals}
-use Rattle.method.specs.Step.{originalsOf, writeSlots}
 use Rattle.method.proofs.Each.{Each, each-cons, each-one}
 use Rattle.method.proofs.Orbit.{DataBlock}
 use Rattle.method.proofs.Cycles.{entry-in, set-in, block-in, D-page, dest-in, pred-in}

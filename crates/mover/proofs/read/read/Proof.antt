@@ -1,10 +1,9 @@
-use mathlib.Core.Path.{_≡_, sym, ap, _∙_}
+use mathlib.Core.Path.{sym, ap, _∙_}
 use native.Mathlib.Omega.{arith}
 use borrow.Author.Needs.{needs}
 use lib.Dec.{leb}
 use borrow.Author.Tests.{leb-false}
 use Rattle.flash.specs.Chip.{Chip}
-use Rattle.flash.specs.Geometry.{originalCount}
 use Rattle.method.specs.Answers.{fitsNone}
 use Rattle.walk.specs.Moving.{moveOf}
 use Rattle.recovery.proofs.Answer.{same-reading}

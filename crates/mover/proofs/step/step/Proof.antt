@@ -1,11 +1,9 @@
 use mathlib.Core.Path.{sym, _∙_}
-use native.Mathlib.Omega.{arith}
 use borrow.Author.Needs.{needs}
 use Rattle.flash.proofs.Bounds.{block-in-marks, block-in-store}
 use Rattle.method.specs.Place.{write, erase, done, operationAt}
 use Rattle.walk.specs.Moving.{sizesOf, moveOf}
 use Rattle.places.specs.Place.{passOf}
-use Rattle.mover.specs.Steps.{runningOf}
 use Rattle.places.proofs.StepTold.{op-any, IsWrite, is-write, IsErase, is-erase, told-done}
 use Rattle.mover.proofs.StepLaws.{stepped, counted, one-write, one-erase, no-step, erased, nothing}
 use Rattle.mover.proofs.step.step.Statement.{statement}

@@ -1,5 +1,5 @@
 use borrow.Author.Needs.{needs}
-use mathlib.Core.Path.{_≡_, sym, ap, _∙_}
+use mathlib.Core.Path.{sym, ap, _∙_}
 use Rattle.method.specs.Answers.{fitsNone}
 use Rattle.recovery.specs.Found.{readingOf}
 use Rattle.recovery.proofs.marks.fits_none.Statement.{statement}
