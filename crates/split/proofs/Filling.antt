@@ -4,15 +4,13 @@ use mathlib.Core.Logic.{_⊎_, _≢_, ⊎-elim}
 use mathlib.Core.Bool.{true, false, cond, not}
 use mathlib.Core.List.{List, [], _∷_, _++_}
 use Prim.Native.Nat.{ℕ, suc, _+_, _-_, _*_, _%_, _≤_, _<_}
-use native.Mathlib.Nat.{mul-le-mul}
 use native.Mathlib.Numerals.{add-one}
 use native.Mathlib.Omega.{arith}
 use lib.Dec.{eqb}
 use lib.ListN.{length, getD, take, set, replicate, length-set}
-use lib.Seq.{getD-take, getD-set-same, getD-set-other, take-suc-set, take-all}
+use lib.Seq.{getD-take, take-suc-set, take-all}
 use borrow.Author.Tests.{eqb-true, eqb-false, eq-eqb, ne-eqb, not-true, not-false}
 use Rattle.flash.specs.Lists.{range, count}
-use Rattle.split.specs.OneToOne.{isOneToOne}
 use Rattle.split.specs.Split.{setOf}
 use Rattle.split.specs.Rule.{End, source, destination, blockAt, isPageOf, isUsed, lowestUnused, pagesMet, exchange, giveNext, setsGiven, splitByRule}
 use Rattle.split.specs.Claims.{walkOf}
@@ -22,8 +20,6 @@ use Rattle.split.specs.Ends.{Masks}
 use Rattle.split.specs.Work.{Working, Blocked, Exchanged}
 use Rattle.flash.proofs.Bools.{bool-cases}
 use Rattle.flash.proofs.Ranges.{First, first-is}
-use Rattle.split.proofs.Lists.{lt-cases}
-use Rattle.split.proofs.OneToOneLaws.{entry-same}
 use Rattle.split.proofs.SplitLaws.{Proper}
 use Rattle.split.proofs.RuleLaws.{given, Given, used-page, unused-none, lowest}
 use Rattle.split.proofs.MaskLaws.{bit-lt}

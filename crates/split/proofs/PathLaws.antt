@@ -1,5 +1,5 @@
 -- The search for a page of the walk, and what it finds.
-use mathlib.Core.Path.{_≡_, refl, sym, ap, _∙_, subst}
+use mathlib.Core.Path.{_≡_, refl, ap, _∙_}
 use mathlib.Core.Logic.{_⊎_, _≢_, ⊎-elim}
 use mathlib.Core.Bool.{true, false}
 use mathlib.Core.List.{List}
@@ -7,7 +7,6 @@ use Prim.Native.Nat.{ℕ, _+_, _-_, _*_, _/_, _%_, _≤_, _<_}
 use native.Mathlib.Nat.{div-add-mod', mod-lt, mul-le-mul}
 use native.Mathlib.Omega.{arith}
 use lib.ListN.{length, getD}
-use Rattle.flash.specs.Geometry.{blockOf}
 use Rattle.flash.proofs.Bools.{never-both}
 use Rattle.split.specs.Split.{setOf, sourceBlock}
 use Rattle.split.specs.Rule.{End, source, blockAt, isPageOf}

@@ -1,6 +1,6 @@
 // The split rule.
 ghost use mathlib.Core.Path.{_≡_};
-ghost use Prim.Native.Nat.{_+_, _*_, _≤_, _<_};
+ghost use Prim.Native.Nat.{_+_, _*_, _<_};
 ghost use lib.ListN.{length};
 ghost use Rattle.split.specs.Rule.{splitByRule};
 ghost use Rattle.split.specs.Accepted.{Accepted};
