@@ -1,4 +1,6 @@
 // Read's rules 1 to 3: the slots whose pages are summed for an original. They follow from the marks; no byte is looked at.
+// A move is handed on whole, as `z`, `list` and `sets`, and so are its tables: contracts speak of all of it, also where the code
+// needs a part only.
 ghost use mathlib.Core.Path.{_≡_};
 ghost use mathlib.Core.Bool.{cond, _||_};
 ghost use Prim.Native.Nat.{_+_, _-_, _*_, _≤_, _<_};
