@@ -4,12 +4,11 @@ ghost use mathlib.Core.Path.{_≡_};
 ghost use Prim.Native.Nat.{_+_, _*_, _≤_, _<_};
 ghost use lib.ListN.{length};
 ghost use Rattle.flash.specs.Lists.{part};
-ghost use Rattle.flash.specs.PageSum.{_⊕_, putOrAdd};
+ghost use Rattle.flash.specs.PageSum.{putOrAdd};
 ghost use Rattle.flash.specs.Chip.{Holds, isBlank, writePage};
 use crate::ERASED;
 use crate::part::is_filled;
 use crate::part::put_or_add;
-use crate::part::put_sum;
 
 // The slot's page is put into the work page, or added to it.
 pub fn read_page(store: &[u8], p: usize, slot: usize, work: &mut [u8], add: bool)
@@ -20,19 +19,6 @@ pub fn read_page(store: &[u8], p: usize, slot: usize, work: &mut [u8], add: bool
     let from = slot * p;
     let end = from + p;
     put_or_add(work, &store[from..end], add);
-}
-
-// The sum of two slots' pages is put into the work page.
-pub fn read_sum(store: &[u8], p: usize, one: usize, other: usize, work: &mut [u8])
-    requires { ⌜ (one * p + p ≤ length (now store)) × (other * p + p ≤ length (now store)) ⌝ }
-    requires { ⌜ length (now work) ≡ p ⌝ }
-    ensures { λ _. ⌜ now (work .exit) ≡ part p one (now (store .entry)) ⊕ part p other (now (store .entry)) ⌝ }
-{
-    let from = one * p;
-    let end = from + p;
-    let second = other * p;
-    let last = second + p;
-    put_sum(work, &store[from..end], &store[second..last]);
 }
 
 // The work page goes into the slot, with its mark.

@@ -4,7 +4,7 @@ ghost use mathlib.Core.Path.{_≡_};
 ghost use lib.Dec.{eqb};
 ghost use lib.ListN.{length, replicate};
 ghost use Rattle.flash.specs.Lists.{all};
-ghost use Rattle.flash.specs.PageSum.{_⊕_, putOrAdd};
+ghost use Rattle.flash.specs.PageSum.{putOrAdd};
 
 // Every byte of the part becomes `value`.
 pub fn fill(part: &mut [u8], value: u8)
@@ -40,18 +40,6 @@ pub fn put_or_add(target: &mut [u8], page: &[u8], add: bool)
     while i < target.len() {
         let byte = if add { target[i] ^ page[i] } else { page[i] };
         target[i] = byte;
-        i += 1;
-    }
-}
-
-// The sum of two pages is put into `target`: in one pass, where putting one and adding the other takes two.
-pub fn put_sum(target: &mut [u8], one: &[u8], other: &[u8])
-    requires { ⌜ (length (now one) ≡ length (now target)) × (length (now other) ≡ length (now target)) ⌝ }
-    ensures { λ _. ⌜ now (target .exit) ≡ now (one .entry) ⊕ now (other .entry) ⌝ }
-{
-    let mut i = 0;
-    while i < target.len() {
-        target[i] = one[i] ^ other[i];
         i += 1;
     }
 }

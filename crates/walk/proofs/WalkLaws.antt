@@ -45,9 +45,6 @@ pub sum-first : (page : ℕ → List ℕ) (slots : List ℕ) → 0 < length slot
 unfolding sum
 sum-first page slots h = sum-turn page slots 0 h ∙ nil-⊕ (page (getD slots 0 0))
 
-pub sum-two : (page : ℕ → List ℕ) (slots : List ℕ) → 1 < length slots → sum page (take 2 slots) ≡ page (getD slots 0 0) ⊕ page (getD slots 1 0)
-sum-two page slots h = sum-turn page slots 1 h ∙ ap (λ (w : List ℕ). w ⊕ page (getD slots 1 0)) (sum-first page slots (omega arith))
-
 -- ---- slots that are put into the array one after the other: `rest` are those that are left of `all`
 module _ (slots : List ℕ) (count t : ℕ) (rest all : List ℕ) (fits : count < length slots) (now : take count slots ++ rest ≡ all) where
   pub put-next : (more : List ℕ) → rest ≡ t ∷ more → take (count + 1) (set slots count t) ++ more ≡ all

@@ -5,7 +5,6 @@ ghost use lib.ListN.{length, getD, take};
 ghost use Rattle.flash.specs.Lists.{part};
 ghost use Rattle.flash.specs.PageSum.{sum};
 use flash::page::read_page;
-use flash::page::read_sum;
 
 // The sum of the pages of the first `count` slots goes into the work page.
 pub fn sum_pages(store: &[u8], p: usize, slots: &[usize], count: usize, work: &mut [u8])
@@ -13,12 +12,8 @@ pub fn sum_pages(store: &[u8], p: usize, slots: &[usize], count: usize, work: &m
     requires { ⌜ ((j : ℕ) → j < count → getD (now slots) j 0 * p + p ≤ length (now store)) ⌝ }
     ensures { λ _. ⌜ now (work .exit) ≡ sum (λ t. part p t (now (store .entry))) (take count (now (slots .entry))) ⌝ }
 {
-    if count == 1 {
-        read_page(store, p, slots[0], work, false);
-        return;
-    }
-    read_sum(store, p, slots[0], slots[1], work);
-    let mut i = 2;
+    read_page(store, p, slots[0], work, false);
+    let mut i = 1;
     while i < count {
         read_page(store, p, slots[i], work, true);
         i += 1;

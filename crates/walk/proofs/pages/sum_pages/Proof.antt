@@ -6,12 +6,12 @@ use borrow.Author.Needs.{needs}
 use lib.ListN.{length, getD, take}
 use Rattle.flash.specs.Lists.{part}
 use Rattle.flash.specs.PageSum.{_⊕_, sum, putOrAdd}
-use Rattle.walk.proofs.WalkLaws.{sum-first, sum-two, sum-turn}
+use Rattle.walk.proofs.WalkLaws.{sum-first, sum-turn}
 use Rattle.walk.proofs.pages.sum_pages.Statement.{statement}
 use Rattle.walk.proofs.pages.sum_pages.Tie as tie
 
 abbrev Inv-loop : tie.InvT-loop
-Inv-loop store p slots count work₀ i₀ work i = (work ≡ sum (λ t. part p t store) (take i slots)) × (2 ≤ i) × (i ≤ count) × (length work ≡ p)
+Inv-loop store p slots count work₀ i₀ work i = (work ≡ sum (λ t. part p t store) (take i slots)) × (1 ≤ i) × (i ≤ count) × (length work ≡ p)
 
 abbrev μ-loop : tie.MeasureT-loop
 μ-loop store p slots count work₀ i₀ work i = count - i
@@ -20,33 +20,14 @@ shared-slice-read-read-page : tie.Need-shared-slice-read-read-page Inv-loop μ-l
 shared-slice-read-read-page c = search needs
 
 read-page-requires : tie.Need-read-page-requires Inv-loop μ-loop
-read-page-requires c κs = (c .before .before .before .before .before .before .pre .1 0 (omega arith), omega arith)
-
-same-length : tie.Need-same-length Inv-loop μ-loop
-same-length c = search needs
-
-returns : tie.Need-returns Inv-loop μ-loop
-unfolding putOrAdd
-returns c =
-    let a = c .before .before .before .before .before .before .before .before .before .args in
-    let page : ℕ → List ℕ = λ t. part (a .p) t (a .store .now) in
-    let one : 1 ≡ a .count = sym (c .before .before .before .before .before .if1 .taken) in
-    c .before .before .read-page .ensures ∙ sym (sum-first page (a .slots .now) (omega arith)) ∙ ap (λ (n : ℕ). sum page (take n (a .slots .now))) one
-
-shared-slice-read-read-sum : tie.Need-shared-slice-read-read-sum Inv-loop μ-loop
-shared-slice-read-read-sum c = search needs
-
-shared-slice-read-read-sum-2 : tie.Need-shared-slice-read-read-sum-2 Inv-loop μ-loop
-shared-slice-read-read-sum-2 c = search needs
-
-read-sum-requires : tie.Need-read-sum-requires Inv-loop μ-loop
-read-sum-requires c κs = let start = c .before .before .before .before .before .before .before in ((start .pre .1 0 (omega arith), start .pre .1 1 (omega arith)), omega arith)
+read-page-requires c κs = let start = c .before .before .before .before .before in (start .pre .1 0 (omega arith), omega arith)
 
 loop-holds : tie.Need-loop-holds Inv-loop μ-loop
+unfolding putOrAdd
 loop-holds c =
-    let r = c .before .before .read-sum in
-    let a = c .before .before .before .before .before .before .before .before .before .before .args in
-    (r .ensures ∙ sym (sum-two (λ t. part (a .p) t (a .store .now)) (a .slots .now) (omega arith)), omega arith, omega arith, omega (arith, r .kept .1 .1 .1 .1 .0))
+    let r = c .before .before .read-page in
+    let a = c .before .before .before .before .before .before .before .before .args in
+    (r .ensures ∙ sym (sum-first (λ t. part (a .p) t (a .store .now)) (a .slots .now) (omega arith)), omega arith, omega arith, omega (arith, r .kept .1 .1 .1 .0))
 
 mul-read-page : tie.Need-mul-read-page Inv-loop μ-loop
 mul-read-page c = search needs
@@ -55,7 +36,9 @@ shared-slice-read-read-page-2 : tie.Need-shared-slice-read-read-page-2 Inv-loop 
 shared-slice-read-read-page-2 c = search needs
 
 read-page-requires-2 : tie.Need-read-page-requires-2 Inv-loop μ-loop
-read-page-requires-2 c κs = (c .before .before .before .before .before .before .before .before .before .before .before .before .before .before .pre .1 (c .before .before .before .loop .i) (c .before .before .loop-test .taken), omega arith)
+read-page-requires-2 c κs =
+    let l = c .before .before .before in
+    (l .before .before .before .before .before .before .before .before .before .pre .1 (l .loop .i) (c .before .before .loop-test .taken), omega arith)
 
 add-i : tie.Need-add-i Inv-loop μ-loop
 add-i c = search needs
@@ -68,17 +51,17 @@ unfolding putOrAdd
 loop-again c =
     let r = c .before .before .read-page2 in
     let l = c .before .before .before .before .before .before .loop in
-    let a = c .before .before .before .before .before .before .before .before .before .before .before .before .before .before .before .before .before .args in
+    let a = c .before .before .before .before .before .before .before .before .before .before .before .before .before .before .before .args in
     let page : ℕ → List ℕ = λ t. part (a .p) t (a .store .now) in
     (r .ensures ∙ ap (λ (w : List ℕ). w ⊕ page (getD (a .slots .now) (l .i) 0)) (l .inv .0) ∙ sym (sum-turn page (a .slots .now) (l .i) (omega arith)), omega arith, omega arith, omega (arith, r .kept .1 .1 .1 .0))
 
-same-length-2 : tie.Need-same-length-2 Inv-loop μ-loop
-same-length-2 c = search needs
+same-length : tie.Need-same-length Inv-loop μ-loop
+same-length c = search needs
 
-returns-2 : tie.Need-returns-2 Inv-loop μ-loop
-returns-2 c =
+returns : tie.Need-returns Inv-loop μ-loop
+returns c =
     let l = c .before .loop in
-    let all : l .i ≡ c .before .before .before .before .before .before .before .before .before .before .before .before .args .count = omega arith in
+    let all : l .i ≡ c .before .before .before .before .before .before .before .before .before .before .args .count = omega arith in
     rw all at (l .inv .0)
 
 pub sum-pages-spec : {M : Type 1} → statement M
@@ -89,11 +72,6 @@ sum-pages-spec =
     μ-loop
     shared-slice-read-read-page
     read-page-requires
-    same-length
-    returns
-    shared-slice-read-read-sum
-    shared-slice-read-read-sum-2
-    read-sum-requires
     loop-holds
     mul-read-page
     shared-slice-read-read-page-2
@@ -101,5 +79,5 @@ sum-pages-spec =
     add-i
     loop-less
     loop-again
-    same-length-2
-    returns-2)
+    same-length
+    returns)
