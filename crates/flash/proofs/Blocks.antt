@@ -1,6 +1,6 @@
 -- Laws of marks: when a block is full of a letter, or unfinished.
 use mathlib.Core.Path.{_≡_, refl, sym, _∙_}
-use mathlib.Core.Logic.{_≢_, ⊎-elim}
+use mathlib.Core.Logic.{_≢_}
 use mathlib.Core.Bool.{Bool, true, false, or-true}
 use mathlib.Core.List.{List, [], _∷_}
 use Prim.Native.Nat.{ℕ, zero, suc, _+_, _*_, _≤_, _<_}
@@ -9,11 +9,11 @@ use native.Mathlib.Omega.{arith}
 use lib.Dec.{eqb}
 use lib.ListN.{length, getD}
 use borrow.Author.Tests.{eqb-true, eq-eqb, ne-eqb}
-use Rattle.flash.specs.Lists.{range, all, any, part}
+use Rattle.flash.specs.Lists.{range, all, part}
 use Rattle.flash.specs.Geometry.{slot}
 use Rattle.flash.specs.Chip.{erased, markAt, isFull, isUnfinished, letterOf, noLetter}
-use Rattle.flash.proofs.Bools.{bool-cases, never-both, fails, bool-eq}
-use Rattle.flash.proofs.Searches.{all-at, all-of, first-none, first-passes}
+use Rattle.flash.proofs.Bools.{never-both, fails, bool-eq}
+use Rattle.flash.proofs.Searches.{all-at, all-of, first-none}
 use Rattle.flash.proofs.Ranges.{all-in, all-is, all-not, none-is, first-hit, first-is}
 use Rattle.flash.proofs.Parts.{length-part, part-at}
 
@@ -100,25 +100,11 @@ module _ (m : ℕ) (marks : List ℕ) (block : ℕ) where
       first-none (isFull m marks block) (range 0 3) noLetter
       (none-is (isFull m marks block) 0 3 (λ letter a b. unfinished-at letter (omega arith) u))
 
-  pub letter-full : letterOf m marks block < 3 → isFull m marks block (letterOf m marks block) ≡ true
-  unfolding letterOf
-  letter-full h =
-      ⊎-elim
-      (λ q. first-passes (isFull m marks block) (range 0 3) noLetter q)
-      (λ q. absurd (omega (arith, first-none (isFull m marks block) (range 0 3) noLetter q)))
-      (bool-cases (any (isFull m marks block) (range 0 3)))
-
   none-unfinished : letterOf m marks block ≡ noLetter → isUnfinished m marks block ≡ true
   unfolding letterOf
   none-unfinished none =
       unfinished-of
       (λ letter l. fails (λ e. omega (arith, first-hit (isFull m marks block) 0 3 letter noLetter (omega arith) (omega arith) e .high)))
-
-  pub unfinished-is : isUnfinished m marks block ≡ eqb (letterOf m marks block) noLetter
-  unfinished-is =
-      bool-eq (isUnfinished m marks block) (eqb (letterOf m marks block) noLetter)
-      (λ u. eq-eqb _ _ (letter-none u))
-      (λ e. none-unfinished (eqb-true _ _ e))
 
   -- no other letter than its first mark can fill a block
   pub unfinished-first : (mark : ℕ) → 0 < m → markAt marks (slot m block 0) ≡ mark
@@ -151,12 +137,3 @@ module _ (m : ℕ) (marks : List ℕ) (block : ℕ) where
       (λ page h.
       sym (part-at m block marks page erased h)
       ∙ eqb-true _ _ (all-at (λ mark. eqb mark letter) (part m block marks) page erased e (omega arith))))
-
--- marks that agree on a block fill it alike
-pub full-same-marks : (m block letter : ℕ) (marks other : List ℕ)
-    → ((page : ℕ) → page < m → markAt marks (slot m block page) ≡ markAt other (slot m block page))
-    → isFull m marks block letter ≡ isFull m other block letter
-full-same-marks m block letter marks other same =
-    bool-eq (isFull m marks block letter) (isFull m other block letter)
-    (λ e. full-of m other block letter (λ page h. sym (same page h) ∙ full-at m marks block letter page e h))
-    (λ e. full-of m marks block letter (λ page h. same page h ∙ full-at m other block letter page e h))

@@ -1,5 +1,5 @@
 -- What an erase and a write do to the page and the mark of each slot.
-use mathlib.Core.Path.{_≡_, refl, sym, ap, ap₂, _∙_}
+use mathlib.Core.Path.{_≡_, refl, sym, ap, _∙_}
 use mathlib.Core.Logic.{_≢_}
 use mathlib.Core.Bool.{Bool, true, false}
 use mathlib.Core.List.{List}
@@ -11,16 +11,10 @@ use lib.Seq.{getD-set-same, getD-set-other, ext-getD}
 use borrow.Author.Tests.{eqb-true, eq-eqb, ne-eqb}
 use Rattle.flash.specs.Lists.{all, part}
 use Rattle.flash.specs.Geometry.{slot}
-use Rattle.flash.specs.Chip.{Chip, Holds, erased, pageAt, markAt, isBlank, eraseBlock, writePage}
+use Rattle.flash.specs.Chip.{Chip, erased, pageAt, markAt, isBlank, eraseBlock, writePage}
 use Rattle.flash.proofs.Bools.{and-left, and-right}
 use Rattle.flash.proofs.Searches.{all-at, all-of}
 use Rattle.flash.proofs.Parts.{part-fits, length-part, part-at, length-setPart, setPart-at, part-setPart, part-setPart-other, part-part, part-replicate}
-
--- lent parts that hold a chip make that chip
-pub holds-chip : (chip : Chip) (store marks : List ℕ) → Holds chip store marks
-    → _≡_ {A = Chip} (record { store = store; marks = marks }) chip
-holds-chip chip store marks H =
-    ap₂ {C = Chip} (λ (s t : List ℕ). record { store = s; marks = t }) (H .store-is) (H .marks-is)
 
 -- a page is a part of the store
 pub page-is : (P : ℕ) (chip : Chip) (t : ℕ) → pageAt P chip t ≡ part P t (chip .store)

@@ -1,7 +1,7 @@
 -- Laws of `range`, and of tests, counts and searches over one.
 use mathlib.Core.Path.{_≡_, refl, sym, ap, _∙_}
 use mathlib.Core.Logic.{⊎-elim}
-use mathlib.Core.Bool.{Bool, true, false, cond, _&&_, _||_, and-true, or-false}
+use mathlib.Core.Bool.{Bool, true, false, cond, _||_, or-false}
 use mathlib.Core.List.{List, [], _∷_, _++_}
 use Prim.Native.Nat.{ℕ, zero, suc, _+_, _-_, _≤_, _<_}
 use native.Mathlib.Nat.{not-suc-le-zero, le-of-suc-le-suc, add-zero}
@@ -11,7 +11,7 @@ use lib.ListN.{length, getD}
 use borrow.Author.Tests.{eqb-true, eqb-false}
 use Rattle.flash.specs.Lists.{range, all, any, count, first}
 use Rattle.flash.proofs.Bools.{bool-cases, never-both, fails}
-use Rattle.flash.proofs.Searches.{all-append, any-append, count-append, first-append, all-at, all-of, none-at, none-of, count-none, none-counted}
+use Rattle.flash.proofs.Searches.{any-append, count-append, all-at, all-of, none-at, none-of, count-none, none-counted}
 
 pub length-range : (start size : ℕ) → length (range start size) ≡ size
 unfolding range
@@ -41,10 +41,6 @@ unfolding range
 range-more start size = range-append start size 1
 
 module _ (test : ℕ → Bool) (start size : ℕ) where
-  pub all-more : all test (range start (size + 1)) ≡ (all test (range start size) && test (start + size))
-  unfolding all
-  all-more = rw (range-more start size, all-append test (range start size), and-true)
-
   pub any-more : any test (range start (size + 1)) ≡ (any test (range start size) || test (start + size))
   unfolding any
   any-more = rw (range-more start size, any-append test (range start size), or-false)
@@ -52,11 +48,6 @@ module _ (test : ℕ → Bool) (start size : ℕ) where
   pub count-more : count test (range start (size + 1)) ≡ count test (range start size) + cond (test (start + size)) 1 0
   unfolding count
   count-more = rw (range-more start size) (count-append test (range start size) ((start + size) ∷ []))
-
-  pub first-more : (otherwise : ℕ)
-      → first test (range start (size + 1)) otherwise ≡ first test (range start size) (cond (test (start + size)) (start + size) otherwise)
-  unfolding first
-  first-more otherwise = rw (range-more start size) (first-append test (range start size) ((start + size) ∷ []) otherwise)
 
   index : (j : ℕ) → start ≤ j → j < start + size → getD (range start size) (j - start) 0 ≡ j
   index j a b = range-at start size (j - start) 0 (omega arith) ∙ omega arith

@@ -71,11 +71,6 @@ module _ (page : ℕ → List ℕ) where
   pub sum-more : (ts : List ℕ) (t : ℕ) → sum page (ts ++ (t ∷ [])) ≡ sum page ts ⊕ page t
   sum-more ts t = sum-append ts (t ∷ []) ∙ ap (λ (s : List ℕ). sum page ts ⊕ s) (sum-one t)
 
-  -- the same with the pages that are left
-  pub sum-next : (work : List ℕ) (t : ℕ) (ts : List ℕ) → work ⊕ sum page (t ∷ ts) ≡ work ⊕ page t ⊕ sum page ts
-  unfolding sum
-  sum-next work t ts = sym (⊕-assoc work (page t) (sum page ts))
-
 -- sums of the same pages are equal
 pub sum-same : (page other : ℕ → List ℕ) (ts : List ℕ)
     → ((i : ℕ) → i < length ts → page (getD ts i 0) ≡ other (getD ts i 0)) → sum page ts ≡ sum other ts

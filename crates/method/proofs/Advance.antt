@@ -96,11 +96,6 @@ module _ (M : Move) (B : Bounds (M .sizes)) (chip : Chip) (work : List ℕ) (L :
       blank = new-blank;
     }
 
-    -- "only when blank"
-    pub was-blank : isBlank P chip (slot m b q) ≡ true
-    unfolding heldMark
-    was-blank = S .blank (slot m b q) inside (old-marks .mark-is b q (W .block-in) (W .page-in) ∙ ap (heldMark Z) (W .before))
-
   -- a block is erased
   module _ (b : ℕ) (E : Erases Z place b) where
     abbrev wiped : Chip

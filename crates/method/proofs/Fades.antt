@@ -48,14 +48,6 @@ module _ (Z : Sizes) where
   pub fades-refl : (chip : Chip) → Fades chip chip
   fades-refl chip = record { slot = λ t. inl (record { mark = refl; page = refl }) }
 
-  pub fades-trans : (one two three : Chip) → Fades one two → Fades two three → Fades one three
-  fades-trans one two three F G = record { slot = λ t. go t (F .slot t) (G .slot t) }
-    where
-      go : (t : ℕ) → Kept Z one two t ⊎ Torn Z two t → Kept Z two three t ⊎ Torn Z three t → Kept Z one three t ⊎ Torn Z three t
-      go t x (inr b) = inr b
-      go t (inl a) (inl b) = inl (record { mark = b .mark ∙ a .mark; page = b .page ∙ a .page })
-      go t (inr a) (inl b) = inr (torn-of three t (b .mark ∙ torn-mark two t a))
-
   -- a cut inside any operation
   touched-fades : (operation : Operation) (before after : Chip) (t : ℕ) → Touched Z operation before after t → Kept Z before after t ⊎ Torn Z after t
   touched-fades (write pass block page) before after t x = inr x

@@ -1,13 +1,13 @@
 -- The top of a cycle in an accepted move: it is the highest block that is reached from any block of the cycle.
 use mathlib.Core.Path.{_≡_, refl, sym, ap, _∙_}
-use mathlib.Core.Logic.{_⊎_, inl, inr, ⊎-elim, _≢_}
-use mathlib.Core.Bool.{true, false}
+use mathlib.Core.Logic.{_⊎_, inl, inr, ⊎-elim}
+use mathlib.Core.Bool.{true}
 use mathlib.Core.List.{List, [], _∷_}
 use Prim.Native.Nat.{ℕ, zero, suc, _+_, _≤_, _<_, max}
 use native.Mathlib.Nat.{not-suc-le-zero, le-antisymm}
 use native.Mathlib.Omega.{arith}
 use lib.ListN.{length, getD}
-use borrow.Author.Tests.{eqb-true, eqb-false, eq-eqb}
+use borrow.Author.Tests.{eqb-true, eq-eqb}
 use Rattle.flash.specs.Lists.{iterates}
 use Rattle.flash.specs.Geometry.{Sizes}
 use Rattle.split.proofs.Lists.{lt-cases}
@@ -123,10 +123,6 @@ module _ (M : Move) (set i : ℕ) where
   pub isTop-true : isTop M set i ≡ true → top M set i ≡ i
   unfolding isTop
   isTop-true = eqb-true (top M set i) i
-
-  pub isTop-false : isTop M set i ≡ false → top M set i ≢ i
-  unfolding isTop
-  isTop-false = eqb-false (top M set i) i
 
   pub top-isTop : top M set i ≡ i → isTop M set i ≡ true
   unfolding isTop
