@@ -5,7 +5,7 @@ ghost use Prim.Native.Nat.{_+_, _*_, _≤_};
 ghost use lib.ListN.{length, take};
 ghost use Rattle.c_api.specs.Bytes.{entriesWithin};
 
-fn word(low: u8, high: u8) -> u16
+fn entry(low: u8, high: u8) -> u16
     ensures { λ r. ⌜ r ≡ low + high * 256 ⌝ }
 {
     (low as u16) + (high as u16) * 256
@@ -23,7 +23,7 @@ pub fn decode(bytes: &[u8], list: &mut [u16]) -> usize
     while i < count {
         let low = bytes[2 * i];
         let high = bytes[2 * i + 1];
-        list[i] = word(low, high);
+        list[i] = entry(low, high);
         i += 1;
     }
     count

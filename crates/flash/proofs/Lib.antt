@@ -1,4 +1,5 @@
 pub mod Bools
+pub mod Comparisons
 pub mod Tables
 pub mod Searches
 pub mod Ranges

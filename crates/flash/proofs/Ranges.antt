@@ -1,6 +1,6 @@
 -- Laws of `range`, and of tests, counts and searches over one.
 use mathlib.Core.Path.{_≡_, refl, sym, ap, _∙_}
-use mathlib.Core.Logic.{⊎-elim}
+use mathlib.Core.Logic.{_⊎_, inl, inr, ⊎-elim}
 use mathlib.Core.Bool.{Bool, true, false, cond, _||_, or-false}
 use mathlib.Core.List.{List, [], _∷_, _++_}
 use Prim.Native.Nat.{ℕ, zero, suc, _+_, _-_, _≤_, _<_}
@@ -11,7 +11,7 @@ use lib.ListN.{length, getD}
 use borrow.Author.Tests.{eqb-true, eqb-false}
 use Rattle.flash.specs.Lists.{range, all, any, count, first}
 use Rattle.flash.proofs.Bools.{bool-cases, never-both, fails}
-use Rattle.flash.proofs.Searches.{any-append, count-append, all-at, all-of, none-at, none-of, count-none, none-counted}
+use Rattle.flash.proofs.Searches.{any-append, count-append, all-at, all-of, none-at, none-of, any-find, count-none, none-counted, first-none}
 
 pub length-range : (start size : ℕ) → length (range start size) ≡ size
 unfolding range
@@ -123,6 +123,28 @@ first-is test start size otherwise r F =
     let after : r′ < r → ⊥ = λ h. never-both (f .passes) (F .before r′ (f .low) h) in
     let before : r < r′ → ⊥ = λ h. never-both (F .passes) (f .before r (F .low) h) in
     omega arith
+
+module _ (test : ℕ → Bool) where
+  pub any-range-find : (start size : ℕ) → any test (range start size) ≡ true → (x : ℕ) × (start ≤ x) × (x < start + size) × (test x ≡ true)
+  any-range-find start size e =
+      let r = any-find test (range start size) 0 e in
+      let h : r .0 < size = rw (length-range start size) at (r .1) in
+      (start + r .0, omega arith, omega arith, rw (range-at start size (r .0) 0 h) at (r .2))
+
+  -- what a search in a range comes to: the first that passes, or `otherwise` where none does
+  pub record Missed (start size otherwise r : ℕ) : Type 0 where
+    pub is : r ≡ otherwise
+    pub none : (x : ℕ) → start ≤ x → x < start + size → test x ≡ false
+
+  pub first-cases : (start size otherwise : ℕ) → First test start size (first test (range start size) otherwise) ⊎ Missed start size otherwise
+      (first test (range start size) otherwise)
+  first-cases start size otherwise = ⊎-elim
+      (λ (q : any test (range start size) ≡ true).
+      let r = any-range-find start size q in
+      inl (first-hit test start size (r .0) otherwise (r .1) (r .2) (r .3)))
+      (λ (q : any test (range start size) ≡ false).
+      inr (record { is = first-none test (range start size) otherwise q; none = none-in test start size q }))
+      (bool-cases (any test (range start size)))
 
 -- one number of the range passes, and no other
 pub record Only (test : ℕ → Bool) (start size k : ℕ) : Type 0 where

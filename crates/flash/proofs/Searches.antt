@@ -66,6 +66,14 @@ module _ {A : Type 0} (test : A → Bool) where
   pub any-of : (xs : List A) (i : ℕ) (d : A) → i < length xs → test (getD xs i d) ≡ true → any test xs ≡ true
   any-of xs i d h e = ⊎-elim (λ q. q) (λ q. absurd (never-both e (none-at xs i d q h))) (bool-cases (any test xs))
 
+  pub any-find : (xs : List A) (d : A) → any test xs ≡ true → (i : ℕ) × (i < length xs) × (test (getD xs i d) ≡ true)
+  unfolding any
+  any-find [] d e = absurd (never-both e refl)
+  any-find (x ∷ xs) d e = ⊎-elim
+      (λ (q : test x ≡ true). (0, omega arith, q))
+      (λ (q : test x ≡ false). (let r = any-find xs d (rw q at e) in (suc (r .0), omega (arith, r .1), r .2)))
+      (bool-cases (test x))
+
   pub count-le : (xs : List A) → count test xs ≤ length xs
   unfolding count
   count-le [] = omega arith

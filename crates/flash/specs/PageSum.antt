@@ -16,6 +16,10 @@ unfoldable pub sum : (page : ℕ → List ℕ) → List ℕ → List ℕ
 sum page [] = []
 sum page (t ∷ ts) = page t ⊕ sum page ts
 
+-- One page, or the sum of two.
+unfoldable pub oneOrBoth : (both : Bool) → (one other : List ℕ) → List ℕ
+oneOrBoth both one other = cond both (one ⊕ other) one
+
 -- A page is put into the work page, or added to what is there.
 unfoldable pub putOrAdd : (add : Bool) → (work page : List ℕ) → List ℕ
 putOrAdd add work page = cond add (work ⊕ page) page

@@ -1,4 +1,4 @@
-// Bytes and list entries as `usize`, and back.
+// Bytes, list entries and words of 32 bits as `usize`, and back.
 ghost use mathlib.Core.Path.{_≡_};
 ghost use Prim.Native.Nat.{_<_};
 
@@ -9,6 +9,12 @@ pub fn entry(x: u16) -> usize
 }
 
 pub fn wide(x: u8) -> usize
+    ensures { λ r. ⌜ r ≡ x ⌝ }
+{
+    x as usize
+}
+
+pub fn word(x: u32) -> usize
     ensures { λ r. ⌜ r ≡ x ⌝ }
 {
     x as usize

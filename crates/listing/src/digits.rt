@@ -6,6 +6,7 @@ ghost use lib.ListN.{length};
 ghost use Rattle.flash.specs.Lists.{concatMap};
 ghost use Rattle.listing.specs.Digits.{digitOf, digits, places, decimal, hex};
 ghost use Rattle.listing.specs.Lines.{Printed};
+use flash::wide::wide;
 
 fn digit_of(d: usize) -> u8
     requires { ⌜ d < 16 ⌝ }
@@ -49,12 +50,6 @@ pub fn put_decimal(out: &mut [u8], at: usize, n: usize) -> usize
     ensures { λ r. ⌜ Printed (decimal n) (now (out .entry)) at (now (out .exit)) r ⌝ }
 {
     put_digits(out, at, 10, count_places(n), n)
-}
-
-fn wide(byte: u8) -> usize
-    ensures { λ r. ⌜ r ≡ byte ⌝ }
-{
-    byte as usize
 }
 
 pub fn put_hex(out: &mut [u8], at: usize, bytes: &[u8]) -> usize

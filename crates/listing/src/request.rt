@@ -13,6 +13,7 @@ use crate::fit::fit;
 use crate::number::Found;
 use crate::number::number;
 use flash::sizes::original_count;
+use flash::wide::word;
 
 pub const INPUT_LIMIT: usize = 4096;
 
@@ -56,12 +57,6 @@ pub enum SizesRead {
     Unreadable,
 }
 
-fn wide(number: u32) -> usize
-    ensures { λ r. ⌜ r ≡ number ⌝ }
-{
-    number as usize
-}
-
 fn read_sizes(text: &[u8]) -> SizesRead
     ensures { λ r. ⌜ sizesAs (now (text .entry)) r ≡ taken [] 4 (numbersIn (now (text .entry))) ⌝ }
 {
@@ -70,10 +65,10 @@ fn read_sizes(text: &[u8]) -> SizesRead
         return SizesRead::Unreadable;
     };
     SizesRead::Sizes {
-        n: wide(four[0]),
-        m: wide(four[1]),
-        p: wide(four[2]),
-        s: wide(four[3]),
+        n: word(four[0]),
+        m: word(four[1]),
+        p: word(four[2]),
+        s: word(four[3]),
         next,
     }
 }

@@ -10,7 +10,7 @@ use Rattle.flash.specs.Tables.{Row}
 use Rattle.flash.specs.Geometry.{Sizes}
 use Rattle.flash.proofs.Bools.{bool-cases}
 use Rattle.flash.proofs.Bounds.{in-range}
-use Rattle.split.proofs.Lists.{lt-cases}
+use Rattle.flash.proofs.Comparisons.{lt-cases}
 use Rattle.method.specs.Place.{Pass, forward, backward, lastPlace}
 use Rattle.method.specs.Mend.{Reading, forwardTorn, backwardTorn, forwardFull, backwardFull, lines, legalMarks, reading}
 use Rattle.method.specs.Claims.{WrittenNext, ErasesNext}

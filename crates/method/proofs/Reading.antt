@@ -12,8 +12,8 @@ use Rattle.flash.specs.Chip.{Chip}
 use Rattle.flash.proofs.Bools.{bool-cases, never-both, or-false-left, or-false-right, fails}
 use Rattle.flash.proofs.Ranges.{any-is, none-is}
 use Rattle.flash.proofs.Blocks.{full-same}
+use Rattle.flash.proofs.Comparisons.{lt-cases}
 use Rattle.split.specs.Split.{setOf}
-use Rattle.split.proofs.Lists.{lt-cases}
 use Rattle.method.specs.Move.{Move, letter}
 use Rattle.method.specs.Cycle.{dest, pred, top, isTop}
 use Rattle.method.specs.Read.{fullOf, plainSlot, finalSlot, goBack, goOn, readSlots, readPage}

@@ -16,8 +16,8 @@ use Rattle.flash.proofs.Bools.{never-both}
 use Rattle.flash.proofs.Blocks.{full-at}
 use Rattle.flash.proofs.Parts.{part-fits, length-part}
 use Rattle.flash.proofs.Sums.{⊕-nil, ⊕-comm, ⊕-cancel, sum-one}
+use Rattle.flash.proofs.Comparisons.{lt-cases}
 use Rattle.split.specs.Split.{destBlock}
-use Rattle.split.proofs.Lists.{lt-cases}
 use Rattle.split.proofs.OneToOneLaws.{Distinct}
 use Rattle.method.specs.Move.{Move, letter}
 use Rattle.method.specs.Cycle.{coded}

@@ -10,7 +10,7 @@ use lib.ListN.{length, getD}
 use borrow.Author.Tests.{eqb-true, eq-eqb}
 use Rattle.flash.specs.Lists.{iterates}
 use Rattle.flash.specs.Geometry.{Sizes}
-use Rattle.split.proofs.Lists.{lt-cases}
+use Rattle.flash.proofs.Comparisons.{lt-cases}
 use Rattle.method.specs.Move.{Move}
 use Rattle.method.specs.Cycle.{highest, dest, pred, cycle, top, isTop}
 use Rattle.method.proofs.Shape.{Accepted}

@@ -15,7 +15,7 @@ use Rattle.flash.specs.Chip.{Chip, erased, markAt, isBlank, isFull}
 use Rattle.flash.proofs.Bools.{never-both, bool-eq}
 use Rattle.flash.proofs.Ranges.{all-in, all-is, all-not}
 use Rattle.flash.proofs.Same.{eq-same, ne-same}
-use Rattle.split.proofs.Lists.{lt-cases}
+use Rattle.flash.proofs.Comparisons.{lt-cases}
 use Rattle.method.specs.Move.{Move, letter}
 use Rattle.method.specs.Place.{Pass, forward, backward, lastPlace, passAt, filling, filled, Held, code, written, above, heldAt, heldMark, marksOf}
 use Rattle.method.specs.Answers.{isElsewhere}

@@ -5,7 +5,7 @@ use mathlib.Core.Bool.{Bool, true, false}
 use Prim.Native.Nat.{ℕ, _+_, _≤_, _<_}
 use native.Mathlib.Omega.{arith}
 use Rattle.flash.specs.Geometry.{Sizes}
-use Rattle.split.proofs.Lists.{lt-cases}
+use Rattle.flash.proofs.Comparisons.{lt-cases}
 use Rattle.method.specs.Move.{letter}
 use Rattle.method.specs.Place.{Pass, forward, backward, Operation, write, erase, done, markOf, writes, forwardTurn, backwardTurn, operations, lastPlace, operationAt, passAt, filling, filled}
 use Rattle.method.proofs.Indexes.{clash}

@@ -14,7 +14,7 @@ use Rattle.split.specs.Window.{isGood, differWithin}
 use Rattle.split.specs.Mask.{bitAt, FlippedAt}
 use Rattle.flash.proofs.Bools.{never-both, fails, and-left, and-right}
 use Rattle.flash.proofs.Ranges.{all-in, all-is, all-not, none-in, none-is}
-use Rattle.split.proofs.Lists.{lt-cases, eq-cases, ne-lt}
+use Rattle.flash.proofs.Comparisons.{lt-cases, eq-cases, ne-lt}
 use Rattle.split.proofs.MaskLaws.{zeros-at, no-bits, bit-lt}
 use Rattle.split.proofs.OneToOneLaws.{one-to-one-of, entry-lt, entry-same}
 

@@ -13,9 +13,8 @@ use Rattle.flash.specs.Lists.{range, any}
 use Rattle.split.specs.Split.{setOf}
 use Rattle.split.specs.Rule.{End, source, destination, otherEnd, swapped, blockAt, exchange}
 use Rattle.flash.proofs.Bools.{bool-cases, never-both}
-use Rattle.flash.proofs.Searches.{any-of}
+use Rattle.flash.proofs.Searches.{any-of, any-find}
 use Rattle.flash.proofs.Ranges.{length-range}
-use Rattle.split.proofs.Lists.{any-find}
 use Rattle.split.proofs.SplitLaws.{Proper}
 use Rattle.split.proofs.Walk.{Coloured, PageAt, metAs, metAs-two, Leads, leads-same, other-twice, path, path-head, path-chain, path-inside, path-closed, path-first, first-page}
 

@@ -1,4 +1,3 @@
-pub mod Lists
 pub mod Pigeon
 pub mod OneToOneLaws
 pub mod SplitLaws

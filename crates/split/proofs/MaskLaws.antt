@@ -16,7 +16,7 @@ use lib.Bits.{bitXor, xor-step, xor-shr, differ}
 use Rattle.flash.specs.Lists.{range, first}
 use Rattle.split.specs.Mask.{bitAt, Flipped, FlippedAt, FlippedBoth}
 use Rattle.flash.proofs.Bools.{bool-cases}
-use Rattle.split.proofs.Lists.{lt-cases, eq-cases}
+use Rattle.flash.proofs.Comparisons.{lt-cases, eq-cases}
 
 pub bit-lt : (mask bit : ℕ) → bitAt mask bit < 2
 bit-lt mask bit = mod-lt (mask / 2 ^ bit) {m = 2} (omega arith)

@@ -15,10 +15,10 @@ use Rattle.split.specs.Split.{setOf}
 use Rattle.split.specs.Rule.{End, blockAt, isPageOf}
 use Rattle.split.specs.Mask.{bitAt, FlippedAt, FlippedBoth}
 use Rattle.split.specs.Ends.{Masks}
-use Rattle.flash.proofs.Bools.{bool-cases, never-both, and-left, and-right, fails}
+use Rattle.flash.proofs.Bools.{bool-cases, never-both, and-left, and-right, fails, and-both}
 use Rattle.flash.proofs.Searches.{count-none}
 use Rattle.flash.proofs.Ranges.{none-is, count-more, one-counted}
-use Rattle.split.proofs.Lists.{and-both, eq-cases}
+use Rattle.flash.proofs.Comparisons.{eq-cases}
 use Rattle.split.proofs.Pigeon.{seek}
 use Rattle.split.proofs.MaskLaws.{zeros-at, no-bits}
 use Rattle.split.proofs.SplitLaws.{Proper}

@@ -11,8 +11,7 @@ use borrow.Author.Tests.{eqb-true, eq-eqb, leb-true, leb-false, not-true}
 use Rattle.flash.specs.Lists.{any}
 use Rattle.split.specs.OneToOne.{metTwice, badList, isOneToOne}
 use Rattle.flash.proofs.Bools.{never-both, fails, or-false-left, or-false-right}
-use Rattle.flash.proofs.Searches.{none-at}
-use Rattle.split.proofs.Lists.{any-find}
+use Rattle.flash.proofs.Searches.{none-at, any-find}
 use Rattle.split.proofs.Pigeon.{onto}
 
 abbrev pub Distinct : List ℕ → Type 0

@@ -8,13 +8,13 @@ use native.Mathlib.Nat.{div-add-mod', mod-lt, mul-le-mul}
 use native.Mathlib.Omega.{arith}
 use lib.ListN.{length, getD}
 use Rattle.flash.proofs.Bools.{never-both}
+use Rattle.flash.proofs.Comparisons.{lt-cases, eq-cases}
 use Rattle.split.specs.Split.{setOf, sourceBlock}
 use Rattle.split.specs.Rule.{End, source, blockAt, isPageOf}
 use Rattle.split.specs.Mask.{bitAt}
 use Rattle.split.specs.Accepted.{Accepted}
 use Rattle.split.specs.Ends.{Masks}
 use Rattle.split.specs.Work.{Found, Sought}
-use Rattle.split.proofs.Lists.{lt-cases, eq-cases}
 use Rattle.split.proofs.RuleLaws.{blocks}
 use Rattle.split.proofs.MaskedLaws.{is-page, page-is, alone-bit}
 

@@ -8,7 +8,7 @@ use native.Mathlib.Omega.{arith}
 use lib.Dec.{eqb, ltb}
 use borrow.Author.Tests.{eqb-true, eqb-false, eq-eqb, ne-eqb, lt-ltb, le-ltb}
 use Rattle.flash.proofs.Bools.{bool-cases}
-use Rattle.split.proofs.Lists.{eq-cases, lt-cases}
+use Rattle.flash.proofs.Comparisons.{eq-cases, lt-cases}
 
 -- some number below n passes, or none does
 pub seek : (p : ℕ → Bool) (n : ℕ) → ((i : ℕ) × (i < n) × (p i ≡ true)) ⊎ ((i : ℕ) → i < n → p i ≡ false)

@@ -15,8 +15,8 @@ use Rattle.split.specs.OneToOne.{isOneToOne}
 use Rattle.split.specs.Split.{sourceBlock, destBlock, setOf, isSplit}
 use Rattle.split.specs.Rule.{End, source, destination, blockAt, isPageOf, isUsed, lowestUnused, pagesMet, exchange, giveNext, setsGiven, splitByRule}
 use Rattle.flash.proofs.Bools.{bool-cases, never-both}
-use Rattle.flash.proofs.Ranges.{any-is, First}
-use Rattle.split.proofs.Lists.{any-range-find, Missed, first-cases, lt-cases}
+use Rattle.flash.proofs.Ranges.{any-is, First, any-range-find, Missed, first-cases}
+use Rattle.flash.proofs.Comparisons.{lt-cases}
 use Rattle.split.proofs.Pigeon.{crowded}
 use Rattle.split.proofs.OneToOneLaws.{entry-lt, entry-same}
 use Rattle.split.proofs.SplitLaws.{some-page, block-range, split-of}

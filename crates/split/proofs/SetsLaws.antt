@@ -17,7 +17,7 @@ use Rattle.split.specs.Mask.{bitAt, FlippedAt}
 use Rattle.split.specs.Accepted.{Accepted}
 use Rattle.split.specs.Ends.{Masks}
 use Rattle.flash.proofs.Bools.{fails}
-use Rattle.split.proofs.Lists.{lt-cases}
+use Rattle.flash.proofs.Comparisons.{lt-cases}
 use Rattle.split.proofs.SplitLaws.{Proper, place-block, set-lt, same-from, same-to, split-of}
 use Rattle.split.proofs.RuleLaws.{blocks}
 use Rattle.split.proofs.MaskedLaws.{is-page, page-is, no-masks, mask-more, bit-page, page-bit}

@@ -13,10 +13,9 @@ use Rattle.flash.specs.Lists.{range, all, count, first}
 use Rattle.flash.specs.Geometry.{blockOf}
 use Rattle.split.specs.OneToOne.{isOneToOne}
 use Rattle.split.specs.Split.{sourceBlock, destBlock, setOf, pagesFrom, pagesTo, isSplit}
-use Rattle.flash.proofs.Bools.{and-left, and-right}
+use Rattle.flash.proofs.Bools.{and-left, and-right, and-both}
 use Rattle.flash.proofs.Searches.{all-at, all-of}
 use Rattle.flash.proofs.Ranges.{all-in, all-is, first-hit, count-one, one-counted}
-use Rattle.split.proofs.Lists.{and-both}
 use Rattle.split.proofs.Pigeon.{onto}
 use Rattle.split.proofs.OneToOneLaws.{entry-lt, entry-same}
 

@@ -14,7 +14,8 @@ use Rattle.split.specs.Split.{setOf}
 use Rattle.split.specs.Rule.{End, source, destination, otherEnd, swapped, blockAt, exchange}
 use Rattle.split.specs.Work.{Found}
 use Rattle.flash.proofs.Bools.{bool-cases, fails}
-use Rattle.split.proofs.Lists.{any-find, lt-cases, eq-cases}
+use Rattle.flash.proofs.Comparisons.{lt-cases, eq-cases}
+use Rattle.flash.proofs.Searches.{any-find}
 use Rattle.split.proofs.Walk.{Coloured, PageAt, metAs, metAs-same, metAs-two, other-twice, path, path-head, path-chain, path-inside, path-closed, path-first, path-distinct}
 use Rattle.split.proofs.Exchange.{exchange-length, exchange-at, swapped-met, in-at, two}
 

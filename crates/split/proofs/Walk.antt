@@ -14,9 +14,9 @@ use borrow.Author.Tests.{eqb-true, eq-eqb, lt-ltb, le-ltb}
 use Rattle.flash.specs.Lists.{range, first}
 use Rattle.split.specs.Split.{setOf}
 use Rattle.split.specs.Rule.{End, source, destination, otherEnd, blockAt, isPageOf, pagesMet}
-use Rattle.flash.proofs.Bools.{never-both, and-left, and-right}
-use Rattle.flash.proofs.Ranges.{First}
-use Rattle.split.proofs.Lists.{and-both, Missed, first-cases, lt-cases, eq-cases, ne-lt}
+use Rattle.flash.proofs.Bools.{never-both, and-left, and-right, and-both}
+use Rattle.flash.proofs.Ranges.{First, Missed, first-cases}
+use Rattle.flash.proofs.Comparisons.{lt-cases, eq-cases, ne-lt}
 use Rattle.split.proofs.Pigeon.{pigeon, crowded}
 use Rattle.split.proofs.OneToOneLaws.{Distinct}
 use Rattle.split.proofs.SplitLaws.{PageOf, Proper}

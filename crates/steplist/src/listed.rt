@@ -6,6 +6,7 @@ ghost use Rattle.method.specs.Place.{lastPlace};
 ghost use Rattle.steplist.specs.Output.{moveLines};
 ghost use Rattle.steplist.specs.Listing.{moveOf, runningOf, Listable, mostLine, mostOutput, Stepped, Shows};
 use crate::line::put_line;
+use flash::wide::word;
 use listing::lines::put_end;
 use mover::run::run;
 use places::place::last_place;
@@ -16,12 +17,6 @@ pub struct Shown {
     pub at: usize,
     pub writes: usize,
     pub erases: usize,
-}
-
-fn wide(count: u32) -> usize
-    ensures { λ r. ⌜ r ≡ count ⌝ }
-{
-    count as usize
 }
 
 // Takes the step at a place and prints its line.
@@ -47,8 +42,8 @@ fn put_step(
     let next = put_line(out, at, n, m, s, place, work);
     Shown {
         at: next,
-        writes: wide(ran.writes),
-        erases: wide(ran.erases),
+        writes: word(ran.writes),
+        erases: word(ran.erases),
     }
 }
 

@@ -10,8 +10,8 @@ use lib.ListN.{length, getD, set}
 use lib.Seq.{getD-set-same, getD-set-other}
 use Rattle.flash.specs.Geometry.{Sizes, blockOf, numberAt}
 use Rattle.flash.proofs.Bounds.{product-le}
+use Rattle.flash.proofs.Comparisons.{lt-cases}
 use Rattle.split.specs.Split.{sourceBlock, destBlock, setOf}
-use Rattle.split.proofs.Lists.{lt-cases}
 use Rattle.split.proofs.SplitLaws.{same-from, same-to, place-block}
 use Rattle.method.specs.Move.{Move}
 use Rattle.method.specs.Cycle.{D, dest, pred, sentTo}

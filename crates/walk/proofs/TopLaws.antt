@@ -9,7 +9,7 @@ use native.Mathlib.Omega.{arith}
 use lib.ListN.{length, getD}
 use Rattle.flash.specs.Lists.{iterates}
 use Rattle.flash.specs.Geometry.{Sizes}
-use Rattle.split.proofs.Lists.{lt-cases}
+use Rattle.flash.proofs.Comparisons.{lt-cases}
 use Rattle.method.specs.Move.{Move}
 use Rattle.method.specs.Cycle.{highest, pred, top}
 use Rattle.method.proofs.Orbit.{DataBlock, iterate, iterate-last, length-iterates, iterates-at}

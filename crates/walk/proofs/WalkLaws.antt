@@ -1,22 +1,23 @@
 -- Read's rules turn by turn: the slots that each adds, and where they lie.
-use mathlib.Core.Path.{_≡_, sym, ap, _∙_}
-use mathlib.Core.Logic.{_≢_}
+use mathlib.Core.Path.{_≡_, refl, sym, ap, _∙_}
+use mathlib.Core.Logic.{_⊎_, ⊎-elim, _≢_}
 use mathlib.Core.Bool.{Bool, true, false, _||_}
 use mathlib.Core.List.{List, [], _∷_, _++_, append-assoc, append-nil}
 use Prim.Native.Nat.{ℕ, suc, _+_, _-_, _*_, _/_, _≤_, _<_}
 use native.Mathlib.Nat.{div-add-mod', suc-mul}
 use native.Mathlib.Numerals.{add-one}
 use native.Mathlib.Omega.{arith}
+use lib.Dec.{ltb}
 use lib.ListN.{length, getD, set, take, length-set}
-use lib.Seq.{take-suc, take-suc-set}
-use borrow.Author.Tests.{eq-eqb, ne-eqb}
+use lib.Seq.{getD-take, length-take-le, take-suc, take-suc-set, take-all}
+use borrow.Author.Tests.{eq-eqb, ne-eqb, lt-ltb, le-ltb}
 use Rattle.flash.specs.Lists.{range, any}
 use Rattle.flash.specs.Geometry.{Sizes, slot, blockOf, slotOf}
-use Rattle.flash.specs.PageSum.{_⊕_, sum}
+use Rattle.flash.specs.PageSum.{_⊕_, sum, oneOrBoth}
 use Rattle.flash.specs.Chip.{isFull}
 use Rattle.flash.proofs.Bounds.{product-le}
 use Rattle.flash.proofs.Ranges.{any-more}
-use Rattle.flash.proofs.Sums.{nil-⊕, sum-more}
+use Rattle.flash.proofs.Sums.{⊕-assoc, sum-more}
 use Rattle.split.specs.Split.{destBlock, setOf}
 use Rattle.method.specs.Move.{Move, letter}
 use Rattle.method.specs.Cycle.{D, dest, pred, top, isTop}
@@ -41,9 +42,30 @@ none-full test block none this =
 pub sum-turn : (page : ℕ → List ℕ) (slots : List ℕ) (i : ℕ) → i < length slots → sum page (take (i + 1) slots) ≡ sum page (take i slots) ⊕ page (getD slots i 0)
 sum-turn page slots i h = rw (add-one i, take-suc slots i 0 h) (sum-more page (take i slots) (getD slots i 0))
 
-pub sum-first : (page : ℕ → List ℕ) (slots : List ℕ) → 0 < length slots → sum page (take 1 slots) ≡ page (getD slots 0 0)
-unfolding sum
-sum-first page slots h = sum-turn page slots 0 h ∙ nil-⊕ (page (getD slots 0 0))
+-- the next page of the first `count` slots, and the one behind it if there is one
+module _ (page : ℕ → List ℕ) (slots : List ℕ) (count i other : ℕ) (fits : count ≤ length slots) (more : i < count) where
+  summed : ℕ → List ℕ
+  summed j = sum page (take j (take count slots))
+
+  turn : (j : ℕ) → j < count → summed (j + 1) ≡ summed j ⊕ page (getD slots j 0)
+  unfolding summed
+  turn j h = rw (← getD-take count slots j 0 h) (sum-turn page (take count slots) j (omega (arith, length-take-le count slots fits)))
+
+  pub sum-pair : ((i + 1 < count) × (other ≡ getD slots (i + 1) 0)) ⊎ (count ≤ i + 1)
+      → sum page (take (i + 2) (take count slots)) ≡ sum page (take i (take count slots)) ⊕ oneOrBoth (ltb (i + 1) count) (page (getD slots i 0)) (page other)
+  unfolding oneOrBoth summed
+  sum-pair =
+      ⊎-elim
+      (λ two.
+      let next : i + 2 ≡ (i + 1) + 1 = omega arith in
+      let second : List ℕ = page (getD slots (i + 1) 0) in
+      rw (lt-ltb (i + 1) count (two .0), two .1, next)
+      (turn (i + 1) (two .0) ∙ ap (λ (w : List ℕ). w ⊕ second) (turn i more) ∙ ⊕-assoc (summed i) (page (getD slots i 0)) second))
+      (λ last.
+      let size = length-take-le count slots fits in
+      let same : take (i + 2) (take count slots) ≡ take (i + 1) (take count slots) =
+      take-all (i + 2) (take count slots) (omega arith) ∙ sym (take-all (i + 1) (take count slots) (omega arith)) in
+      rw (le-ltb (i + 1) count last, same) (turn i more))
 
 -- ---- slots that are put into the array one after the other: `rest` are those that are left of `all`
 module _ (slots : List ℕ) (count t : ℕ) (rest all : List ℕ) (fits : count < length slots) (now : take count slots ++ rest ≡ all) where

@@ -48,8 +48,8 @@ add-high c = let r = within _ _ (room (c .before .before .before)) in search nee
 shared-slice-read-high : tie.Need-shared-slice-read-high Inv-loop μ-loop
 shared-slice-read-high c = let r = within _ _ (room (c .before .before .before .before)) in omega arith
 
-word-requires : tie.Need-word-requires Inv-loop μ-loop
-word-requires c κs = search needs
+entry-requires : tie.Need-entry-requires Inv-loop μ-loop
+entry-requires c κs = search needs
 
 mul-list : tie.Need-mul-list Inv-loop μ-loop
 mul-list c = let r = within _ _ (room (c .before .before .before .before .before)) in search needs
@@ -70,7 +70,7 @@ loop-again c =
     let r = within _ _ (room (c .before .before .before .before .before)) in
     let more : l .i < length (a .bytes .now) / 2 = omega arith in
     let n : l .i < length (l .list) = omega arith in (
-      rw (add-one (l .i), take-suc-set (l .list) (l .i), l .inv .0, c .word .ensures) (sym (entries-more (a .bytes .now) (length (a .bytes .now) / 2) (l .i) (r .0) more)),
+      rw (add-one (l .i), take-suc-set (l .list) (l .i), l .inv .0, c .entry .ensures) (sym (entries-more (a .bytes .now) (length (a .bytes .now) / 2) (l .i) (r .0) more)),
       omega arith,
       simp length-set (omega arith),
     )
@@ -99,7 +99,7 @@ decode-spec =
     mul-high
     add-high
     shared-slice-read-high
-    word-requires
+    entry-requires
     mul-list
     slice-write-list
     add-i

@@ -2,7 +2,7 @@ use mathlib.Core.Path.{refl, ap, _∙_}
 use native.Mathlib.Omega.{arith}
 use lib.ListN.{length-set}
 use Rattle.flash.specs.Lists.{setPart}
-use Rattle.flash.specs.PageSum.{putOrAdd}
+use Rattle.flash.specs.PageSum.{oneOrBoth, putOrAdd}
 use Rattle.flash.specs.Chip.{writePage}
 use Rattle.flash.proofs.Parts.{lent-back}
 use Rattle.flash.proofs.page.write_page.Statement.{statement}
@@ -36,7 +36,7 @@ same-length-2 : tie.Need-same-length-2
 same-length-2 c = simp length-set
 
 returns : tie.Need-returns
-unfolding writePage putOrAdd
+unfolding writePage putOrAdd oneOrBoth
 returns c =
     let a = c .before .before .before .before .before .before .before .args in
     let put = c .before .before .put-or-add in

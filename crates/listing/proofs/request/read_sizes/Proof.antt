@@ -22,37 +22,37 @@ returns c =
     let f = c .before .before .before .fill in
     ap (filledAs (c .before .before .before .before .before .before .args .text .now) (f .last .1 .1 .0)) (sym (c .enum-told .given .1)) ∙ f .ensures
 
-array-read-wide : tie.Need-array-read-wide
-array-read-wide c = search needs
+array-read-word : tie.Need-array-read-word
+array-read-word c = search needs
 
-wide-requires : tie.Need-wide-requires
-wide-requires c κs = search needs
+word-requires : tie.Need-word-requires
+word-requires c κs = search needs
 
-array-read-wide-2 : tie.Need-array-read-wide-2
-array-read-wide-2 c = search needs
+array-read-word-2 : tie.Need-array-read-word-2
+array-read-word-2 c = search needs
 
-wide-requires-2 : tie.Need-wide-requires-2
-wide-requires-2 c κs = search needs
+word-requires-2 : tie.Need-word-requires-2
+word-requires-2 c κs = search needs
 
-array-read-wide-3 : tie.Need-array-read-wide-3
-array-read-wide-3 c = search needs
+array-read-word-3 : tie.Need-array-read-word-3
+array-read-word-3 c = search needs
 
-wide-requires-3 : tie.Need-wide-requires-3
-wide-requires-3 c κs = search needs
+word-requires-3 : tie.Need-word-requires-3
+word-requires-3 c κs = search needs
 
-array-read-wide-4 : tie.Need-array-read-wide-4
-array-read-wide-4 c = search needs
+array-read-word-4 : tie.Need-array-read-word-4
+array-read-word-4 c = search needs
 
-wide-requires-4 : tie.Need-wide-requires-4
-wide-requires-4 c κs = search needs
+word-requires-4 : tie.Need-word-requires-4
+word-requires-4 c κs = search needs
 
 returns-2 : tie.Need-returns-2
 returns-2 c =
     let f = c .before .before .before .before .before .before .before .before .fill in
     let text = c .before .before .before .before .before .before .before .before .before .before .before .args .text .now in
     let area = f .last .1 .1 .0 in
-    rw (c .wide4 .ensures, c .before .wide3 .ensures, c .before .before .wide2 .ensures, c .before .before .before .wide .ensures, four-are area (f .kept .1 .1 .0))
+    rw (c .word4 .ensures, c .before .word3 .ensures, c .before .before .word2 .ensures, c .before .before .before .word .ensures, four-are area (f .kept .1 .1 .0))
     (ap (filledAs text area) (sym (c .before .before .before .before .before .next .given .1)) ∙ f .ensures)
 
 pub read-sizes-spec : {M : Type 1} → statement M
-read-sizes-spec = tie.close (tie.spec slice-aggregate-fill fill-requires enum-known-next enum-told returns array-read-wide wide-requires array-read-wide-2 wide-requires-2 array-read-wide-3 wide-requires-3 array-read-wide-4 wide-requires-4 returns-2)
+read-sizes-spec = tie.close (tie.spec slice-aggregate-fill fill-requires enum-known-next enum-told returns array-read-word word-requires array-read-word-2 word-requires-2 array-read-word-3 word-requires-3 array-read-word-4 word-requires-4 returns-2)

@@ -26,11 +26,11 @@ put-line-requires c κs =
     let given = run-taken (moveOf (a .n) (a .m) (a .p) (a .s) (a .list .now) (a .sets .now)) _ _ (a .place) (start .pre .0 .taken) .accepted .ranges in
     (omega (arith, given), rw (same-operation (a .n) (a .m) (a .p) (a .s) (a .place)) (omega (arith, told (c .before .before .before .before .before .before .before .before) .short)))
 
-wide-requires : tie.Need-wide-requires
-wide-requires c κs = search needs
+word-requires : tie.Need-word-requires
+word-requires c κs = search needs
 
-wide-requires-2 : tie.Need-wide-requires-2
-wide-requires-2 c κs = search needs
+word-requires-2 : tie.Need-word-requires-2
+word-requires-2 c κs = search needs
 
 same-length : tie.Need-same-length
 same-length c = search needs
@@ -52,9 +52,9 @@ returns c =
       left = one .left;
       printed = rw (same-operation (a .n) (a .m) (a .p) (a .s) (a .place)) at (c .before .before .before .before .put-line .ensures);
       short = one .short;
-      writes-is = c .before .wide .ensures ∙ one .writes-is;
-      erases-is = c .wide2 .ensures ∙ one .erases-is;
+      writes-is = c .before .word .ensures ∙ one .writes-is;
+      erases-is = c .word2 .ensures ∙ one .erases-is;
     }
 
 pub put-step-spec : {M : Type 1} → statement M
-put-step-spec = tie.close (tie.spec run-requires put-line-requires wide-requires wide-requires-2 same-length same-length-2 same-length-3 same-length-4 returns)
+put-step-spec = tie.close (tie.spec run-requires put-line-requires word-requires word-requires-2 same-length same-length-2 same-length-3 same-length-4 returns)

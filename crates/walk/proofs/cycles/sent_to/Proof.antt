@@ -6,7 +6,7 @@ use borrow.Author.Needs.{needs}
 use lib.ListN.{getD}
 use Rattle.flash.specs.Geometry.{numberAt}
 use Rattle.flash.proofs.Bounds.{product-le}
-use Rattle.split.proofs.Lists.{lt-cases}
+use Rattle.flash.proofs.Comparisons.{lt-cases}
 use Rattle.method.specs.Cycle.{D, pred}
 use Rattle.walk.specs.Moving.{moveOf}
 use Rattle.walk.proofs.CycleLaws.{table-fits, page-lt, sent-found, sent-missed}
