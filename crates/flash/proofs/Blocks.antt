@@ -14,7 +14,7 @@ use Rattle.flash.specs.Geometry.{slot}
 use Rattle.flash.specs.Chip.{erased, markAt, isFull, isUnfinished, letterOf, noLetter}
 use Rattle.flash.proofs.Bools.{never-both, fails, bool-eq}
 use Rattle.flash.proofs.Searches.{all-at, all-of, first-none}
-use Rattle.flash.proofs.Ranges.{all-in, all-is, all-not, none-is, first-hit, first-is}
+use Rattle.flash.proofs.Ranges.{all-in, all-is, all-not, none-is, first-is}
 use Rattle.flash.proofs.Parts.{length-part, part-at}
 
 -- what a list has at an index within it does not depend on the default
@@ -99,12 +99,6 @@ module _ (m : ℕ) (marks : List ℕ) (block : ℕ) where
   letter-none u =
       first-none (isFull m marks block) (range 0 3) noLetter
       (none-is (isFull m marks block) 0 3 (λ letter a b. unfinished-at letter (omega arith) u))
-
-  none-unfinished : letterOf m marks block ≡ noLetter → isUnfinished m marks block ≡ true
-  unfolding letterOf
-  none-unfinished none =
-      unfinished-of
-      (λ letter l. fails (λ e. omega (arith, first-hit (isFull m marks block) 0 3 letter noLetter (omega arith) (omega arith) e .high)))
 
   -- no other letter than its first mark can fill a block
   pub unfinished-first : (mark : ℕ) → 0 < m → markAt marks (slot m block 0) ≡ mark

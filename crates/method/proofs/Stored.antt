@@ -28,14 +28,13 @@ use Rattle.method.proofs.Indexes.{slot-div, slot-lt}
 use Rattle.method.proofs.Orbit.{DataBlock}
 use Rattle.method.proofs.Cycles.{block-in, entry-in}
 
--- a slot of a full block, and so not of the block between
-pub record Sited (Z : Sizes) (marks : List ℕ) (low high t : ℕ) : Type 0 where
+-- a slot of a full block
+pub record Sited (Z : Sizes) (marks : List ℕ) (t : ℕ) : Type 0 where
   pub inside : t < slotCount Z
   -- the block is full of the letter that comes `index` after s
   pub index : ℕ
   pub full : isFull (Z .m) marks (t / Z .m) (letter Z index) ≡ true
   pub whole : isWhole marks t ≡ true
-  pub clear : (t / Z .m < low) ⊎ (high ≤ t / Z .m)
 
 -- originals that sum to original x and original y
 module _ (M : Move) where
@@ -56,7 +55,7 @@ module _ (M : Move) (marks : List ℕ) (low high : ℕ) where
 
   -- a slot marked s + j whose page holds the sum of some originals
   pub record Stored (j t : ℕ) (xs : List ℕ) : Type 0 where
-    pub site : Sited (M .sizes) marks low high t
+    pub site : Sited (M .sizes) marks t
     pub marked : markAt marks t ≡ letter (M .sizes) j
     pub holds : (originals : List ℕ) (chip : Chip) → chip .marks ≡ marks → Holding M originals chip
         → pageAt P chip t ≡ sum (λ k. part P k originals) xs
@@ -65,7 +64,7 @@ module _ (M : Move) (marks : List ℕ) (low high : ℕ) where
   pub record Reads (bound : ℕ) (ts : List ℕ) (k : ℕ) : Type 0 where
     pub some : 1 ≤ length ts
     pub few : length ts ≤ bound
-    pub sited : Each (Sited (M .sizes) marks low high) ts
+    pub sited : Each (Sited (M .sizes) marks) ts
     pub distinct : Distinct ts
     pub original : (originals : List ℕ) (chip : Chip) → chip .marks ≡ marks → length originals ≡ originalCount (M .sizes) * P → Holding M originals chip
         → sum (pageAt P chip) ts ≡ part P k originals
@@ -74,7 +73,7 @@ module _ (M : Move) (marks : List ℕ) (low high : ℕ) where
   reads-one j t k s = record {
     some = omega arith;
     few = omega arith;
-    sited = each-one (Sited (M .sizes) marks low high) t (s .site);
+    sited = each-one (Sited (M .sizes) marks) t (s .site);
     distinct = λ i l a b e. omega arith;
     original = λ originals chip same size H.
         sum-one (pageAt P chip) t ∙ s .holds originals chip same H ∙ sum-one (λ k. part P k originals) k;
@@ -86,7 +85,7 @@ module _ (M : Move) (marks : List ℕ) (low high : ℕ) where
   reads-add bound j t x y xs ts s a fresh r = record {
     some = omega arith;
     few = omega (arith, r .few);
-    sited = each-cons (Sited (M .sizes) marks low high) t ts (s .site) (r .sited);
+    sited = each-cons (Sited (M .sizes) marks) t ts (s .site) (r .sited);
     distinct = distinct-cons t ts fresh (r .distinct);
     original = λ originals chip same size H.
         let page : ℕ → List ℕ = λ k. part P k originals in
@@ -136,7 +135,6 @@ module _ (M : Move) (marks : List ℕ) (low high : ℕ) where
             index = j;
             full = rw block-is full;
             whole = rw mark (lt-ltb (letter (M .sizes) j) 3 (omega arith));
-            clear = rw block-is (full-clear j block full);
           };
           marked = mark;
           holds = λ originals chip same H. holds originals chip H (rw same mark);

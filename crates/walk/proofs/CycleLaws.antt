@@ -46,7 +46,6 @@ table-fits n m a b block set h k = omega (arith, slot-lt m block set n h k, prod
 -- the two entries of an original from block `source`, with its destination and its set
 pub record Fits (m source target set : ℕ) : Type 0 where
   pub source-low : source < 64
-  pub target-low : target < 64
   pub source-in : source * m + set < 4096
   pub target-in : target * m + set < 4096
 
@@ -134,7 +133,6 @@ module _ (M : Move) (G : Given M) where
           rw (e, q, source-is)
           (record {
             source-low = omega (arith, source-in, G .n-high);
-            target-low = omega (arith, target-in, G .n-high);
             source-in = entry-in-table (k / m) (getD sets k 0) source-in s;
             target-in = entry-in-table (getD list k 0 / m) (getD sets k 0) target-in s;
           })

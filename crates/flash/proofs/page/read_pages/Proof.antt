@@ -1,7 +1,6 @@
 use mathlib.Core.Path.{ap₂, _∙_}
 use mathlib.Core.List.{List}
 use Prim.Native.Nat.{ℕ}
-use native.Mathlib.Omega.{arith}
 use borrow.Author.Needs.{needs}
 use Rattle.flash.specs.PageSum.{oneOrBoth, putOrAdd}
 use Rattle.flash.proofs.Parts.{lent-part}
