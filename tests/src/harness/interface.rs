@@ -1,82 +1,91 @@
-//! The C interface of a mover.
+//! The C interface of a mover: for each call the type of a function with its parameters, and the library's own by its name.
 
-pub type SplitCall = unsafe extern "C" fn(
-    n: u32,
-    m: u32,
-    page_bytes: u32,
-    s: u32,
-    list: *const u8,
-    list_len: u64,
-    sets: *mut u8,
-    sets_len: u64,
-) -> u32;
+macro_rules! calls {
+    ($($Type:ident, $name:ident($($parameter:ident: $kind:ty,)*);)*) => {
+        $(pub type $Type = unsafe extern "C" fn($($parameter: $kind),*) -> u32;)*
 
-pub type RunCall = unsafe extern "C" fn(
-    n: u32,
-    m: u32,
-    page_bytes: u32,
-    s: u32,
-    list: *const u8,
-    list_len: u64,
-    sets: *const u8,
-    sets_len: u64,
-    store: *mut u8,
-    store_len: u64,
-    marks: *mut u8,
-    marks_len: u64,
-    work: *mut u8,
-    work_len: u64,
-    place: u32,
-    budget: u32,
-    place_reached: *mut u32,
-    steps: *mut u32,
-    writes: *mut u32,
-    erases: *mut u32,
-    finished: *mut u32,
-) -> u32;
+        #[cfg(feature = "library")]
+        extern "C" {
+            $(pub fn $name($($parameter: $kind),*) -> u32;)*
+        }
+    };
+}
 
-pub type MendCall = unsafe extern "C" fn(
-    n: u32,
-    m: u32,
-    page_bytes: u32,
-    s: u32,
-    store: *mut u8,
-    store_len: u64,
-    marks: *mut u8,
-    marks_len: u64,
-    place: *mut u32,
-    erases: *mut u32,
-) -> u32;
-
-pub type ReadCall = unsafe extern "C" fn(
-    n: u32,
-    m: u32,
-    page_bytes: u32,
-    s: u32,
-    list: *const u8,
-    list_len: u64,
-    sets: *const u8,
-    sets_len: u64,
-    store: *const u8,
-    store_len: u64,
-    marks: *const u8,
-    marks_len: u64,
-    work: *mut u8,
-    work_len: u64,
-    original: u32,
-    count: *mut u32,
-) -> u32;
-
-pub type OperationCall = unsafe extern "C" fn(
-    n: u32,
-    m: u32,
-    s: u32,
-    place: u32,
-    kind: *mut u32,
-    block: *mut u32,
-    page: *mut u32,
-    mark: *mut u32,
-) -> u32;
+calls! {
+    SplitCall, mover_split(
+        n: u32,
+        m: u32,
+        page_bytes: u32,
+        s: u32,
+        list: *const u8,
+        list_len: u64,
+        sets: *mut u8,
+        sets_len: u64,
+    );
+    RunCall, mover_run(
+        n: u32,
+        m: u32,
+        page_bytes: u32,
+        s: u32,
+        list: *const u8,
+        list_len: u64,
+        sets: *const u8,
+        sets_len: u64,
+        store: *mut u8,
+        store_len: u64,
+        marks: *mut u8,
+        marks_len: u64,
+        work: *mut u8,
+        work_len: u64,
+        place: u32,
+        budget: u32,
+        place_reached: *mut u32,
+        steps: *mut u32,
+        writes: *mut u32,
+        erases: *mut u32,
+        finished: *mut u32,
+    );
+    MendCall, mover_mend(
+        n: u32,
+        m: u32,
+        page_bytes: u32,
+        s: u32,
+        store: *mut u8,
+        store_len: u64,
+        marks: *mut u8,
+        marks_len: u64,
+        place: *mut u32,
+        erases: *mut u32,
+    );
+    ReadCall, mover_read(
+        n: u32,
+        m: u32,
+        page_bytes: u32,
+        s: u32,
+        list: *const u8,
+        list_len: u64,
+        sets: *const u8,
+        sets_len: u64,
+        store: *const u8,
+        store_len: u64,
+        marks: *const u8,
+        marks_len: u64,
+        work: *mut u8,
+        work_len: u64,
+        original: u32,
+        count: *mut u32,
+    );
+    OperationCall, mover_operation(
+        n: u32,
+        m: u32,
+        s: u32,
+        place: u32,
+        kind: *mut u32,
+        block: *mut u32,
+        page: *mut u32,
+        mark: *mut u32,
+    );
+}
 
 /// The calls of a mover.
 #[derive(Clone, Copy)]
