@@ -3,23 +3,25 @@ use mathlib.Core.Path.{_≡_, refl, sym, ap, _∙_, subst}
 use mathlib.Core.Logic.{_⊎_, inl, inr, _≢_, ⊎-elim}
 use mathlib.Core.Bool.{Bool, true, false, _&&_, _||_, not, and-true, and-false}
 use mathlib.Core.List.{List}
-use Prim.Native.Nat.{ℕ, _+_, _-_, _*_, _≤_, _<_}
-use native.Mathlib.Nat.{not-suc-le-zero, suc-mul}
+use Prim.Native.Nat.{ℕ, _+_, _-_, _*_, _/_, _≤_, _<_}
+use native.Mathlib.Nat.{not-suc-le-zero, suc-mul, div-lt-iff-lt-mul}
 use native.Mathlib.Omega.{arith}
 use lib.Dec.{eqb, leb}
-use lib.ListN.{length, getD, replicate}
+use lib.ListN.{length, getD, set, replicate, length-set}
+use lib.Seq.{getD-set-same}
 use borrow.Author.Tests.{eqb-true, eqb-false}
 use Rattle.flash.specs.Geometry.{Sizes, isLetter, inRange, blockOf}
 use Rattle.split.specs.OneToOne.{isOneToOne}
 use Rattle.split.specs.Split.{sourceBlock, setOf, isSplit, isCorrectSplit}
 use Rattle.split.specs.Rule.{End, source, destination, blockAt}
-use Rattle.split.specs.Mask.{bitAt, FlippedAt}
+use Rattle.split.specs.Mask.{bitAt, Flipped, FlippedAt}
 use Rattle.split.specs.Accepted.{Accepted}
 use Rattle.split.specs.Ends.{Masks}
 use Rattle.flash.proofs.Bools.{fails}
 use Rattle.flash.proofs.Comparisons.{lt-cases}
 use Rattle.split.proofs.SplitLaws.{Proper, place-block, set-lt, same-from, same-to, split-of}
 use Rattle.split.proofs.RuleLaws.{blocks}
+use Rattle.split.proofs.MaskLaws.{no-bits, bit-zero, flipped-at}
 use Rattle.split.proofs.MaskedLaws.{is-page, page-is, no-masks, mask-more, bit-page, page-bit}
 
 -- the first k pages of the set bytes
@@ -89,10 +91,10 @@ module _ (n m : ℕ) (list sets : List ℕ) (A : Accepted n m list) (len : lengt
   no-such-set k h l = fails (λ split. let s = set-lt n m list sets split k (omega arith) in omega arith)
 
   -- the bit of page k's set is there already
-  pub met-twice : (end : End) (masks after : List ℕ) (k : ℕ) → k < n * m → Masks m list sets k end masks
-      → (was : Bool) → Flips (blockAt m list end k) (setOf sets k) masks after was → was ≡ true → isSplit n m list sets ≡ false
-  met-twice end masks after k h M was f set = fails (λ split.
-      let r = bit-page m list sets end k masks M (blockAt m list end k) (setOf sets k) (eqb-true _ 1 (sym (f .0) ∙ set)) in
+  pub met-twice : (end : End) (masks : List ℕ) (k : ℕ) → k < n * m → Masks m list sets k end masks
+      → (was : Bool) → was ≡ eqb (bitAt (getD masks (blockAt m list end k) 0) (setOf sets k)) 1 → was ≡ true → isSplit n m list sets ≡ false
+  met-twice end masks k h M was tells set = fails (λ split.
+      let r = bit-page m list sets end k masks M (blockAt m list end k) (setOf sets k) (eqb-true _ 1 (sym tells ∙ set)) in
       let l = r .1 in
       let p = page-is m list sets end (blockAt m list end k) (setOf sets k) (r .0) (r .2) in
       let s : r .0 ≡ k = split-proper split end (r .0) k (omega arith) h (p .0) (p .1) in
@@ -139,6 +141,85 @@ module _ (n m : ℕ) (list sets : List ℕ) (A : Accepted n m list) (len : lengt
             go (inr p) (inl q) = let e : x ≡ k = omega arith in absurd
                 (fresh end y q (sym v ∙ ap (blockAt m list end) e) (sym c ∙ ap (setOf sets) e))
             go (inr p) (inr q) = omega arith
+
+-- ---- the source side, of which one mask is kept: `here`, of the block that original k comes from. The table of all that it stands for is
+-- no part of the program.
+pub record Kept (n m : ℕ) (list sets to : List ℕ) (here end k : ℕ) : Type 0 where
+  pub from : List ℕ
+  pub block : ℕ
+  pub so-far : SoFar n m list sets from to k
+  pub sized : length from ≡ 65
+  pub along : Along m k block end
+  pub agrees : (bit : ℕ) → bitAt here bit ≡ bitAt (getD from block 0) bit
+
+pub kept-none : (n m : ℕ) (list sets : List ℕ) → 1 ≤ m → Kept n m list sets (replicate 65 0) 0 m 0
+kept-none n m list sets h = record {
+  from = replicate 65 0;
+  block = 1;
+  so-far = none-yet n m 65 list sets;
+  sized = refl;
+  along = along-start m h;
+  agrees = λ bit. refl;
+}
+
+module _ (n m : ℕ) (list sets : List ℕ) (A : Accepted n m list) (len : length sets ≡ n * m) (to : List ℕ) (here end k : ℕ) (K : Kept n m list sets to here end k) (h : k < n * m) where
+  block-is : K .block ≡ blockAt m list source k
+  block-is = along-block m k (K .block) end (K .along) list
+
+  -- what the bit of the mask tells, and what its flip leaves
+  pub kept-tells : (was : Bool) → was ≡ eqb (bitAt here (setOf sets k)) 1 → was ≡ eqb (bitAt (getD (K .from) (blockAt m list source k) 0) (setOf sets k)) 1
+  kept-tells was e = rw (← block-is, ← K .agrees (setOf sets k)) e
+
+  module _ (flipped : ℕ) (f : Flipped here (setOf sets k) flipped) where
+    flip-is : FlippedAt (K .from) (blockAt m list source k) (setOf sets k) (set (K .from) (K .block) flipped)
+    flip-is =
+        rw (← block-is)
+        (flipped-at (K .from) (K .block) (setOf sets k) flipped (omega (arith, K .sized, block-is, block-lt n m list sets A len source k h))
+        (record {
+          changed = f .changed ∙ ap (λ (x : ℕ). 1 - x) (K .agrees (setOf sets k));
+          same = λ other ne. f .same other ne ∙ K .agrees other;
+        }))
+
+    module _ (to′ : List ℕ) (was-from was-to : Bool) (tells : was-from ≡ eqb (bitAt here (setOf sets k)) 1) (t : Flips (blockAt m list destination k) (setOf sets k) to to′ was-to)
+        (small : setOf sets k < m) (no-from : was-from ≡ false) (no-to : was-to ≡ false) where
+      more : SoFar n m list sets (set (K .from) (K .block) flipped) to′ (k + 1)
+      more = one-more n m list sets A len (K .from) to k (K .so-far) h small (set (K .from) (K .block) flipped) to′ was-from was-to (kept-tells was-from tells, flip-is) t no-from no-to
+
+      size : length (set (K .from) (K .block) flipped) ≡ 65
+      size = length-set (K .from) (K .block) flipped ∙ K .sized
+
+      -- the next original is of the same block
+      pub kept-same : k + 1 ≢ end → Kept n m list sets to′ flipped end (k + 1)
+      kept-same ne = record {
+        from = set (K .from) (K .block) flipped;
+        block = K .block;
+        so-far = more;
+        sized = size;
+        along = along-same m k (K .block) end (K .along) ne;
+        agrees = λ bit. ap (λ (mask : ℕ). bitAt mask bit) (sym (getD-set-same (K .from) (K .block) flipped 0 (omega (arith, K .sized, block-is, block-lt n m list sets A len source k h))));
+      }
+
+      -- no original before the next block comes from there
+      fresh : k + 1 ≡ end → (bit : ℕ) → bitAt (getD (set (K .from) (K .block) flipped) (K .block + 1) 0) bit ≡ 1 → ⊥
+      unfolding blockAt sourceBlock
+      fresh e bit one =
+          let r = bit-page m list sets source (k + 1) (set (K .from) (K .block) flipped) (more .from-masks) (K .block + 1) bit one in
+          let p = page-is m list sets source (K .block + 1) bit (r .0) (r .2) in
+          let ends = K .along .ends in
+          let whole : (K .block - 1) * m + m ≡ K .block * m = sym (suc-mul (K .block - 1) m) ∙ ap (λ (x : ℕ). x * m) (omega (arith, K .along .low)) in
+          let below : r .0 / m < K .block = div-lt-iff-lt-mul (A .some-pages) .1 (omega (arith, r .1)) in
+          omega (arith, p .0)
+
+      -- the next original is the first of the next block
+      pub kept-next : k + 1 ≡ end → Kept n m list sets to′ 0 (end + m) (k + 1)
+      kept-next e = record {
+        from = set (K .from) (K .block) flipped;
+        block = K .block + 1;
+        so-far = more;
+        sized = size;
+        along = along-next m k (K .block) end (K .along) e (A .some-pages);
+        agrees = λ bit. no-bits bit ∙ sym (bit-zero (getD (set (K .from) (K .block) flipped) (K .block + 1) 0) bit (fresh e bit));
+      }
 
 -- ---- any input
 -- sizes that have these blocks and pages, and are in range if these are

@@ -7,6 +7,8 @@ ghost use Rattle.split.specs.Accepted.{Accepted};
 use crate::ends::block_by;
 use crate::list::check;
 use crate::mask::flip;
+use crate::mask::flipped;
+use crate::mask::has;
 use flash::quotient::reciprocal;
 use flash::sizes::in_range;
 use flash::sizes::original_count;
@@ -18,10 +20,9 @@ fn sets_differ(n: usize, m: usize, list: &[u16], sets: &[u8]) -> bool
     ensures { λ r. ⌜ r ≡ isSplit n m (now (list .entry)) (now (sets .entry)) ⌝ }
 {
     let by = reciprocal(m);
-    let mut from = [0u64; 65];
+    // the sets met at each destination block, and at the source block of original k, which ends before original `end`
     let mut to = [0u64; 65];
-    // the block of original k, counted along, and the first original behind it
-    let mut block = 1;
+    let mut here = 0u64;
     let mut end = m;
     let mut k = 0;
     while k < list.len() {
@@ -29,15 +30,16 @@ fn sets_differ(n: usize, m: usize, list: &[u16], sets: &[u8]) -> bool
         if m <= set {
             return false;
         }
-        if flip(&mut from, block, set) {
+        if has(here, set) {
             return false;
         }
+        here = flipped(here, set);
         if flip(&mut to, block_by(list, m, by, false, k), set) {
             return false;
         }
         k += 1;
         if k == end {
-            block += 1;
+            here = 0;
             end += m;
         }
     }
