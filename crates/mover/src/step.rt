@@ -98,6 +98,18 @@ fn write(
     write_page(store, marks, z.p, block * z.m + page, work, mark);
 }
 
+// What one step, or none, comes to.
+fn counted(writes: u32, erases: u32) -> Tally
+    requires { ⌜ (writes ≤ 1) × (erases ≤ 1) ⌝ }
+    ensures { λ r. ⌜ r ≡ record { steps = writes + erases; writes = writes; erases = erases } ⌝ }
+{
+    Tally {
+        steps: writes + erases,
+        writes,
+        erases,
+    }
+}
+
 // Does the step at a place.
 pub fn step(
     z: Sizes,
@@ -135,24 +147,12 @@ pub fn step(
                 page,
                 mark,
             );
-            Tally {
-                steps: 1,
-                writes: 1,
-                erases: 0,
-            }
+            counted(1, 0)
         }
         Op::Erase { block } => {
             erase_block(store, marks, z.m, z.p, block);
-            Tally {
-                steps: 1,
-                writes: 0,
-                erases: 1,
-            }
+            counted(0, 1)
         }
-        Op::Done => Tally {
-            steps: 0,
-            writes: 0,
-            erases: 0,
-        },
+        Op::Done => counted(0, 0),
     }
 }

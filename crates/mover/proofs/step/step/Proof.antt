@@ -29,6 +29,9 @@ write-requires c κs =
     let W = writes c in
     (c .before .before .before .before .before .before .before .before .before .before .before .before .pre, (W .page-in, W .block-in, W .low, W .high, W .mark-is))
 
+counted-requires : tie.Need-counted-requires
+counted-requires c κs = search needs
+
 enum-known-block : tie.Need-enum-known-block
 enum-known-block c = search needs
 
@@ -47,8 +50,14 @@ erase-block-requires c κs =
     let E = erases c in
     (rw (start .pre .1 .store-length) (block-in-store Z (c .before .before .before .block .given .0 .0) (E .block-in)), rw (start .pre .1 .marks-length) (block-in-marks Z (c .before .before .before .block .given .0 .0) (E .block-in)))
 
+counted-requires-2 : tie.Need-counted-requires-2
+counted-requires-2 c κs = search needs
+
 enum-told : tie.Need-enum-told
 enum-told c = search needs
+
+counted-requires-3 : tie.Need-counted-requires-3
+counted-requires-3 c κs = search needs
 
 same-length : tie.Need-same-length
 same-length c = search needs
@@ -61,12 +70,13 @@ same-length-3 c = search needs
 
 returns : tie.Need-returns
 returns c =
-    let a = c .before .before .before .before .before .before .before .before .before .before .before .before .before .before .before .before .before .before .before .args in
+    let d = c .before in
+    let a = d .before .before .before .before .before .before .before .before .before .before .before .before .before .before .before .before .before .before .before .args in
     let M = moveOf (a .z) (a .list .now) (a .sets .now) in
-    let v = c .before .before .before .before .before .before .before .before .before .before .before .backward .given .0 in
+    let v = d .before .before .before .before .before .before .before .before .before .before .before .backward .given .0 in
     let op = write (passOf (v .0)) (v .1 .0) (v .1 .1 .0) in
-    let is = writes (c .before .before .before .before .before .before .before) .is in
-    (stepped M (a .place .at) op is _ _ _ _ (c .before .before .before .before .before .before .write .ensures), counted M (a .place .at) op is 1 1 0 (one-write (passOf (v .0)) (v .1 .0) (v .1 .1 .0)))
+    let is = writes (d .before .before .before .before .before .before .before) .is in
+    (stepped M (a .place .at) op is _ _ _ _ (d .before .before .before .before .before .before .write .ensures), rw (c .counted .ensures) (counted M (a .place .at) op is 1 1 0 (one-write (passOf (v .0)) (v .1 .0) (v .1 .1 .0))))
 
 same-length-4 : tie.Need-same-length-4
 same-length-4 c = search needs
@@ -76,19 +86,21 @@ same-length-5 c = search needs
 
 returns-2 : tie.Need-returns-2
 returns-2 c =
-    let a = c .before .before .before .before .before .before .before .before .before .before .before .before .before .before .before .before .args in
+    let d = c .before in
+    let a = d .before .before .before .before .before .before .before .before .before .before .before .before .before .before .before .before .args in
     let M = moveOf (a .z) (a .list .now) (a .sets .now) in
-    let b = c .before .before .before .before .before .before .before .before .block .given .0 .0 in
-    let is = erases (c .before .before .before .before .before) .is in
-    (stepped M (a .place .at) (erase b) is _ _ _ _ (erased M b (a .store .now) (a .marks .now) (a .work .now) _ _ (c .before .before .before .before .erase-block .ensures)), counted M (a .place .at) (erase b) is 1 0 1 (one-erase b))
+    let b = d .before .before .before .before .before .before .before .before .block .given .0 .0 in
+    let is = erases (d .before .before .before .before .before) .is in
+    (stepped M (a .place .at) (erase b) is _ _ _ _ (erased M b (a .store .now) (a .marks .now) (a .work .now) _ _ (d .before .before .before .before .erase-block .ensures)), rw (c .counted2 .ensures) (counted M (a .place .at) (erase b) is 1 0 1 (one-erase b)))
 
 returns-3 : tie.Need-returns-3
 returns-3 c =
-    let a = c .before .before .before .before .before .before .before .before .args in
+    let d = c .before in
+    let a = d .before .before .before .before .before .before .before .before .args in
     let M = moveOf (a .z) (a .list .now) (a .sets .now) in
     let Z = sizesOf (a .z) in
-    let is = told-done Z (operationAt Z (a .place .at)) (sym (c .enum-told .given .1) ∙ c .before .before .operation .ensures ∙ op-any (a .z .n) (a .z .m) 0 (a .z .p) (a .z .s) (a .place .at)) in
-    (stepped M (a .place .at) done is _ _ _ _ (nothing M (a .store .now) (a .marks .now) (a .work .now)), counted M (a .place .at) done is 0 0 0 no-step)
+    let is = told-done Z (operationAt Z (a .place .at)) (sym (d .enum-told .given .1) ∙ d .before .before .operation .ensures ∙ op-any (a .z .n) (a .z .m) 0 (a .z .p) (a .z .s) (a .place .at)) in
+    (stepped M (a .place .at) done is _ _ _ _ (nothing M (a .store .now) (a .marks .now) (a .work .now)), rw (c .counted3 .ensures) (counted M (a .place .at) done is 0 0 0 no-step))
 
 pub step-spec : {M : Type 1} → statement M
 step-spec =
@@ -97,9 +109,12 @@ step-spec =
     operation-requires
     enum-known-backward
     write-requires
+    counted-requires
     enum-known-block
     erase-block-requires
+    counted-requires-2
     enum-told
+    counted-requires-3
     same-length
     same-length-2
     same-length-3
