@@ -47,6 +47,7 @@ pub fn write_page(store: &mut [u8], marks: &mut [u8], p: usize, slot: usize, wor
 {
     let to = slot * p;
     let end = to + p;
+    // a plain copy: neither a second page nor what the slot had counts
     put_or_add(&mut store[to..end], work, work, false, false);
     marks[slot] = mark;
 }
