@@ -1,9 +1,9 @@
 -- Laws of `all`, `any`, `count` and `first` over any list.
 use mathlib.Core.Path.{_≡_, refl, sym, ap, _∙_}
 use mathlib.Core.Logic.{⊎-elim}
-use mathlib.Core.Bool.{Bool, true, false, cond, _&&_, _||_, and-assoc, or-assoc}
+use mathlib.Core.Bool.{Bool, true, false, _&&_, _||_, and-assoc, or-assoc}
 use mathlib.Core.List.{List, [], _∷_, _++_}
-use Prim.Native.Nat.{ℕ, zero, suc, _+_, _≤_, _<_}
+use Prim.Native.Nat.{ℕ, zero, suc, _+_, _<_}
 use native.Mathlib.Nat.{not-suc-le-zero, le-of-suc-le-suc}
 use native.Mathlib.Omega.{arith}
 use lib.ListN.{length, getD}
@@ -29,12 +29,6 @@ module _ {A : Type 0} (test : A → Bool) where
       (λ (e : test x ≡ true). rw e (omega (arith, count-append xs ys)))
       (λ (e : test x ≡ false). rw e (count-append xs ys))
       (bool-cases (test x))
-
-  pub first-append : (xs ys : List A) (otherwise : A)
-      → first test (xs ++ ys) otherwise ≡ first test xs (first test ys otherwise)
-  unfolding first
-  first-append [] ys otherwise = refl
-  first-append (x ∷ xs) ys otherwise = ap (λ (r : A). cond (test x) x r) (first-append xs ys otherwise)
 
   -- all hold where each does
   pub all-at : (xs : List A) (i : ℕ) (d : A) → all test xs ≡ true → i < length xs → test (getD xs i d) ≡ true
@@ -74,15 +68,6 @@ module _ {A : Type 0} (test : A → Bool) where
       (λ (q : test x ≡ false). (let r = any-find xs d (rw q at e) in (suc (r .0), omega (arith, r .1), r .2)))
       (bool-cases (test x))
 
-  pub count-le : (xs : List A) → count test xs ≤ length xs
-  unfolding count
-  count-le [] = omega arith
-  count-le (x ∷ xs) =
-      ⊎-elim
-      (λ (e : test x ≡ true). rw e (omega (arith, count-le xs)))
-      (λ (e : test x ≡ false). rw e (omega (arith, count-le xs)))
-      (bool-cases (test x))
-
   pub count-none : (xs : List A) → any test xs ≡ false → count test xs ≡ 0
   unfolding any count
   count-none [] e = refl
@@ -104,13 +89,3 @@ module _ {A : Type 0} (test : A → Bool) where
   first-none [] otherwise e = refl
   first-none (x ∷ xs) otherwise e =
       rw (or-false-left (test x) (any test xs) e) (first-none xs otherwise (or-false-right (test x) (any test xs) e))
-
-  -- where some passes, so does the first
-  pub first-passes : (xs : List A) (otherwise : A) → any test xs ≡ true → test (first test xs otherwise) ≡ true
-  unfolding any first
-  first-passes [] otherwise e = absurd (never-both e refl)
-  first-passes (x ∷ xs) otherwise e =
-      ⊎-elim
-      (λ (q : test x ≡ true). rw q q)
-      (λ (q : test x ≡ false). rw q (first-passes xs otherwise (rw q at e)))
-      (bool-cases (test x))

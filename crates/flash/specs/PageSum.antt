@@ -16,6 +16,7 @@ unfoldable pub sum : (page : ℕ → List ℕ) → List ℕ → List ℕ
 sum page [] = []
 sum page (t ∷ ts) = page t ⊕ sum page ts
 
+-- The two below say how the code sums, of which the document says nothing.
 -- One page, or the sum of two.
 unfoldable pub oneOrBoth : (both : Bool) → (one other : List ℕ) → List ℕ
 oneOrBoth both one other = cond both (one ⊕ other) one

@@ -2,27 +2,27 @@
 ghost use mathlib.Core.Path.{_≡_};
 ghost use Prim.Native.Nat.{_<_};
 
-pub fn entry(x: u16) -> usize
-    ensures { λ r. ⌜ r ≡ x ⌝ }
+pub fn wide(byte: u8) -> usize
+    ensures { λ r. ⌜ r ≡ byte ⌝ }
 {
-    x as usize
+    byte as usize
 }
 
-pub fn wide(x: u8) -> usize
-    ensures { λ r. ⌜ r ≡ x ⌝ }
+pub fn entry(number: u16) -> usize
+    ensures { λ r. ⌜ r ≡ number ⌝ }
 {
-    x as usize
+    number as usize
 }
 
-pub fn word(x: u32) -> usize
-    ensures { λ r. ⌜ r ≡ x ⌝ }
+pub fn word(word: u32) -> usize
+    ensures { λ r. ⌜ r ≡ word ⌝ }
 {
-    x as usize
+    word as usize
 }
 
-pub fn narrow(x: usize) -> u8
-    requires { ⌜ x < 256 ⌝ }
-    ensures { λ r. ⌜ r ≡ x ⌝ }
+pub fn narrow(size: usize) -> u8
+    requires { ⌜ size < 256 ⌝ }
+    ensures { λ r. ⌜ r ≡ size ⌝ }
 {
-    x as u8
+    size as u8
 }
