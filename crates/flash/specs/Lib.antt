@@ -4,3 +4,4 @@ pub mod Geometry
 pub mod PageSum
 pub mod Chip
 pub mod Reciprocal
+pub mod Claims

@@ -10,3 +10,10 @@ pub mod wide;
 
 // A byte or a mark that is not written.
 pub const ERASED: u8 = 255;
+
+ghost use Rattle.flash.specs.Claims.{WholeByLetter};
+
+// Nothing to run: the contract demands the proof.
+pub fn claims()
+    ensures whole_by_letter { λ _. ⌜ WholeByLetter ⌝ }
+{}

@@ -13,7 +13,8 @@ use borrow.Author.Tests.{eqb-true, eqb-false, ne-eqb}
 use Rattle.flash.specs.Lists.{range, count}
 use Rattle.flash.specs.Tables.{refusal}
 use Rattle.flash.specs.Geometry.{Sizes, originalCount}
-use Rattle.flash.specs.Chip.{Chip}
+use Rattle.flash.specs.PageSum.{sum}
+use Rattle.flash.specs.Chip.{Chip, pageAt}
 use Rattle.flash.proofs.Bools.{bool-cases}
 use Rattle.method.specs.Move.{Move}
 use Rattle.method.specs.Place.{Operation, filled}
@@ -24,7 +25,7 @@ use Rattle.method.specs.Read.{readSlots, readPage}
 use Rattle.method.specs.Answers.{RunAnswer, runRows, stepsTaken, runRefused, runAnswer, mendRows, mended, mendAnswer, readRows, readAnswer}
 use Rattle.method.specs.Runs.{Start}
 use Rattle.method.specs.Events.{Call, run, mend, read, CutPoint, Event, History, numberOf, mendSteps, stepsOf, chipAfter, chipReturned, returnsFinished, starting, during, after, stepsFinished, moments}
-use Rattle.method.specs.Demand3.{CutObeys, Allowed, AllAllowed, goes, Keeps, AtEach, none, more, Demand3, SameSlots}
+use Rattle.method.specs.Demand3.{CutObeys, Allowed, AllAllowed, goes, Keeps, AtEach, none, more, Demand3}
 use Rattle.method.proofs.Shape.{Accepted}
 use Rattle.method.proofs.Accepting.{StandsAt}
 use Rattle.method.proofs.Rest.{rest-stands, rest-holds, rest-length}
@@ -161,10 +162,6 @@ module _ (M : Move) (chip₀ : Chip) (S : Start M chip₀) where
       start-filled : filled (M .sizes) 0 ≡ 0
       start-filled = zero-mod (M .sizes .m + 1)
 
-pub demand-3 : Demand3
-unfolding Demand3
-demand-3 M chip₀ S events O = all-kept M chip₀ S events (starting chip₀) (started M chip₀ S) O
-
 -- ---- equal marks
 read-answer : (M : Move) (chip : Chip) (work : List ℕ) (k : ℕ) → readAnswer M chip work k .number ≡ 0
     → readAnswer M chip work k ≡ record { number = 0; count = length (readSlots M (chip .marks) k); work = readPage M chip k }
@@ -174,7 +171,13 @@ read-answer M chip work k e = ⊎-elim
     (λ (q : eqb (refusal (readRows M chip work k)) 0 ≡ false). absurd (eqb-false _ 0 q (rw q at e)))
     (bool-cases (eqb (refusal (readRows M chip work k)) 0))
 
-pub same-slots : SameSlots
-unfolding SameSlots readPage
-same-slots M one other marks k work₁ work₂ e f =
-    (readSlots M (one .marks) k, read-answer M one work₁ k e, rw marks (read-answer M other work₂ k f))
+by-marks : (M : Move) (marks : List ℕ) (k : ℕ) (chip : Chip) → chip .marks ≡ marks → (work : List ℕ) → readAnswer M chip work k .number ≡ 0
+    → readAnswer M chip work k ≡ record { number = 0; count = length (readSlots M marks k); work = sum (pageAt (M .sizes .P) chip) (readSlots M marks k) }
+unfolding readPage
+by-marks M marks k chip same work e = rw (← same) (read-answer M chip work k e)
+
+pub demand-3 : Demand3
+demand-3 = record {
+  kept = λ M chip₀ S events O. all-kept M chip₀ S events (starting chip₀) (started M chip₀ S) O;
+  same-slots = λ M marks k. (readSlots M marks k, by-marks M marks k);
+}

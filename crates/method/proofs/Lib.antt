@@ -11,6 +11,7 @@ pub mod WalkBounds
 pub mod Stored
 pub mod CodedWalks
 pub mod Reading
+pub mod ExampleCuts
 pub mod Cases
 pub mod MendLines
 pub mod MendNext
@@ -45,5 +46,7 @@ pub mod RunEvents
 pub mod MendEvents
 pub mod Demand
 pub mod Example
+pub mod TwoPages
+pub mod BoundsMet
 pub mod AnswerBounds
 pub mod ListRefusals

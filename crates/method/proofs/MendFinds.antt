@@ -19,7 +19,7 @@ use Rattle.flash.proofs.Bounds.{Bounds, range-in}
 use Rattle.method.specs.Move.{letter}
 use Rattle.method.specs.Place.{Pass, forward, backward, lastPlace, passAt, filling, filled}
 use Rattle.method.specs.Mend.{Reading, fullFrom, forwardTorn, backwardTorn, forwardFull, backwardFull, lines, legalMarks, reading}
-use Rattle.method.specs.Answers.{fitsNone}
+use Rattle.method.specs.Answers.{marksAnswer, fitsNone}
 use Rattle.method.specs.Claims.{LinesAgree}
 use Rattle.method.proofs.Shape.{Shape}
 use Rattle.method.proofs.MendLines.{lines-agree}
@@ -195,7 +195,7 @@ module _ (Z : Sizes) (B : Bounds Z) where
 
     -- so neither mend nor read is refused for the marks
     pub moment-fits : (place : ℕ) → Moment Z marks place → fitsNone (reading Z marks) ≡ false
-    unfolding fitsNone
+    unfolding fitsNone marksAnswer
     moment-fits place M = go (finds place M)
       where
         go : Finds Z marks place → fitsNone (reading Z marks) ≡ false

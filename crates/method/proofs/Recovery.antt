@@ -17,7 +17,7 @@ use Rattle.flash.proofs.Tables.{refusal-skip, refusal-nil}
 use Rattle.method.specs.Move.{Move, letter}
 use Rattle.method.specs.Place.{passAt, filling, filled, heldAt, heldMark}
 use Rattle.method.specs.Mend.{Reading, reading}
-use Rattle.method.specs.Answers.{badChip, fitsNone, mendRows, MendAnswer, mended, mendAnswer}
+use Rattle.method.specs.Answers.{badChip, marksAnswer, fitsNone, mendRows, MendAnswer, mended, mendAnswer}
 use Rattle.method.proofs.Indexes.{this-or-other, each-slot}
 use Rattle.method.proofs.Shape.{Shape}
 use Rattle.method.proofs.Accepting.{StandsAt}
@@ -60,7 +60,7 @@ module _ (M : Move) (B : Bounds (M .sizes)) (chip : Chip) (store-length : length
   Z = M .sizes
 
   accepted : (found : Reading) → reading Z (chip .marks) ≡ some found → refusal (mendRows Z chip) ≡ 0
-  unfolding mendRows badChip fitsNone
+  unfolding mendRows badChip fitsNone marksAnswer
   accepted found e =
       let lengths : badChip Z chip ≡ false = rw (eq-eqb _ _ store-length, eq-eqb _ _ (C .marks-length)) refl in
       refusal-skip _ _ (ap not (range-in Z B)) (refusal-skip _ _ lengths (refusal-skip _ [] (ap fitsNone e) refusal-nil))

@@ -1,12 +1,14 @@
 -- The rows of each call rise in number, so the first that fits is the lowest that applies.
 use mathlib.Core.Path.{refl}
 use Rattle.flash.proofs.Tables.{lowest-first}
+use Rattle.split.specs.Answer.{splitRows}
 use Rattle.method.specs.Answers.{moveRows, runRows, mendRows, readRows}
 use Rattle.method.specs.Claims.{LowestReturned}
 
 pub lowest-returned : LowestReturned
-unfolding moveRows runRows mendRows readRows
+unfolding splitRows moveRows runRows mendRows readRows
 lowest-returned = record {
+  by-split = λ Z list sets. lowest-first (splitRows Z list sets) 0 refl;
   by-run = λ M chip work place. lowest-first (runRows M chip work place) 0 refl;
   by-mend = λ Z chip. lowest-first (mendRows Z chip) 0 refl;
   by-read = λ M chip work k. lowest-first (readRows M chip work k) 0 refl;

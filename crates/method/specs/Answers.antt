@@ -26,10 +26,17 @@ badParts M chip work =
     not (eqb (length (M .list)) (listLength (M .sizes))) || not (eqb (length (M .sets)) (setsLength (M .sizes)))
     || badChip (M .sizes) chip || not (eqb (length work) (workLength (M .sizes)))
 
--- "marks fit no moment of the move"
+-- What reading the marks answers, by its cases: the number of the table, and what the marks tell. 6: "marks fit no moment of the move"
+pub record MarksAnswer : Type 0 where
+  pub number : ℕ
+  pub told : Option Reading
+
+unfoldable pub marksAnswer : Option Reading → MarksAnswer
+marksAnswer none = record { number = 6; told = none }
+marksAnswer (some found) = record { number = 0; told = some found }
+
 unfoldable pub fitsNone : Option Reading → Bool
-fitsNone none = true
-fitsNone (some found) = false
+fitsNone told = eqb (marksAnswer told .number) 6
 
 -- "place above 2 × n × (m + 1), or marks other than that place has, or a slot marked 255 not blank"
 unfoldable pub isElsewhere : Move → Chip → (place : ℕ) → Bool

@@ -104,7 +104,7 @@ refusedRun number lent work =
     record { number = number; place = 0; steps = 0; writes = 0; erases = 0; finished = 0; chip = lent; work = work }
 
 -- P1 to P3
-abbrev two : Move
+abbrev pub two : Move
 two = record { sizes = sizes 2 2; list = 0 ∷ 2 ∷ 1 ∷ 3 ∷ []; sets = 1 ∷ 0 ∷ 0 ∷ 1 ∷ [] }
 
 abbrev halfway : Chip
@@ -135,6 +135,13 @@ three = record { sizes = sizes 3 1; list = 1 ∷ 2 ∷ 0 ∷ []; sets = 0 ∷ 0 
 
 abbrev pub threeAtRest : Chip
 threeAtRest = chip (255 ∷ 1 ∷ 2 ∷ 4 ∷ []) (255 ∷ 0 ∷ 0 ∷ 0 ∷ [])
+
+-- with a set byte that is none of its sets, and with two blocks unfinished
+abbrev threeBadly : Move
+threeBadly = record { sizes = three .sizes; list = three .list; sets = 0 ∷ 1 ∷ 0 ∷ [] }
+
+abbrev threeUnfit : Chip
+threeUnfit = chip (255 ∷ 1 ∷ 2 ∷ 4 ∷ []) (255 ∷ 0 ∷ 255 ∷ 0 ∷ [])
 
 abbrev threeFinished : Chip
 threeFinished = chip (255 ∷ 4 ∷ 1 ∷ 2 ∷ []) (255 ∷ 2 ∷ 2 ∷ 2 ∷ [])
@@ -241,6 +248,16 @@ cases byte =
     -- P11
     ∷ run three threeAtRest (junk 1) 0 0
     (record { number = 0; place = 0; steps = 0; writes = 0; erases = 0; finished = 0; chip = threeAtRest; work = junk 1 })
+    -- the numbers that no P gives: a part one byte short, set bytes that are no split, two blocks unfinished, an original too many
+    ∷ split (sizes 2 1) (0 ∷ 1 ∷ []) (junk 1) (record { number = 2; sets = junk 1 })
+    ∷ run three threeAtRest [] 0 9 (refusedRun 2 threeAtRest [])
+    ∷ mend (sizes 3 1) (resting 2) (record { number = 2; place = 0; erases = 0; chip = resting 2 })
+    ∷ read three threeAtRest [] 0 (record { number = 2; count = 0; work = [] })
+    ∷ run threeBadly threeAtRest (junk 1) 0 9 (refusedRun 4 threeAtRest (junk 1))
+    ∷ read threeBadly threeAtRest (junk 1) 0 (record { number = 4; count = 0; work = junk 1 })
+    ∷ mend (three .sizes) threeUnfit (record { number = 6; place = 0; erases = 0; chip = threeUnfit })
+    ∷ read three threeUnfit (junk 1) 0 (record { number = 6; count = 0; work = junk 1 })
+    ∷ read three threeAtRest (junk 1) 3 (record { number = 7; count = 0; work = junk 1 })
     -- the program's case, with its end line
     ∷ lists three threeAtRest 12
     (W 0 0 0 (5 ∷ []) ∷ E 1 1 ∷ W 2 1 0 (3 ∷ []) ∷ E 3 2 ∷ W 4 2 0 (4 ∷ []) ∷ E 5 3

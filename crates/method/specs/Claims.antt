@@ -12,6 +12,7 @@ use Rattle.flash.specs.Geometry.{Sizes, inRange, blockOf, originalCount, slotCo
 use Rattle.flash.specs.Chip.{Chip, isWhole, isUnfinished}
 use Rattle.split.specs.OneToOne.{isOneToOne}
 use Rattle.split.specs.Split.{setOf, isSplit}
+use Rattle.split.specs.Answer.{splitRows}
 use Rattle.method.specs.Move.{Move}
 use Rattle.method.specs.Cycle.{dest, top}
 use Rattle.method.specs.Read.{fullOf, goBack, goOn, readSlots}
@@ -20,8 +21,10 @@ use Rattle.method.specs.Step.{erasesBlock, tally, operationsFrom}
 use Rattle.method.specs.Mend.{Reading, lines, reading}
 use Rattle.method.specs.Answers.{runRows, mendRows, readRows}
 use Rattle.method.specs.Runs.{RunsAddUp, StatesReached}
-use Rattle.method.specs.Demand3.{Demand3, SameSlots}
+use Rattle.method.specs.Demand3.{Demand3}
 use Rattle.method.specs.Example.{ExampleHolds}
+use Rattle.method.specs.BoundsMet.{BoundsMet}
+use Rattle.method.specs.TwoPages.{TwoPagesHold}
 use Rattle.method.specs.Cases.{CasesHold}
 
 -- "There are 2 × n × (m + 1) steps"
@@ -123,6 +126,7 @@ ErasesNext =
 
 -- "The lowest number that applies is returned."
 pub record LowestReturned : Type 0 where
+  pub by-split : (Z : Sizes) (list sets : List ℕ) → Lowest (splitRows Z list sets) (refusal (splitRows Z list sets))
   pub by-run : (M : Move) (chip : Chip) (work : List ℕ) (place : ℕ) → Lowest (runRows M chip work place) (refusal (runRows M chip work place))
   pub by-mend : (Z : Sizes) (chip : Chip) → Lowest (mendRows Z chip) (refusal (mendRows Z chip))
   pub by-read : (M : Move) (chip : Chip) (work : List ℕ) (k : ℕ) → Lowest (readRows M chip work k) (refusal (readRows M chip work k))
@@ -141,5 +145,6 @@ pub record Claims : Type 0 where
   pub erases-next : ErasesNext
   pub lowest : LowestReturned
   pub demand-3 : Demand3
-  pub same-slots : SameSlots
+  pub bounds : BoundsMet
   pub example : ExampleHolds
+  pub two-pages : (byte : ℕ) → TwoPagesHold byte

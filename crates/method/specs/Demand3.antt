@@ -83,16 +83,12 @@ pub data AtEach (P : History → Type 0) : List History → Type 0 where
   none : AtEach P []
   more : {h : History} {hs : List History} → P h → AtEach P hs → AtEach P (h ∷ hs)
 
-unfoldable pub Demand3 : Type 0
-Demand3 =
-    (M : Move) (chip₀ : Chip) → Start M chip₀ → (events : List Event) → AllAllowed M events (starting chip₀)
-    → AtEach (Keeps M chip₀) (moments events (starting chip₀))
-
--- "equal marks mean the same pages summed": two reads under the same sizes, list, split and s
-unfoldable pub SameSlots : Type 0
-SameSlots =
-    (M : Move) (one other : Chip) → one .marks ≡ other .marks → (k : ℕ) (work₁ work₂ : List ℕ)
-    → readAnswer M one work₁ k .number ≡ 0 → readAnswer M other work₂ k .number ≡ 0
-    → (slots : List ℕ)
-    × (readAnswer M one work₁ k ≡ record { number = 0; count = length slots; work = sum (pageAt (M .sizes .P) one) slots })
-    × (readAnswer M other work₂ k ≡ record { number = 0; count = length slots; work = sum (pageAt (M .sizes .P) other) slots })
+-- One claim: what holds at every moment of a list of events, and that equal marks mean the same pages summed.
+pub record Demand3 : Type 0 where
+  pub kept : (M : Move) (chip₀ : Chip) → Start M chip₀ → (events : List Event) → AllAllowed M events (starting chip₀)
+      → AtEach (Keeps M chip₀) (moments events (starting chip₀))
+  -- The slots are chosen by the move, the marks and k alone, before any store is seen; a read of every chip with these marks sums them.
+  pub same-slots : (M : Move) (marks : List ℕ) (k : ℕ)
+      → (slots : List ℕ)
+      × ((chip : Chip) → chip .marks ≡ marks → (work : List ℕ) → readAnswer M chip work k .number ≡ 0
+      → readAnswer M chip work k ≡ record { number = 0; count = length slots; work = sum (pageAt (M .sizes .P) chip) slots })

@@ -12,4 +12,6 @@ pub mod Events
 pub mod Demand3
 pub mod Cases
 pub mod Example
+pub mod TwoPages
+pub mod BoundsMet
 pub mod Claims

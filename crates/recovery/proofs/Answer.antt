@@ -13,7 +13,7 @@ use Rattle.flash.specs.Chip.{Chip, eraseBlock}
 use Rattle.flash.proofs.Bools.{or-false-left, or-false-right}
 use Rattle.method.specs.Move.{letter}
 use Rattle.method.specs.Mend.{fullFrom, forwardTorn, backwardTorn, forwardFull, backwardFull, lines, legalMarks, reading}
-use Rattle.method.specs.Answers.{badChip, fitsNone, mendRows, mended, mendAnswer}
+use Rattle.method.specs.Answers.{badChip, marksAnswer, fitsNone, mendRows, mended, mendAnswer}
 use Rattle.recovery.specs.MendIs.{MendIs}
 
 -- P has no part in what the marks tell
@@ -48,13 +48,13 @@ module _ (Z : Sizes) (chip : Chip) where
 
     module _ (lengths : badChip Z chip ≡ false) where
       pub refused-6 : reading Z (chip .marks) ≡ none → Refused 6
-      unfolding mendAnswer mendRows refusal firstFit numberOr0 fitsNone
+      unfolding mendAnswer mendRows refusal firstFit numberOr0 fitsNone marksAnswer
       refused-6 e = rw (sizes, lengths, e)
 
       pub mended-full : (place : ℕ) → reading Z (chip .marks) ≡ some (record { place = place; toErase = none }) → mendAnswer Z chip ≡ record { number = 0; place = place; erases = 0; chip = chip }
-      unfolding mendAnswer mendRows refusal firstFit numberOr0 fitsNone mended
+      unfolding mendAnswer mendRows refusal firstFit numberOr0 fitsNone marksAnswer mended
       mended-full place e = rw (sizes, lengths, e)
 
       pub mended-torn : (place block : ℕ) → reading Z (chip .marks) ≡ some (record { place = place; toErase = some block }) → mendAnswer Z chip ≡ record { number = 0; place = place; erases = 1; chip = eraseBlock (Z .m) (Z .P) block chip }
-      unfolding mendAnswer mendRows refusal firstFit numberOr0 fitsNone mended
+      unfolding mendAnswer mendRows refusal firstFit numberOr0 fitsNone marksAnswer mended
       mended-torn place block e = rw (sizes, lengths, e)

@@ -1,9 +1,9 @@
 -- What the search of the marks tells when it ends.
-use mathlib.Core.Path.{_≡_, refl, sym, _∙_}
+use mathlib.Core.Path.{_≡_, refl, sym, ap, _∙_}
 use mathlib.Core.Logic.{_⊎_, inl, inr, ⊎-elim, _≢_}
 use mathlib.Core.Bool.{Bool, true, false, cond, _||_}
 use mathlib.Core.List.{List}
-use mathlib.Core.Option.{none}
+use mathlib.Core.Option.{Option, none, some}
 use Prim.Native.Nat.{ℕ, _+_, _-_, _*_, _≤_, _<_}
 use native.Mathlib.Omega.{arith}
 use lib.Dec.{eqb, ltb}
@@ -11,17 +11,37 @@ use borrow.Author.Tests.{eqb-true, eqb-false, ne-eqb, ltb-true, ltb-false}
 use Rattle.flash.specs.Geometry.{Sizes}
 use Rattle.flash.proofs.Bools.{bool-cases, or-cases, or-false-left, or-false-right}
 use Rattle.method.specs.Move.{letter}
-use Rattle.method.specs.Mend.{forwardTorn, backwardTorn, forwardFull, backwardFull, legalMarks, reading}
+use Rattle.method.specs.Mend.{Reading, forwardTorn, backwardTorn, forwardFull, backwardFull, legalMarks, reading}
+use Rattle.method.specs.Answers.{MarksAnswer, marksAnswer}
 use Rattle.method.proofs.MendLines as lines
 use Rattle.method.proofs.MendLines.{Filled}
+use Rattle.recovery.specs.declared.marks.Found.{Found}
 use Rattle.recovery.specs.declared.marks.Found.the-variants.{Nothing, Full, Torn}
-use Rattle.recovery.specs.Found.{readingOf, foundAt}
+use Rattle.recovery.specs.Found.{answerOf, readingOf, foundAt}
 use Rattle.recovery.proofs.Reading.{reads-forward-torn, reads-backward-torn, reads-forward-full, reads-backward-full, reads-none, torn-between, under-below, other-above}
 use Rattle.recovery.proofs.Search.{Upto, change-in}
 
 pub reads-nothing : readingOf Nothing ≡ none
-unfolding readingOf
+unfolding answerOf
 reads-nothing = refl
+
+-- the number goes by what is told, in both lists of cases
+listed : (found : Found) → answerOf found ≡ marksAnswer (readingOf found)
+unfolding answerOf marksAnswer
+listed Nothing = refl
+listed (Full place) = refl
+listed (Torn place block) = refl
+
+pub answered : (found : Found) (told : Option Reading) → readingOf found ≡ told → answerOf found ≡ marksAnswer told
+answered found told e = listed found ∙ ap marksAnswer e
+
+told-by : (told : Option Reading) → marksAnswer told .told ≡ told
+unfolding marksAnswer
+told-by none = refl
+told-by (some found) = refl
+
+pub what-is-told : (found : Found) (told : Option Reading) → answerOf found ≡ marksAnswer told → readingOf found ≡ told
+what-is-told found told e = ap (λ (a : MarksAnswer). a .told) e ∙ told-by told
 
 -- the search was left at the second unfinished block
 pub found-second : (n m : ℕ) (forward : Bool) (torn change : ℕ) → foundAt n m forward 2 torn change ≡ Nothing
@@ -86,12 +106,12 @@ module _ (Z : Sizes) (pages : 0 < Z .m) (marks : List ℕ) where
     -- ---- which of the four lines fits
     module _ (legal : legalMarks Z marks ≡ true) where
       full-tells : (forward : Bool) → count ≡ 0 → 1 ≤ change → change ≤ n → (forward ≡ true → top ≡ letter Z 0) → (forward ≡ false → top ≢ letter Z 0) → readingOf (Full (cond forward (change - 1) (2 * n - change) * (m + 1) + m)) ≡ reading Z marks
-      unfolding readingOf forwardFull backwardFull
+      unfolding answerOf forwardFull backwardFull
       full-tells true e l h t f = sym (reads-forward-full Z pages marks change legal (filled-is 0 e l h (t refl)))
       full-tells false e l h t f = sym (reads-backward-full Z pages marks change legal (filled-is 2 e l h (top-back h (f refl))))
 
       torn-tells : (forward : Bool) → count ≡ 1 → torn + 1 ≡ change → (forward ≡ true → top ≡ letter Z 0) → (forward ≡ false → top ≢ letter Z 0) → readingOf (Torn (cond forward torn (2 * n - torn) * (m + 1)) torn) ≡ reading Z marks
-      unfolding readingOf forwardTorn backwardTorn
+      unfolding answerOf forwardTorn backwardTorn
       torn-tells true e at t f = sym (reads-forward-torn Z pages marks torn legal (torn-is 0 e at (λ h. t refl)))
       torn-tells false e at t f = sym (reads-backward-torn Z pages marks torn legal (torn-is 2 e at (λ h. top-back h (f refl))))
 

@@ -7,14 +7,18 @@ use lib.Dec.{eqb, ltb}
 use Rattle.flash.specs.Geometry.{isLetter}
 use Rattle.flash.specs.Chip.{isFull}
 use Rattle.method.specs.Mend.{Reading}
+use Rattle.method.specs.Answers.{MarksAnswer}
 use Rattle.recovery.specs.declared.marks.Found.{Found}
 use Rattle.recovery.specs.declared.marks.Found.the-variants.{Nothing, Full, Torn}
 
--- the place and the block to erase, or none where the marks fit no moment of the move (6)
-unfoldable pub readingOf : Found → Option Reading
-readingOf Nothing = none
-readingOf (Full place) = some (record { place = place; toErase = none })
-readingOf (Torn place block) = some (record { place = place; toErase = some block })
+-- each case of the search's answer: the number of the table of refusals, the place, and the block to erase
+unfoldable pub answerOf : Found → MarksAnswer
+answerOf Nothing = record { number = 6; told = none }
+answerOf (Full place) = record { number = 0; told = some (record { place = place; toErase = none }) }
+answerOf (Torn place block) = record { number = 0; told = some (record { place = place; toErase = some block }) }
+
+abbrev pub readingOf : Found → Option Reading
+readingOf found = answerOf found .told
 
 -- how many pages of a block are known at once to bear a letter: all, if it is full of this letter
 unfoldable pub pagesKnown : (m : ℕ) → (marks : List ℕ) → (block letter : ℕ) → ℕ

@@ -5,14 +5,14 @@ ghost use Prim.Native.Nat.{_+_, _*_, _≤_, _<_};
 ghost use lib.ListN.{length};
 ghost use Rattle.flash.specs.Chip.{isMark};
 ghost use Rattle.method.specs.Mend.{reading};
-ghost use Rattle.method.specs.Answers.{fitsNone};
-ghost use Rattle.recovery.specs.Found.{readingOf, pagesKnown, foundAt};
+ghost use Rattle.method.specs.Answers.{marksAnswer, fitsNone};
+ghost use Rattle.recovery.specs.Found.{answerOf, pagesKnown, foundAt};
 use flash::ERASED;
 use flash::block::NO_LETTER;
 use flash::block::is_full;
 use walk::letters::letter_after;
 
-// What the marks tell; `readingOf` in specs/ lists the values of each case.
+// What the marks tell; `answerOf` in specs/ lists the number and the values of each case.
 pub enum Found {
     // They fit no moment of the move.
     Nothing,
@@ -78,7 +78,7 @@ pub fn found_at(
 pub fn read_marks(n: usize, m: usize, s: usize, marks: &[u8]) -> Found
     requires { ⌜ (n ≤ 64) × (0 < m) × (m ≤ 64) × (s < 3) ⌝ }
     requires { ⌜ length (now marks) ≡ (n + 1) * m ⌝ }
-    ensures { λ r. ⌜ readingOf r ≡ reading (record { n = n; m = m; P = 0; s = s }) (now (marks .entry)) ⌝ }
+    ensures { λ r. ⌜ answerOf r ≡ marksAnswer (reading (record { n = n; m = m; P = 0; s = s }) (now (marks .entry))) ⌝ }
 {
     let blocks = n + 1;
     let mut unfinished: usize = 0;

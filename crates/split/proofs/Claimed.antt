@@ -3,11 +3,13 @@ use mathlib.Core.Path.{_≡_, refl}
 use mathlib.Core.Bool.{true}
 use native.Mathlib.Omega.{arith}
 use borrow.Author.Tests.{eq-eqb}
+use Rattle.flash.specs.Lists.{range, any, first}
 use Rattle.flash.specs.Geometry.{originalCount}
 use Rattle.split.specs.OneToOne.{isOneToOne}
-use Rattle.split.specs.Rule.{setsGiven, splitByRule}
-use Rattle.split.specs.Answer.{splitRows, splitAnswer}
-use Rattle.split.specs.Claims.{SplitEnds, walkOf, WalkEnds, WalkIsShort, FilledFits, RowsAscend}
+use Rattle.split.specs.Split.{sourceBlock, destBlock, setOf}
+use Rattle.split.specs.Rule.{otherEnd, swapped, blockAt, isPageOf, isUsed, lowestUnused, pagesMet, exchange, giveNext, setsGiven, splitByRule}
+use Rattle.split.specs.Answer.{splitAnswer}
+use Rattle.split.specs.Claims.{SplitEnds, walkOf, WalkEnds, WalkIsShort, WalkBoundMet, FilledFits}
 use Rattle.split.proofs.Answers.{accept, passed}
 use Rattle.split.proofs.RuleLaws.{given, rule-split, rule-length, walk-bound, walk-length}
 
@@ -26,6 +28,10 @@ walk-is-short n m list listed accepted k h =
     let g = given n m list listed accepted k (omega arith) in
     rw (g .counted) at (walk-length n m list listed accepted (setsGiven m list k) (g .coloured) (omega (arith, g .counted)))
 
+pub walk-bound-met : WalkBoundMet
+unfolding walkOf otherEnd swapped blockAt isPageOf isUsed lowestUnused pagesMet exchange giveNext setsGiven sourceBlock destBlock setOf range any first
+walk-bound-met = refl
+
 pub filled-fits : FilledFits
 unfolding splitAnswer
 filled-fits Z list sets e =
@@ -33,7 +39,3 @@ filled-fits Z list sets e =
     let s : splitAnswer Z list sets .sets ≡ splitByRule (Z .n) (Z .m) list = rw (eq-eqb _ 0 e) in
     let accepted : isOneToOne (originalCount Z) list ≡ true = accept (originalCount Z) list (p .good) in
     rw s (rule-length (Z .n) (Z .m) list (p .listed) accepted, p .good, rule-split (Z .n) (Z .m) list (p .listed) accepted)
-
-pub rows-ascend : RowsAscend
-unfolding splitRows
-rows-ascend Z list sets = refl

@@ -1,14 +1,14 @@
 -- What is claimed of the split, as types. The proofs are in proofs/, and `claims` of src/ asks for them.
 use mathlib.Core.Path.{_≡_}
 use mathlib.Core.Bool.{true, false}
-use mathlib.Core.List.{List, [], _∷_, map}
+use mathlib.Core.List.{List, [], _∷_}
 use Prim.Native.Nat.{ℕ, _+_, _-_, _*_, _≤_, _<_}
 use lib.ListN.{length}
 use Rattle.flash.specs.Geometry.{Sizes, originalCount, setsLength}
 use Rattle.split.specs.OneToOne.{badList, isOneToOne}
 use Rattle.split.specs.Split.{isSplit}
 use Rattle.split.specs.Rule.{source, destination, blockAt, lowestUnused, pagesMet, setsGiven, splitByRule}
-use Rattle.split.specs.Answer.{splitRows, splitAnswer}
+use Rattle.split.specs.Answer.{splitAnswer}
 
 -- "Every one-to-one list ends in a split."
 abbrev pub SplitEnds : Type 0
@@ -34,6 +34,10 @@ WalkIsShort =
     (n m : ℕ) (list : List ℕ) → length list ≡ n * m → isOneToOne (n * m) list ≡ true
     → (k : ℕ) → k < n * m → length (walkOf m list k k) ≤ 2 * n - 2
 
+-- The bound is met: by page 4 of six, of three blocks.
+abbrev pub WalkBoundMet : Type 0
+WalkBoundMet = length (walkOf 2 (0 ∷ 2 ∷ 1 ∷ 4 ∷ 3 ∷ 5 ∷ []) 4 4) ≡ 2 * 3 - 2
+
 -- What a split call filled passes the tests of run and read: their numbers 2, 3 and 4 are not given for it.
 abbrev pub FilledFits : Type 0
 FilledFits =
@@ -41,7 +45,3 @@ FilledFits =
     → (length (splitAnswer Z list sets .sets) ≡ setsLength Z)
     × (badList (originalCount Z) list ≡ false)
     × (isSplit (Z .n) (Z .m) list (splitAnswer Z list sets .sets) ≡ true)
-
--- "The lowest number that applies is returned": the numbers of the rows ascend, so the first row that fits has it.
-abbrev pub RowsAscend : Type 0
-RowsAscend = (Z : Sizes) (list sets : List ℕ) → map (λ row. row .gives) (splitRows Z list sets) ≡ 1 ∷ 2 ∷ 3 ∷ []

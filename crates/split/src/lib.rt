@@ -8,13 +8,13 @@ mod rule;
 pub mod sets;
 mod tables;
 
-ghost use Rattle.split.specs.Claims.{SplitEnds, WalkEnds, WalkIsShort, FilledFits, RowsAscend};
+ghost use Rattle.split.specs.Claims.{SplitEnds, WalkEnds, WalkIsShort, WalkBoundMet, FilledFits};
 
 // The theorems about the definitions, as the contract of a function that does nothing: the check demands their proofs.
 pub fn claims()
     ensures split_ends { λ _. ⌜ SplitEnds ⌝ }
     ensures walk_ends { λ _. ⌜ WalkEnds ⌝ }
     ensures walk_is_short { λ _. ⌜ WalkIsShort ⌝ }
+    ensures walk_bound_met { λ _. ⌜ WalkBoundMet ⌝ }
     ensures filled_fits { λ _. ⌜ FilledFits ⌝ }
-    ensures rows_ascend { λ _. ⌜ RowsAscend ⌝ }
 {}

@@ -1,9 +1,9 @@
-use Rattle.split.proofs.Claimed.{split-ends, walk-ends, walk-is-short, filled-fits, rows-ascend}
+use Rattle.split.proofs.Claimed.{split-ends, walk-ends, walk-is-short, walk-bound-met, filled-fits}
 use Rattle.split.proofs.claims.Statement.{statement}
 use Rattle.split.proofs.claims.Tie as tie
 
 returns : tie.Need-returns
-returns c = (split-ends, (walk-ends, (walk-is-short, (filled-fits, rows-ascend))))
+returns c = (split-ends, (walk-ends, (walk-is-short, (walk-bound-met, filled-fits))))
 
 pub claims-spec : {M : Type 1} → statement M
 claims-spec = tie.close (tie.spec returns)

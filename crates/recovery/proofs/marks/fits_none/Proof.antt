@@ -1,9 +1,14 @@
 use borrow.Author.Needs.{needs}
-use mathlib.Core.Path.{sym, ap, _∙_}
-use Rattle.method.specs.Answers.{fitsNone}
-use Rattle.recovery.specs.Found.{readingOf}
+use mathlib.Core.Path.{_≡_, sym, ap, _∙_}
+use lib.Dec.{eqb}
+use Rattle.method.specs.Answers.{MarksAnswer, fitsNone}
+use Rattle.recovery.specs.Found.{answerOf}
 use Rattle.recovery.proofs.marks.fits_none.Statement.{statement}
 use Rattle.recovery.proofs.marks.fits_none.Tie as tie
+
+-- number 6, or another
+refused-by : {one other : MarksAnswer} → one ≡ other → eqb (one .number) 6 ≡ eqb (other .number) 6
+refused-by e = ap (λ (a : MarksAnswer). eqb (a .number) 6) e
 
 read-marks-requires : tie.Need-read-marks-requires
 read-marks-requires c κs = search needs
@@ -18,16 +23,16 @@ enum-told-3 : tie.Need-enum-told-3
 enum-told-3 c = search needs
 
 returns : tie.Need-returns
-unfolding fitsNone readingOf
-returns c = ap fitsNone (ap readingOf (sym (c .enum-told .given .1)) ∙ c .before .before .read-marks .ensures)
+unfolding fitsNone answerOf
+returns c = refused-by (ap answerOf (sym (c .enum-told .given .1)) ∙ c .before .before .read-marks .ensures)
 
 returns-2 : tie.Need-returns-2
-unfolding fitsNone readingOf
-returns-2 c = ap fitsNone (ap readingOf (sym (c .enum-told2 .given .1)) ∙ c .before .before .read-marks .ensures)
+unfolding fitsNone answerOf
+returns-2 c = refused-by (ap answerOf (sym (c .enum-told2 .given .1)) ∙ c .before .before .read-marks .ensures)
 
 returns-3 : tie.Need-returns-3
-unfolding fitsNone readingOf
-returns-3 c = ap fitsNone (ap readingOf (sym (c .enum-told3 .given .1)) ∙ c .before .before .read-marks .ensures)
+unfolding fitsNone answerOf
+returns-3 c = refused-by (ap answerOf (sym (c .enum-told3 .given .1)) ∙ c .before .before .read-marks .ensures)
 
 pub fits-none-spec : {M : Type 1} → statement M
 fits-none-spec =

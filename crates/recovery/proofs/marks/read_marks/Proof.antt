@@ -14,7 +14,7 @@ use Rattle.method.specs.Move.{letter}
 use Rattle.recovery.specs.Found.{readingOf}
 use Rattle.recovery.proofs.Reading.{reads-illegal}
 use Rattle.recovery.proofs.Search.{Upto, Block, LegalBelow, letter-same, legal-more, legal-all, change-in, torn-in, upto-none, known-in, block-known, legal-known, page-same, page-opens, page-first, page-second, block-changes, block-astray, block-kept}
-use Rattle.recovery.proofs.Tells.{reads-nothing, found-second, tells}
+use Rattle.recovery.proofs.Tells.{reads-nothing, answered, found-second, tells}
 use Rattle.recovery.proofs.marks.read_marks.Statement.{statement}
 use Rattle.recovery.proofs.marks.read_marks.Tie as tie
 
@@ -93,7 +93,7 @@ returns c =
     let z = Z (a .n) (a .m) (a .s) in
     let pages : 0 < a .m = omega arith in
     let illegal : isMark (getD (a .marks .now) (o .block * a .m + l .page) 0) ≡ false = sym (c .before .is-mark .ensures) ∙ not-true _ (c .if1 .taken) in
-    reads-nothing ∙ sym (reads-illegal z pages (a .marks .now) (o .block * a .m + l .page) (omega (arith, room b)) illegal)
+    answered _ _ (reads-nothing ∙ sym (reads-illegal z pages (a .marks .now) (o .block * a .m + l .page) (omega (arith, room b)) illegal))
 
 add-unfinished : tie.Need-add-unfinished Inv-loop μ-loop Inv-search μ-search
 add-unfinished c =
@@ -138,8 +138,9 @@ returns-2 c =
     let a = b .before .before .before .before .args in
     let z = Z (a .n) (a .m) (a .s) in
     let pages : 0 < a .m = omega arith in
-    reads-nothing
-    ∙ sym (block-astray z pages (a .marks .now) (o .block) (l .page) _ _ _ _ _ _ _ (l .whole) (omega arith) (e .loop-test .left) (o .inv .2) (l .inv .1) (omega arith) (c .before .if4 .taken))
+    answered _ _
+    (reads-nothing
+    ∙ sym (block-astray z pages (a .marks .now) (o .block) (l .page) _ _ _ _ _ _ _ (l .whole) (omega arith) (e .loop-test .left) (o .inv .2) (l .inv .1) (omega arith) (c .before .if4 .taken)))
 
 add-block : tie.Need-add-block Inv-loop μ-loop Inv-search μ-search
 add-block c = search needs
@@ -183,7 +184,7 @@ returns-3 c =
     let z = Z (a .n) (a .m) (a .s) in
     let pages : 0 < a .m = omega arith in
     let start : c .before .letter-after2 .result ≡ letter z 0 = c .before .letter-after2 .ensures ∙ letter-same (a .n) (a .m) (a .s) 0 in
-    rw (c .found-at .ensures)
+    answered _ _ (rw (c .found-at .ensures)
     (⊎-elim
     (λ w.
     let end : o .block ≡ a .n + 1 = omega arith in
@@ -196,7 +197,7 @@ returns-3 c =
     rw (w .10, w .9 .taken)
     (ap readingOf (found-second _ _ _ _ _) ∙ reads-nothing
     ∙ sym (page-second z pages (a .marks .now) (o .block) (l .page) _ _ _ _ (l .whole) (room (record { before = t; search-test = w .0 })) (w .4 .taken) (l .inv .1) _ _ (o .inv .2) (omega arith) (w .9 .taken) (w .8 .taken))))
-    (c .before .before .search-test .came))
+    (c .before .before .search-test .came)))
 
 pub read-marks-spec : {M : Type 1} → statement M
 read-marks-spec =

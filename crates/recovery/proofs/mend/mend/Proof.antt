@@ -13,9 +13,10 @@ use Rattle.flash.specs.Chip.{Chip, eraseBlock}
 use Rattle.flash.proofs.Bounds.{in-range, block-in-store, block-in-marks}
 use Rattle.method.specs.Mend.{reading}
 use Rattle.method.specs.Answers.{badChip}
-use Rattle.recovery.specs.Found.{readingOf}
+use Rattle.recovery.specs.Found.{answerOf, readingOf}
 use Rattle.recovery.proofs.Reading.{torn-inside}
 use Rattle.recovery.proofs.Answer.{same-reading, mend-is, chip-lengths, refused-1, refused-2, refused-6, mended-full, mended-torn}
+use Rattle.recovery.proofs.Tells.{what-is-told}
 use Rattle.recovery.proofs.mend.mend.Statement.{statement}
 use Rattle.recovery.proofs.mend.mend.Tie as tie
 
@@ -90,11 +91,11 @@ enum-known-place-2 c = search needs
 told : (c : tie.After-read-marks) → (let a = c .before .before .before .before .before .before .before .before .before .args in readingOf (c .read-marks .result) ≡ reading (Z (a .n) (a .m) (a .p) (a .s)) (a .marks .now))
 told c =
     let a = c .before .before .before .before .before .before .before .before .before .args in
-    c .read-marks .ensures ∙ same-reading (a .n) (a .m) (a .p) (a .s) (a .marks .now)
+    what-is-told _ _ (c .read-marks .ensures) ∙ same-reading (a .n) (a .m) (a .p) (a .s) (a .marks .now)
 
 -- and where a block is unfinished
 torn-told : (c : tie.After-place2) → (let a = c .before .before .before .before .before .before .before .before .before .before .before .args in reading (Z (a .n) (a .m) (a .p) (a .s)) (a .marks .now) ≡ some (record { place = c .place2 .given .0 .0; toErase = some (c .place2 .given .0 .1 .0) }))
-unfolding readingOf
+unfolding answerOf
 torn-told c = sym (told (c .before .before)) ∙ ap readingOf (c .place2 .given .1)
 
 erase-block-requires : tie.Need-erase-block-requires
@@ -112,7 +113,7 @@ same-length : tie.Need-same-length
 same-length c = search needs
 
 returns-3 : tie.Need-returns-3
-unfolding readingOf
+unfolding answerOf
 returns-3 c =
     let r = c .before .before .before in
     let k = r .before .before in
@@ -124,7 +125,7 @@ same-length-2 : tie.Need-same-length-2
 same-length-2 c = search needs
 
 returns-4 : tie.Need-returns-4
-unfolding readingOf
+unfolding answerOf
 returns-4 c =
     let r = c .before .before .before in
     let k = r .before .before in

@@ -1,0 +1,16 @@
+use borrow.Author.Tests.{lt-ltb, le-ltb}
+use Rattle.flash.specs.Geometry.{isLetter}
+use Rattle.flash.specs.Chip.{markAt, isWhole}
+use Rattle.flash.specs.Claims.{WholeByLetter}
+use Rattle.flash.proofs.claims.Statement.{statement}
+use Rattle.flash.proofs.claims.Tie as tie
+
+whole-by-letter : WholeByLetter
+unfolding isWhole isLetter
+whole-by-letter = record { whole = λ marks t h. lt-ltb (markAt marks t) 3 h; torn = λ marks t h. le-ltb (markAt marks t) 3 h }
+
+returns : tie.Need-returns
+returns c = whole-by-letter
+
+pub claims-spec : {M : Type 1} → statement M
+claims-spec = tie.close (tie.spec returns)
