@@ -5,14 +5,16 @@ use mathlib.Core.Bool.{Bool, true, false, cond, _||_}
 use mathlib.Core.List.{List, [], _∷_, _++_}
 use Prim.Native.Nat.{ℕ, zero, suc, _+_, _*_, _/_, _%_, _≤_, _<_}
 use native.Mathlib.Nat.{not-suc-le-zero, div-add-mod', mod-lt, mul-le-mul}
+use native.Mathlib.Numerals.{add-one}
 use native.Mathlib.Omega.{arith}
 use lib.Dec.{ltb}
-use lib.ListN.{length, getD, take}
-use lib.Seq.{take-suc, take-all}
+use lib.ListN.{length, getD, take, drop, set}
+use lib.Seq.{take-suc, take-all, take-at, length-take-le}
 use borrow.Author.Tests.{eqb-false, ltb-true, ltb-false}
 use Rattle.flash.specs.Geometry.{Sizes, inRange, originalCount}
 use Rattle.flash.proofs.Bools.{bool-cases, or-false-left, or-false-right}
 use Rattle.flash.proofs.Bounds.{in-range}
+use Rattle.flash.proofs.Loops.{over-more}
 use Rattle.split.proofs.Answers.{small}
 use Rattle.c_api.specs.Bytes.{entriesOf, isOdd, entriesWithin}
 
@@ -69,6 +71,27 @@ module _ (room : ℕ) (bytes : List ℕ) where
     even-bytes bytes (or-false-left (isOdd bytes) (ltb room (length bytes / 2)) e),
     ltb-false room (length bytes / 2) (or-false-right (isOdd bytes) (ltb room (length bytes / 2)) e),
   )
+
+  -- there is room for what is decoded
+  entries-fit : length (entriesWithin room bytes) ≤ room
+  entries-fit = ⊎-elim
+      (λ (none : no-list ≡ true). rw (no-entries none) (omega arith))
+      (λ (fits : no-list ≡ false). let w = within fits in rw (entries-within fits) (omega (arith, entries-length (length bytes / 2) bytes (w .0))))
+      (bool-cases no-list)
+
+-- one more entry of a list that is decoded into an area
+pub decode-more : (bytes area : List ℕ) (count i : ℕ) → length bytes ≡ 2 * count → i < count → count ≤ length area
+    → set (take i (entriesOf bytes) ++ drop i area) i (getD bytes (2 * i) 0 + getD bytes (2 * i + 1) 0 * 256) ≡ take (i + 1) (entriesOf bytes) ++ drop (i + 1) area
+decode-more bytes area count i e h k =
+    let passed : length (take i (entriesOf bytes)) ≡ i = length-take-le i (entriesOf bytes) (omega (arith, entries-length count bytes e)) in
+    over-more (take i (entriesOf bytes)) area i _ passed (omega arith) ∙ rw (add-one i, entries-more bytes count i e h)
+
+-- what a caller lends of an area that a list was decoded into
+pub count-fits : (room : ℕ) (bytes : List ℕ) (r : ℕ) → r ≡ length (entriesWithin room bytes) → r ≤ room
+count-fits room bytes r count = rw count (entries-fit room bytes)
+
+pub front-is : (entries rest after : List ℕ) (r : ℕ) → r ≡ length entries → after ≡ entries ++ rest → take r after ≡ entries
+front-is entries rest after r count whole = rw whole (take-at entries rest r (sym count))
 
 -- A call that refuses every list of another length alike answers for these entries what it answers for the bytes.
 pub answer-within : {A : Type 0} (Z : Sizes) (answer : List ℕ → A) (refused : A)

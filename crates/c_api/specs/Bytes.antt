@@ -1,9 +1,9 @@
 -- The list in the C calls.
 use mathlib.Core.Bool.{Bool, cond, _||_}
-use mathlib.Core.List.{List, [], _∷_}
+use mathlib.Core.List.{List, [], _∷_, _++_}
 use Prim.Native.Nat.{ℕ, _+_, _*_, _/_, _%_}
 use lib.Dec.{eqb, ltb}
-use lib.ListN.{length}
+use lib.ListN.{length, drop}
 
 -- "In the C calls an entry is two bytes, low byte first."
 unfoldable pub entriesOf : List ℕ → List ℕ
@@ -19,3 +19,7 @@ isOdd bytes = eqb (length bytes % 2) 1
 -- one. No sizes have an empty list, so a call refuses it as it does such bytes.
 unfoldable pub entriesWithin : (room : ℕ) → List ℕ → List ℕ
 entriesWithin room bytes = cond (isOdd bytes || ltb room (length bytes / 2)) [] (entriesOf bytes)
+
+-- an area that a list was decoded into: its entries stand first, and behind them the area is as it was
+abbrev pub decodedInto : (area bytes : List ℕ) → List ℕ
+decodedInto area bytes = let entries = entriesWithin (length area) bytes in entries ++ drop (length entries) area

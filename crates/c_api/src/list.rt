@@ -1,9 +1,9 @@
 // The list as C lends it.
 
 ghost use mathlib.Core.Path.{_≡_};
-ghost use Prim.Native.Nat.{_+_, _*_, _≤_};
-ghost use lib.ListN.{length, take};
-ghost use Rattle.c_api.specs.Bytes.{entriesWithin};
+ghost use Prim.Native.Nat.{_+_, _*_};
+ghost use lib.ListN.{length};
+ghost use Rattle.c_api.specs.Bytes.{entriesWithin, decodedInto};
 
 // "In the C calls an entry is two bytes, low byte first."
 fn entry(low: u8, high: u8) -> u16
@@ -14,7 +14,7 @@ fn entry(low: u8, high: u8) -> u16
 
 // Decodes a list and returns how many entries it has: none where the bytes are no list or there is no room for it.
 pub fn decode(bytes: &[u8], list: &mut [u16]) -> usize
-    ensures { λ r. ⌜ (r ≤ length (now (list .entry))) × (take r (now (list .exit)) ≡ entriesWithin (length (now (list .entry))) (now (bytes .entry))) ⌝ }
+    ensures { λ r. ⌜ (r ≡ length (entriesWithin (length (now (list .entry))) (now (bytes .entry)))) × (now (list .exit) ≡ decodedInto (now (list .entry)) (now (bytes .entry))) ⌝ }
 {
     let count = bytes.len() / 2;
     if (bytes.len() % 2 == 1) | (list.len() < count) {

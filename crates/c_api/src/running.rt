@@ -39,7 +39,7 @@ pub extern "C" fn mover_run(
         marks,
         work,
         place as usize,
-        budget as usize,
+        budget,
     );
     *reached = ran.place;
     *steps = ran.steps;

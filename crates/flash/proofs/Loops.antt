@@ -1,5 +1,5 @@
 -- What one turn of a loop over bytes does.
-use mathlib.Core.Path.{_≡_, refl, ap, _∙_}
+use mathlib.Core.Path.{_≡_, refl, ap, _∙_, subst}
 use mathlib.Core.Bool.{_&&_, and-true}
 use mathlib.Core.List.{List, [], _∷_, _++_}
 use Prim.Native.Nat.{ℕ, zero, suc, _+_, _<_}
@@ -34,6 +34,19 @@ front-suc (x ∷ new) (y ∷ old) (suc i) e l = ap (λ (t : List ℕ). x ∷ t) 
 pub front-more : (new old : List ℕ) (i : ℕ) → length new ≡ length old → i < length old
     → set (take i new ++ drop i old) i (getD new i 0) ≡ take (i + 1) new ++ drop (i + 1) old
 front-more new old i e l = rw add-one (front-suc new old i e l)
+
+-- one more element written behind a front that lies over an area
+over-suc : (front area : List ℕ) (v : ℕ) → length front < length area
+    → set (front ++ drop (length front) area) (length front) v ≡ (front ++ (v ∷ [])) ++ drop (suc (length front)) area
+over-suc [] [] v l = absurd (not-suc-le-zero l)
+over-suc [] (y ∷ area) v l = refl
+over-suc (x ∷ front) [] v l = absurd (not-suc-le-zero l)
+over-suc (x ∷ front) (y ∷ area) v l = ap (λ (t : List ℕ). x ∷ t) (over-suc front area v (le-of-suc-le-suc l))
+
+pub over-more : (front area : List ℕ) (i v : ℕ) → length front ≡ i → i < length area
+    → set (front ++ drop i area) i v ≡ (front ++ (v ∷ [])) ++ drop (i + 1) area
+over-more front area i v e l = subst (λ (k : ℕ). set (front ++ drop k area) k v ≡ (front ++ (v ∷ [])) ++ drop (k + 1) area) e
+    (rw (add-one (length front)) (over-suc front area v (rw e l)))
 
 -- A loop that gathers the bits in which bytes differ from a value: they are none while each byte is that value.
 or-none : (a b : ℕ) → eqb (bitOr a b) 0 ≡ (eqb a 0 && eqb b 0)

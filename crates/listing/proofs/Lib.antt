@@ -2,6 +2,7 @@ pub mod DigitLaws
 pub mod PrintLaws
 pub mod WordLaws
 pub mod NumberLaws
+pub mod AreaLaws
 pub mod TakeLaws
 pub mod RequestLaws
 pub mod ReadBack

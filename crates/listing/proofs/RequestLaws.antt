@@ -1,22 +1,24 @@
 -- What the parts of an input say together.
-use mathlib.Core.Path.{_≡_, sym, ap, _∙_}
+use mathlib.Core.Path.{_≡_, refl, sym, ap, _∙_}
 use mathlib.Core.Bool.{Bool, true, false, cond, _&&_}
-use mathlib.Core.List.{List, [], _++_}
+use mathlib.Core.List.{List, [], _∷_, _++_, append-assoc, append-nil}
 use mathlib.Core.Option.{Option, none, some}
 use Prim.Native.Nat.{ℕ, _+_, _-_, _*_, _≤_, _<_}
 use native.Mathlib.Nat.{mul-le-mul}
 use native.Mathlib.Omega.{arith}
 use lib.Dec.{eqb, leb, ltb}
-use lib.ListN.{length, take, drop, length-drop}
-use lib.Seq.{length-take-le, drop-append-le, take-at}
-use borrow.Author.Tests.{leb-true, ltb-true}
+use lib.ListN.{length, take, drop, set, length-drop, length-append, take-append-drop}
+use lib.Seq.{length-take-le, drop-append-le, drop-length, take-at, set-split}
+use borrow.Author.Tests.{leb-true, ltb-true, le-leb, lt-leb}
 use Rattle.flash.specs.Lists.{all}
 use Rattle.flash.specs.Geometry.{isLetter}
 use Rattle.flash.proofs.Bools.{and-left, and-right}
 use Rattle.listing.specs.declared.request.SizesRead.the-variants.{Sizes as SizesAre, Unreadable as NoSizes}
-use Rattle.listing.specs.Numbers.{numbersIn, Taken, taken}
-use Rattle.listing.specs.Request.{unreadable, refused, isAllowed, exactly, requested, afterSizes, reading}
+use Rattle.listing.specs.Numbers.{numbersIn, Taken, taken, numbersMet}
+use Rattle.listing.specs.Request.{unreadable, refused, isAllowed, exactly, requested, afterSizes, reading, metAfter, numbersPut, withinLimit}
 use Rattle.listing.specs.Found.{sizesAs, requestIn}
+use Rattle.listing.specs.Area.{over}
+use Rattle.listing.proofs.TakeLaws.{met-short}
 
 -- the program's limits
 pub record Bounded (n m P s : ℕ) : Type 0 where
@@ -82,15 +84,53 @@ module _ (count due wanted : ℕ) (numbers area : List ℕ) (words : List (Optio
       unfolding exactly
       too-large h = rw (← found-due, f, h)
 
+-- The numbers met are put into the front of an area, by way of the part that is as long as those due.
+part-rest : (k due : ℕ) (area : List ℕ) → k ≤ due → due ≤ length area → drop k (take due area) ++ drop due area ≡ drop k area
+part-rest k due area h room =
+    let size : length (take due area) ≡ due = length-take-le due area room in
+    sym (drop-append-le k (take due area) (drop due area) (omega arith)) ∙ ap (drop k) (take-append-drop due area)
+
+pub due-put : (due wanted : ℕ) (numbers area : List ℕ) (words : List (Option ℕ)) → due ≡ wanted → due ≤ length numbers
+    → area ≡ over (numbersMet (length (take due numbers)) words) (take due numbers) → area ++ drop due numbers ≡ over (numbersMet wanted words) numbers
+due-put due wanted numbers area words d room e =
+    let met = numbersMet due words in
+    let front : area ≡ over met (take due numbers) = e ∙ rw (length-take-le due numbers room) in
+    rw (← d, front) (append-assoc met (drop (length met) (take due numbers)) (drop due numbers) ∙ ap (λ (rest : List ℕ). met ++ rest) (part-rest (length met) due numbers (met-short due words) room))
+
+-- ---- the input within the limit
+pub limit-kept : (input : List ℕ) → length input ≤ 4096 → (length input ≡ length (withinLimit input)) × (input ≡ over (withinLimit input) input)
+unfolding withinLimit
+limit-kept input h = rw (le-leb (length input) 4096 h) (refl, sym (rw (drop-length input) (append-nil input)))
+
+pub limit-cut : (input : List ℕ) → 4096 < length input → (4097 ≡ length (withinLimit input)) × (set input 4096 0 ≡ over (withinLimit input) input)
+unfolding withinLimit
+limit-cut input h =
+    let size : length (take 4096 input) ≡ 4096 = length-take-le 4096 input (omega arith) in
+    let n : length (take 4096 input ++ (0 ∷ [])) ≡ 4097 = length-append (take 4096 input) (0 ∷ []) ∙ rw size in
+    rw (lt-leb (length input) 4096 h) (sym n, rw n (set-split input 4096 0 h ∙ sym (append-assoc (take 4096 input) (0 ∷ []) (drop 4097 input))))
+
 module _ (text : List ℕ) where
   pub no-sizes : sizesAs text NoSizes ≡ taken [] 4 (numbersIn text) → unreadable ≡ reading text
   unfolding reading afterSizes
   no-sizes e = ap afterSizes e
 
+  pub none-put : (numbers : List ℕ) → sizesAs text NoSizes ≡ taken [] 4 (numbersIn text) → numbers ≡ over (numbersPut text) numbers
+  unfolding numbersPut metAfter
+  none-put numbers e = rw (← e)
+
   module _ (n m P s next : ℕ) (sizes : sizesAs text (SizesAre n m P s next) ≡ taken [] 4 (numbersIn text)) where
     pub not-allowed : isAllowed (record { n = n; m = m; P = P; s = s }) ≡ false → refused ≡ reading text
     unfolding reading afterSizes
     not-allowed e = sym (ap afterSizes (sym sizes) ∙ rw e)
+
+    pub none-put-refused : (numbers : List ℕ) → isAllowed (record { n = n; m = m; P = P; s = s }) ≡ false → numbers ≡ over (numbersPut text) numbers
+    unfolding numbersPut metAfter
+    none-put-refused numbers e = rw (← sizes, e)
+
+    pub all-put : (count : ℕ) (numbers exit : List ℕ) → isAllowed (record { n = n; m = m; P = P; s = s }) ≡ true → count ≡ n * m
+        → exit ≡ over (numbersMet (count + count * P) (numbersIn (drop next text))) numbers → exit ≡ over (numbersPut text) numbers
+    unfolding numbersPut metAfter
+    all-put count numbers exit e k f = f ∙ rw (k, ← sizes, e)
 
     pub as-asked : (count : ℕ) (right : Bool) (exit : List ℕ) → isAllowed (record { n = n; m = m; P = P; s = s }) ≡ true → count ≡ n * m → cond right (some (take (count + count * P) exit)) none ≡ exactly count (taken [] (count + count * P) (numbersIn (drop next text))) → cond right (requestIn exit (record { n = n; m = m; P = P; s = s })) unreadable ≡ reading text
     unfolding reading afterSizes requested

@@ -1,18 +1,21 @@
 -- Numbers that are taken from the front of a text, one after the other.
-use mathlib.Core.Path.{_≡_, refl}
+use mathlib.Core.Path.{_≡_, refl, sym, ap, _∙_}
 use mathlib.Core.Bool.{Bool, true, false}
 use mathlib.Core.Logic.{_⊎_, ⊎-elim}
-use mathlib.Core.List.{List, [], _∷_, _++_}
+use mathlib.Core.List.{List, [], _∷_, _++_, append-assoc, append-nil}
 use mathlib.Core.Option.{Option, none, some}
-use Prim.Native.Nat.{ℕ, zero, suc, _-_, _≤_}
+use Prim.Native.Nat.{ℕ, zero, suc, _+_, _-_, _≤_, _<_}
+use native.Mathlib.Numerals.{add-one}
 use native.Mathlib.Omega.{arith}
 use lib.Dec.{eqb}
-use lib.ListN.{length, getD, drop}
+use lib.ListN.{length, getD, take, drop, set, take-append-drop}
+use lib.Seq.{take-suc-set, drop-set-lt, drop-drop, length-take-le}
 use borrow.Author.Tests.{ne-eqb}
 use denote.Enum.Declared.{tagOf}
 use Rattle.listing.specs.declared.number.Found.{Found}
 use Rattle.listing.specs.declared.number.Found.the-variants.{Number, Malformed, End}
-use Rattle.listing.specs.Numbers.{numbersIn, Next, number, malformed, end, next, taken}
+use Rattle.listing.specs.Numbers.{numbersIn, Next, number, malformed, end, next, taken, numbersMet}
+use Rattle.listing.specs.Area.{over}
 use Rattle.listing.specs.Found.{toldAs}
 use Rattle.listing.proofs.number.Found.{the-type}
 
@@ -38,6 +41,41 @@ taken-more values zero value words rest h e = absurd (omega arith)
 taken-more values (suc count) value words rest h e =
     let k : suc count - 1 ≡ count = omega arith in
     rw (e, k)
+
+-- ---- the numbers met, as the code puts them down
+pub met-stopped : (text : List ℕ) (r : Found) (words : List (Option ℕ)) (count : ℕ) → (tagOf the-type r ≡ 1) ⊎ (tagOf the-type r ≡ 2) → toldAs text r ≡ next words → numbersMet (suc count) words ≡ []
+unfolding numbersMet next
+met-stopped text r [] count t e = refl
+met-stopped text r (none ∷ words) count t e = refl
+met-stopped text (Number value at) (some x ∷ words) count t e = absurd (⊎-elim (λ (q : 0 ≡ 1). omega arith) (λ (q : 0 ≡ 2). omega arith) t)
+met-stopped text Malformed (some x ∷ words) count t e = absurd (let z : _≡_ {A = ℕ} 0 1 = cc in omega arith)
+met-stopped text End (some x ∷ words) count t e = absurd (let z : _≡_ {A = ℕ} 0 1 = cc in omega arith)
+
+pub met-short : (count : ℕ) (words : List (Option ℕ)) → length (numbersMet count words) ≤ count
+unfolding numbersMet
+met-short zero words = omega arith
+met-short (suc count) [] = omega arith
+met-short (suc count) (none ∷ words) = omega arith
+met-short (suc count) (some value ∷ words) = let h = met-short count words in omega arith
+
+one-met : (count value : ℕ) (words rest : List (Option ℕ)) → 1 ≤ count → words ≡ some value ∷ rest → numbersMet count words ≡ value ∷ numbersMet (count - 1) rest
+unfolding numbersMet
+one-met zero value words rest h e = absurd (omega arith)
+one-met (suc count) value words rest h e =
+    let k : suc count - 1 ≡ count = omega arith in
+    rw (e, k)
+
+-- one number more is put down, and what lies behind it stays
+pub met-more : (met area : List ℕ) (i left value : ℕ) (words rest : List (Option ℕ)) → i < length area → 1 ≤ left → met ≡ take i area ++ numbersMet left words → words ≡ some value ∷ rest → met ≡ take (i + 1) (set area i value) ++ numbersMet (left - 1) rest
+met-more met area i left value words rest l h e w = e ∙ rw (add-one i, take-suc-set area i value l, append-assoc, one-met left value words rest h w)
+
+pub rest-more : (area old : List ℕ) (i value : ℕ) → drop i area ≡ drop i old → drop (i + 1) (set area i value) ≡ drop (i + 1) old
+rest-more area old i value e = drop-set-lt (i + 1) area i value (omega arith) ∙ sym (drop-drop 1 i area) ∙ ap (drop 1) e ∙ drop-drop 1 i old
+
+pub met-all : (met area old : List ℕ) (i : ℕ) → i ≤ length area → met ≡ take i area ++ [] → drop i area ≡ drop i old → area ≡ over met old
+met-all met area old i l e d =
+    let front = e ∙ append-nil (take i area) in
+    rw (front, length-take-le i area l, ← d) (sym (take-append-drop i area))
 
 -- whether nothing is left is told by what is found next
 abbrev pub isEnd : Next → Bool

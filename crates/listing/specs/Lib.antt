@@ -1,3 +1,4 @@
+pub mod Area
 pub mod Numbers
 pub mod Request
 pub mod Digits

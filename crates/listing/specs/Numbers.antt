@@ -59,3 +59,10 @@ taken values zero words = some (record { values = values; rest = words })
 taken values (suc count) [] = none
 taken values (suc count) (none ∷ words) = none
 taken values (suc count) (some value ∷ words) = taken (values ++ (value ∷ [])) count words
+
+-- the numbers before the first word that is none, `count` of them at most
+unfoldable pub numbersMet : (count : ℕ) → List (Option ℕ) → List ℕ
+numbersMet zero words = []
+numbersMet (suc count) [] = []
+numbersMet (suc count) (none ∷ words) = []
+numbersMet (suc count) (some value ∷ words) = value ∷ numbersMet count words

@@ -7,7 +7,7 @@ use lib.Dec.{eqb, leb}
 use lib.ListN.{length, getD, take, drop}
 use Rattle.flash.specs.Lists.{all}
 use Rattle.flash.specs.Geometry.{Sizes, originalCount, isLetter}
-use Rattle.listing.specs.Numbers.{numbersIn, Taken, taken}
+use Rattle.listing.specs.Numbers.{numbersIn, Taken, taken, numbersMet}
 
 pub data Reading : Type 0 where
   unreadable : Reading
@@ -46,6 +46,16 @@ afterSizes (some sizes) =
 
 unfoldable pub reading : (text : List ℕ) → Reading
 reading text = afterSizes (taken [] 4 (numbersIn text))
+
+-- the numbers that a reader has put down when it stops: those due behind sizes that are allowed, as far as it met them
+unfoldable pub metAfter : Option Taken → List ℕ
+metAfter none = []
+metAfter (some sizes) =
+    let Z = sizesOf (sizes .values) in
+    cond (isAllowed Z) (numbersMet (numbersDue Z) (sizes .rest)) []
+
+unfoldable pub numbersPut : (text : List ℕ) → List ℕ
+numbersPut text = metAfter (taken [] 4 (numbersIn text))
 
 -- "It allows .. input to 4,096 bytes": what lies beyond counts as one byte that no number has. So longer input is `unreadable` unless
 -- its sizes, complete before that byte, are refused.

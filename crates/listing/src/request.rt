@@ -6,9 +6,10 @@ ghost use mathlib.Core.Option.{none, some};
 ghost use Prim.Native.Nat.{_+_, _*_, _≤_};
 ghost use lib.Dec.{eqb};
 ghost use lib.ListN.{length, take, drop};
-ghost use Rattle.listing.specs.Numbers.{numbersIn, taken};
+ghost use Rattle.listing.specs.Area.{over};
+ghost use Rattle.listing.specs.Numbers.{numbersIn, taken, numbersMet};
 ghost use Rattle.listing.specs.Found.{filledAs, sizesAs, askedAs};
-ghost use Rattle.listing.specs.Request.{isAllowed, exactly, reading, withinLimit};
+ghost use Rattle.listing.specs.Request.{isAllowed, exactly, reading, numbersPut, withinLimit};
 use crate::fit::fit;
 use crate::number::Found;
 use crate::number::number;
@@ -31,6 +32,7 @@ pub enum Filled {
 // The area is filled with the numbers from a position on.
 fn fill(text: &[u8], from: usize, area: &mut [u32]) -> Filled
     ensures { λ r. ⌜ filledAs (now (text .entry)) (now (area .exit)) r ≡ taken [] (length (now (area .entry))) (numbersIn (drop from (now (text .entry)))) ⌝ }
+    ensures { λ _. ⌜ now (area .exit) ≡ over (numbersMet (length (now (area .entry))) (numbersIn (drop from (now (text .entry))))) (now (area .entry)) ⌝ }
 {
     let mut at = from;
     let mut i = 0;
@@ -102,6 +104,7 @@ fn is_end(text: &[u8], at: usize) -> bool
 fn read_numbers(text: &[u8], from: usize, count: usize, p: usize, numbers: &mut [u32]) -> bool
     requires { ⌜ (count ≤ 64) × (p ≤ 64) × (4160 ≤ length (now numbers)) ⌝ }
     ensures { λ r. ⌜ cond r (some (take (count + count * p) (now (numbers .exit)))) none ≡ exactly count (taken [] (count + count * p) (numbersIn (drop from (now (text .entry))))) ⌝ }
+    ensures { λ _. ⌜ now (numbers .exit) ≡ over (numbersMet (count + count * p) (numbersIn (drop from (now (text .entry))))) (now (numbers .entry)) ⌝ }
 {
     let due = numbers_due(count, p);
     let Filled::Full { next } = fill(text, from, &mut numbers[..due]) else {
@@ -131,6 +134,7 @@ pub enum Request {
 // Reads the input.
 pub fn read(text: &[u8], numbers: &mut [u32; MOST_NUMBERS]) -> Request
     ensures { λ r. ⌜ askedAs (now (numbers .exit)) r ≡ reading (now (text .entry)) ⌝ }
+    ensures { λ _. ⌜ now (numbers .exit) ≡ over (numbersPut (now (text .entry))) (now (numbers .entry)) ⌝ }
 {
     let SizesRead::Sizes { n, m, p, s, next } = read_sizes(text) else {
         return Request::Unreadable;
@@ -147,8 +151,7 @@ pub fn read(text: &[u8], numbers: &mut [u32; MOST_NUMBERS]) -> Request
 
 // What lies beyond the limit becomes one byte that no number has. Answers the length of what is to be read.
 pub fn limit(input: &mut [u8]) -> usize
-    ensures { λ r. ⌜ take r (now (input .exit)) ≡ withinLimit (now (input .entry)) ⌝ }
-    ensures { λ r. ⌜ r ≤ length (now (input .entry)) ⌝ }
+    ensures { λ r. ⌜ (r ≡ length (withinLimit (now (input .entry)))) × (now (input .exit) ≡ over (withinLimit (now (input .entry))) (now (input .entry))) ⌝ }
 {
     if input.len() <= INPUT_LIMIT {
         return input.len();

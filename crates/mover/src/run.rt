@@ -146,7 +146,7 @@ pub fn run(
     marks: &mut [u8],
     work: &mut [u8],
     place: usize,
-    budget: usize,
+    budget: u32,
 ) -> Ran
     ensures { λ r. ⌜ Answers (runAnswer (moveOf (record { n = n; m = m; p = p; s = s }) (now (list .entry)) (now (sets .entry))) (record { store = now (store .entry); marks = now (marks .entry) }) (now (work .entry)) place budget) r (now (store .exit)) (now (marks .exit)) (now (work .exit)) ⌝ }
 {
@@ -158,5 +158,5 @@ pub fn run(
     if is_elsewhere(z, store, marks, place) {
         return refused(5);
     }
-    carry_out(z, list, sets, store, marks, work, place, budget)
+    carry_out(z, list, sets, store, marks, work, place, budget as usize)
 }

@@ -7,4 +7,5 @@ pub mod Answer
 pub mod Claims
 pub mod Mask
 pub mod Ends
+pub mod Hints
 pub mod Work

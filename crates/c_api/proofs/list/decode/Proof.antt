@@ -1,28 +1,29 @@
--- `decode` meets its contract: the entries passed are those of the bytes.
-use mathlib.Core.Path.{_≡_, sym, _∙_}
+-- `decode` meets its contract: the entries passed are those of the bytes, and behind them the area is as it was.
+use mathlib.Core.Path.{_≡_, refl, _∙_}
+use mathlib.Core.List.{_++_}
 use mathlib.Core.Bool.{false, _||_}
 use Prim.Native.Nat.{_/_, _-_, _≤_, _<_}
-use native.Mathlib.Numerals.{add-one}
 use native.Mathlib.Omega.{arith}
 use borrow.Author.Needs.{needs}
 use lib.Dec.{ltb}
-use lib.ListN.{length, take, length-set}
-use lib.Seq.{take-suc-set}
+use lib.ListN.{length, take, drop, length-set}
 use Rattle.c_api.specs.Bytes.{entriesOf, isOdd}
-use Rattle.c_api.proofs.BytesLaws.{entries-more, all-entries, no-entries, entries-within, within}
+use Rattle.c_api.proofs.BytesLaws.{entries-length, decode-more, all-entries, no-entries, entries-within, within}
 use Rattle.c_api.proofs.list.decode.Statement.{statement}
 use Rattle.c_api.proofs.list.decode.Tie as tie
 
 abbrev Inv-loop : tie.InvT-loop
 Inv-loop bytes list₀ count i₀ list i =
-    (take i list ≡ take i (entriesOf bytes)) × (i ≤ count) × (length list ≡ length list₀)
+    (list ≡ take i (entriesOf bytes) ++ drop i list₀) × (i ≤ count) × (length list ≡ length list₀)
 
 abbrev μ-loop : tie.MeasureT-loop
 μ-loop bytes list₀ count i₀ list i = count - i
 
 returns : tie.Need-returns Inv-loop μ-loop
 unfolding isOdd
-returns c = (omega arith, sym (no-entries _ _ (c .if1 .taken)))
+returns c =
+    let a = c .before .before .before .args in
+    rw (no-entries (length (a .list .now)) (a .bytes .now) (c .if1 .taken)) (refl, refl)
 
 -- there is room for the list
 room : (c : tie.Else1 Inv-loop μ-loop)
@@ -68,9 +69,8 @@ loop-again c =
     let l = c .before .before .before .before .loop in
     let a = c .before .before .before .before .before .before .before .before .args in
     let r = within _ _ (room (c .before .before .before .before .before)) in
-    let more : l .i < length (a .bytes .now) / 2 = omega arith in
-    let n : l .i < length (l .list) = omega arith in (
-      rw (add-one (l .i), take-suc-set (l .list) (l .i), l .inv .0, c .entry .ensures) (sym (entries-more (a .bytes .now) (length (a .bytes .now) / 2) (l .i) (r .0) more)),
+    let more = decode-more (a .bytes .now) (a .list .now) (length (a .bytes .now) / 2) (l .i) (r .0) (omega arith) (r .1) in (
+      rw (l .inv .0, c .entry .ensures) more,
       omega arith,
       simp length-set (omega arith),
     )
@@ -84,7 +84,8 @@ returns-2 c =
     let a = c .before .before .before .before .before .args in
     let r = within _ _ (room (c .before .before)) in
     let e : l .i ≡ length (a .bytes .now) / 2 = omega arith in
-    (r .1, rw e at (l .inv .0) ∙ all-entries (a .bytes .now) _ (r .0) ∙ sym (entries-within _ _ (room (c .before .before))))
+    let all = entries-length _ (a .bytes .now) (r .0) in
+    rw (entries-within _ _ (room (c .before .before)), all) (refl, rw e at (l .inv .0) ∙ rw (all-entries (a .bytes .now) _ (r .0)))
 
 pub decode-spec : {M : Type 1} → statement M
 decode-spec =

@@ -20,7 +20,7 @@ enum-told c = search needs
 returns : tie.Need-returns
 returns c =
     let f = c .before .before .before .fill in
-    ap (filledAs (c .before .before .before .before .before .before .args .text .now) (f .last .1 .1 .0)) (sym (c .enum-told .given .1)) ∙ f .ensures
+    ap (filledAs (c .before .before .before .before .before .before .args .text .now) (f .last .1 .1 .0)) (sym (c .enum-told .given .1)) ∙ f .ensures .0
 
 array-read-word : tie.Need-array-read-word
 array-read-word c = search needs
@@ -52,7 +52,7 @@ returns-2 c =
     let text = c .before .before .before .before .before .before .before .before .before .before .before .args .text .now in
     let area = f .last .1 .1 .0 in
     rw (c .word4 .ensures, c .before .word3 .ensures, c .before .before .word2 .ensures, c .before .before .before .word .ensures, four-are area (f .kept .1 .1 .0))
-    (ap (filledAs text area) (sym (c .before .before .before .before .before .next .given .1)) ∙ f .ensures)
+    (ap (filledAs text area) (sym (c .before .before .before .before .before .next .given .1)) ∙ f .ensures .0)
 
 pub read-sizes-spec : {M : Type 1} → statement M
 read-sizes-spec = tie.close (tie.spec slice-aggregate-fill fill-requires enum-known-next enum-told returns array-read-word word-requires array-read-word-2 word-requires-2 array-read-word-3 word-requires-3 array-read-word-4 word-requires-4 returns-2)

@@ -11,7 +11,7 @@ home-requires c κs = search needs
 first : (c : tie.After-home) → (let a = c .before .args in c .home .result * a .m ≤ 4096)
 first c =
     let a = c .before .args in
-    mul-le-mul {n₁ = c .home .result} {m₁ = a .m} {n₂ = 64} {m₂ = 64} (omega (arith, c .home .ensures)) (c .before .pre .0)
+    mul-le-mul {n₁ = c .home .result} {m₁ = a .m} {n₂ = 64} {m₂ = 64} (omega (arith, c .home .ensures .1)) (c .before .pre .0)
 
 mul-result : tie.Need-mul-result
 mul-result c = record { fits = omega (arith, first c) }
@@ -32,7 +32,7 @@ add-result : tie.Need-add-result
 add-result c = record { fits = omega (arith, first (c .before .before)) }
 
 returns : tie.Need-returns
-returns c = search needs
+returns c = rw (← c .before .before .home .ensures .0, c .wide .ensures)
 
 pub hint-spec : {M : Type 1} → statement M
 hint-spec =

@@ -6,6 +6,7 @@ use Rattle.listing.specs.Request.{reading, withinLimit}
 use Rattle.listing.specs.Found.{askedAs}
 use Rattle.steplist.specs.Output.{answered}
 use Rattle.steplist.proofs.LengthLaws.{refused-short}
+use Rattle.listing.proofs.AreaLaws.{over-front, over-room}
 use Rattle.steplist.proofs.AskedLaws.{asked, answers, counts}
 use borrow.Author.Needs.{needs}
 use Rattle.steplist.proofs.answer.answer.Statement.{statement}
@@ -13,16 +14,25 @@ use Rattle.steplist.proofs.answer.answer.Tie as tie
 
 -- what was read is what the input within its limit asks for
 told : (c : tie.After-read) → askedAs (c .read .last .1 .0) (c .read .result) ≡ reading (withinLimit (c .before .before .before .before .before .before .before .before .args .input .now))
-told c = rw (c .before .before .before .before .before .limit .ensures .0) at (c .read .ensures)
+told c =
+    let l = c .before .before .before .before .before .limit in
+    let input = c .before .before .before .before .before .before .before .before .args .input .now in
+    rw (over-front (withinLimit input) input (l .last .0) (l .result) (l .ensures .0) (l .ensures .1)) at (c .read .ensures .0)
 
 limit-requires : tie.Need-limit-requires
 limit-requires c κs = search needs
 
 slice-reshare-prefix-read : tie.Need-slice-reshare-prefix-read
-slice-reshare-prefix-read c = search needs
+slice-reshare-prefix-read c =
+    let l = c .before .before .limit in
+    let input = c .before .before .before .before .before .args .input .now in
+    over-room (withinLimit input) input (l .last .0) (l .result) (l .ensures .0) (l .ensures .1)
 
 slice-aggregate-read : tie.Need-slice-aggregate-read
-slice-aggregate-read c = sym (length-take-le (c .before .before .before .limit .result) (c .before .before .before .limit .last .0) (omega (arith, c .before .before .before .limit .ensures .1, c .before .before .before .limit .kept .0)))
+slice-aggregate-read c =
+    let l = c .before .before .before .limit in
+    let input = c .before .before .before .before .before .before .args .input .now in
+    sym (length-take-le (l .result) (l .last .0) (over-room (withinLimit input) input (l .last .0) (l .result) (l .ensures .0) (l .ensures .1)))
 
 read-requires : tie.Need-read-requires
 read-requires c κs = search needs
