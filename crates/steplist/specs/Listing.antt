@@ -2,12 +2,13 @@
 use mathlib.Core.Path.{_≡_}
 use mathlib.Core.List.{List}
 use Prim.Native.Nat.{ℕ, _*_, _≤_}
-use lib.ListN.{length, take}
+use lib.ListN.{length}
 use Rattle.flash.specs.Tables.{refusal}
 use Rattle.method.specs.Move.{Move}
 use Rattle.method.specs.Place.{operationAt}
 use Rattle.method.specs.Step.{Running, step, steps, tally, operationsFrom}
 use Rattle.method.specs.Answers.{runRows}
+use Rattle.listing.specs.Area.{Written}
 use Rattle.listing.specs.Lines.{Printed}
 use Rattle.steplist.specs.declared.listed.Shown.{Shown}
 use Rattle.steplist.specs.Output.{stepLine, stepLines}
@@ -42,10 +43,10 @@ pub record Stepped (M : Move) (place : ℕ) (run : Running) (before : List ℕ) 
   pub writes-is : shown .writes ≡ tally (operationsFrom M place 1) .writes
   pub erases-is : shown .erases ≡ tally (operationsFrom M place 1) .erases
 
--- the steps before a place were taken, and their lines stand at the front
-pub record Shows (M : Move) (start : Running) (place at writes erases : ℕ) (out store marks work : List ℕ) : Type 0 where
+-- the steps before a place were taken, and their lines were written over the front of what the output was before
+pub record Shows (M : Move) (start : Running) (place at writes erases : ℕ) (before out store marks work : List ℕ) : Type 0 where
   pub left : runningOf store marks work ≡ steps M place 0 start
-  pub text-is : take at out ≡ stepLines M place 0 start
+  pub lines-are : Written (stepLines M place 0 start) before out at
   pub at-high : at ≤ mostLine * place
   pub writes-is : writes ≡ tally (operationsFrom M 0 place) .writes
   pub erases-is : erases ≡ tally (operationsFrom M 0 place) .erases

@@ -2,6 +2,7 @@ use native.Mathlib.Omega.{arith}
 use mathlib.Core.Path.{sym, _∙_}
 use borrow.Author.Tests.{not-true, not-false}
 use Rattle.split.specs.Answer.{SplitAnswered}
+use Rattle.listing.proofs.PrintLaws.{first-printed}
 use Rattle.steplist.proofs.LengthLaws.{refused-short}
 use Rattle.steplist.proofs.JudgeLaws.{too-large, not-split, is-split, is-listed}
 use borrow.Author.Needs.{needs}
@@ -27,7 +28,7 @@ returns c =
     let start = c .before .before .before .before .before .before .before .before .before .before .before in
     let a = start .args in
     let line = c .before .before .put-refused .ensures in
-    (line .text-is ∙ sym (too-large (a .n) (a .m) (a .p) (a .s) (start .pre .0 .allowed) (a .entries .now) (a .originals .now) (sym (c .before .before .before .before .before .fit .ensures) ∙ not-true _ (c .before .before .before .before .if1 .taken))), omega (arith, line .next-is, refused-short 3 (omega arith)))
+    rw (too-large (a .n) (a .m) (a .p) (a .s) (start .pre .0 .allowed) (a .entries .now) (a .originals .now) (sym (c .before .before .before .before .before .fit .ensures) ∙ not-true _ (c .before .before .before .before .if1 .taken))) (first-printed line)
 
 put-entries-requires : tie.Need-put-entries-requires
 put-entries-requires c κs =
@@ -55,7 +56,7 @@ returns-2 c =
     let a = start .args in
     let split = c .before .before .before .before .before .before .before .split in
     let line = c .before .before .put-refused2 .ensures in
-    (line .text-is ∙ sym (not-split (a .n) (a .m) (a .p) (a .s) (start .pre .0 .allowed) (a .entries .now) (a .originals .now) (a .sets .now) (split .last .1 .1 .1 .1 .1 .0) (split .result) (start .pre .0 .list-length) (start .pre .2) (judged (c .before .before .before .before .before .before .before)) (c .before .before .before .before .if2 .taken)), omega (arith, line .next-is, refused-short 3 (omega arith)))
+    rw (not-split (a .n) (a .m) (a .p) (a .s) (start .pre .0 .allowed) (a .entries .now) (a .originals .now) (a .sets .now) (split .last .1 .1 .1 .1 .1 .0) (split .result) (start .pre .0 .list-length) (start .pre .2) (judged (c .before .before .before .before .before .before .before)) (c .before .before .before .before .if2 .taken)) (first-printed line)
 
 put-accepted-requires : tie.Need-put-accepted-requires
 put-accepted-requires c κs =
@@ -79,7 +80,7 @@ returns-3 c =
     let a = start .args in
     let split = c .before .before .before .before .before .before .before .before .before .split in
     let listing = c .before .before .put-accepted .ensures in
-    (is-listed (a .n) (a .m) (a .p) (a .s) (start .pre .0 .allowed) (a .entries .now) (a .originals .now) (a .sets .now) (split .last .1 .1 .1 .1 .1 .0) (split .result) (start .pre .0 .list-length) (start .pre .2) (judged (c .before .before .before .before .before .before .before .before .before)) (c .before .before .before .before .before .before .if2 .left) _ (rw (c .before .before .before .before .before .before .before .before .before .before .before .before .before .before .put-entries .ensures) at (listing .0)), listing .1)
+    rw (is-listed (a .n) (a .m) (a .p) (a .s) (start .pre .0 .allowed) (a .entries .now) (a .originals .now) (a .sets .now) (split .last .1 .1 .1 .1 .1 .0) (split .result) (start .pre .0 .list-length) (start .pre .2) (judged (c .before .before .before .before .before .before .before .before .before)) (c .before .before .before .before .before .before .if2 .left)) (rw (c .before .before .before .before .before .before .before .before .before .before .before .before .before .before .put-entries .ensures) at listing)
 
 pub put-judged-spec : {M : Type 1} → statement M
 put-judged-spec = tie.close (tie.spec fit-requires put-refused-requires same-length returns put-entries-requires split-requires put-refused-requires-2 same-length-2 same-length-3 same-length-4 returns-2 put-accepted-requires same-length-5 same-length-6 same-length-7 returns-3)
