@@ -5,7 +5,7 @@ use Prim.Native.Nat.{ℕ, _*_, _≤_}
 use lib.ListN.{length}
 use Rattle.flash.specs.Tables.{refusal}
 use Rattle.method.specs.Move.{Move}
-use Rattle.method.specs.Place.{operationAt}
+use Rattle.method.specs.Place.{operationAt, lastPlace}
 use Rattle.method.specs.Step.{Running, step, steps, tally, operationsFrom}
 use Rattle.method.specs.Answers.{runRows}
 use Rattle.listing.specs.Area.{Written}
@@ -19,6 +19,10 @@ moveOf n m P s list sets = record { sizes = record { n = n; m = m; P = P; s = s 
 
 abbrev pub runningOf : (store marks work : List ℕ) → Running
 runningOf store marks work = record { chip = record { store = store; marks = marks }; work = work }
+
+-- what all steps leave
+abbrev pub moved : Move → Running → Running
+moved M start = steps M (lastPlace (M .sizes)) 0 start
 
 -- sizes within the program's limits, and a run from the place that is not refused
 pub record Listable (M : Move) (run : Running) (place : ℕ) : Type 0 where

@@ -2,12 +2,13 @@
 ghost use mathlib.Core.Path.{_≡_};
 ghost use Prim.Native.Nat.{_*_, _≤_};
 ghost use lib.ListN.{length};
+ghost use Rattle.method.specs.State.{atRest};
 ghost use Rattle.listing.specs.Area.{over, Written};
 ghost use Rattle.listing.specs.Request.{request, withinLimit};
 ghost use Rattle.listing.specs.Found.{requestIn};
 ghost use Rattle.steplist.specs.Output.{listed, answered, output};
-ghost use Rattle.steplist.specs.Listing.{mostOutput};
-ghost use Rattle.steplist.specs.Given.{Asked, Readable, Accepted, Empty, Counts};
+ghost use Rattle.steplist.specs.Listing.{moveOf, runningOf, moved, mostOutput};
+ghost use Rattle.steplist.specs.Given.{Asked, Readable, Accepted, judgedList, judgedSets, Empty, Counts};
 use crate::listed::put_listing;
 use crate::rest::put_marks;
 use crate::rest::put_store;
@@ -57,6 +58,7 @@ fn put_from_rest(
 ) -> usize
     requires { ⌜ Accepted (record { n = n; m = m; P = p; s = s }) (now list) (now sets) (now originals) × Empty (record { n = n; m = m; P = p; s = s }) (now store) (now marks) (now work) × (mostOutput ≤ length (now out)) ⌝ }
     ensures { λ r. ⌜ Written (listed (record { n = n; m = m; P = p; s = s }) (now (list .entry)) (now (originals .entry))) (now (out .entry)) (now (out .exit)) r ⌝ }
+    ensures { λ _. ⌜ runningOf (now (store .exit)) (now (marks .exit)) (now (work .exit)) ≡ moved (moveOf n m p s (now (list .entry)) (now (sets .entry))) (record { chip = atRest (record { n = n; m = m; P = p; s = s }) (now (originals .entry)); work = now (work .entry) }) ⌝ }
 {
     put_store(originals, m * p, store);
     put_marks(m, s as u8, marks);
@@ -111,6 +113,7 @@ fn put_judged(
 ) -> usize
     requires { ⌜ Readable (record { n = n; m = m; P = p; s = s }) (now entries) (now originals) × (length (now list) ≡ n * m) × (length (now sets) ≡ n * m) × (mostOutput ≤ length (now out)) ⌝ }
     ensures { λ r. ⌜ Written (answered (request (record { n = n; m = m; P = p; s = s }) (now (entries .entry)) (now (originals .entry)))) (now (out .entry)) (now (out .exit)) r ⌝ }
+    ensures { λ _. ⌜ (now (list .exit) ≡ judgedList (now (entries .entry)) (now (list .entry))) × (now (sets .exit) ≡ judgedSets (record { n = n; m = m; P = p; s = s }) (now (entries .entry)) (now (sets .entry))) ⌝ }
 {
     if !fit(entries, MOST_ENTRY) {
         return put_refused(out, 0, 3);

@@ -1,10 +1,11 @@
 // The lines of all steps and the end line.
+ghost use mathlib.Core.Path.{_≡_};
 ghost use Prim.Native.Nat.{_+_, _≤_, _<_};
 ghost use lib.ListN.{length};
 ghost use Rattle.method.specs.Place.{lastPlace};
 ghost use Rattle.listing.specs.Area.{Written};
 ghost use Rattle.steplist.specs.Output.{moveLines};
-ghost use Rattle.steplist.specs.Listing.{moveOf, runningOf, Listable, mostLine, mostOutput, Stepped, Shows};
+ghost use Rattle.steplist.specs.Listing.{moveOf, runningOf, Listable, moved, mostLine, mostOutput, Stepped, Shows};
 use crate::line::put_line;
 use flash::wide::word;
 use listing::lines::put_end;
@@ -93,6 +94,7 @@ pub fn put_listing(
 ) -> usize
     requires { ⌜ Listable (moveOf n m p s (now list) (now sets)) (runningOf (now store) (now marks) (now work)) 0 × (mostOutput ≤ length (now out)) ⌝ }
     ensures { λ r. ⌜ Written (moveLines (moveOf n m p s (now (list .entry)) (now (sets .entry))) (runningOf (now (store .entry)) (now (marks .entry)) (now (work .entry)))) (now (out .entry)) (now (out .exit)) r ⌝ }
+    ensures { λ _. ⌜ runningOf (now (store .exit)) (now (marks .exit)) (now (work .exit)) ≡ moved (moveOf n m p s (now (list .entry)) (now (sets .entry))) (runningOf (now (store .entry)) (now (marks .entry)) (now (work .entry))) ⌝ }
 {
     let shown = put_steps(out, n, m, p, s, list, sets, store, marks, work);
     put_end(out, shown.at, shown.writes, shown.erases)

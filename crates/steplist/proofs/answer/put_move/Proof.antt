@@ -67,7 +67,7 @@ same-length c = search needs
 returns : tie.Need-returns
 returns c =
     let a = c .before .before .before .before .before .before .before .before .before .before .before .before .before .before .args in
-    let answer = c .before .before .before .before .put-judged .ensures in
+    let answer = c .before .before .before .before .put-judged .ensures .0 in
     rw (same-request (a .n) (a .m) (a .p) (a .s) (c .before .before .before .before .before .before .before .before .before .before .before .original-count .result) (c .before .before .before .before .before .before .before .before .before .before .numbers-due .result) (a .numbers .now) (c .before .before .before .before .before .before .before .before .before .before .before .original-count .ensures) (c .before .before .before .before .before .before .before .before .before .before .numbers-due .ensures .0) (c .before .before .before .before .before .before .before .before .before .before .before .before .before .before .pre .0) (c .before .before .before .before .before .before .before .before .before .before .before .before .before .before .pre .1)) at answer
 
 pub put-move-spec : {M : Type 1} → statement M

@@ -43,7 +43,7 @@ returns c =
     let a = c .before .before .before .before .before .before .before .before .before .before .before .before .before .before .before .before .before .before .before .before .before .before .before .args in
     let steps = c .before .before .before .before .before .before .before .before .before .before .before .before .put-steps in
     let end = c .before .before .put-end in
-    all-shown (moveOf (a .n) (a .m) (a .p) (a .s) (a .list .now) (a .sets .now)) (runningOf (a .store .now) (a .marks .now) (a .work .now)) _ _ _ _ _ _ _ _ _ _ (steps .ensures) (end .ensures)
+    (all-shown (moveOf (a .n) (a .m) (a .p) (a .s) (a .list .now) (a .sets .now)) (runningOf (a .store .now) (a .marks .now) (a .work .now)) _ _ _ _ _ _ _ _ _ _ (steps .ensures) (end .ensures), steps .ensures .left)
 
 pub put-listing-spec : {M : Type 1} → statement M
 put-listing-spec = tie.close (tie.spec put-steps-requires put-end-requires same-length same-length-2 same-length-3 same-length-4 returns)
