@@ -2,7 +2,7 @@ use mathlib.Core.List.{_++_, append-nil}
 use lib.ListN.{length, take, drop, length-set}
 use lib.Seq.{take-length}
 use Rattle.listing.proofs.PrintLaws.{printed, printed-byte}
-use Rattle.listing.proofs.AreaLaws.{rest-more}
+use Rattle.flash.proofs.Loops.{rest-more}
 use mathlib.Core.Path.{_≡_, refl, sym, _∙_}
 use Prim.Native.Nat.{_+_, _-_, _≤_}
 use native.Mathlib.Omega.{arith}
