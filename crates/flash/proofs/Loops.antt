@@ -1,5 +1,5 @@
 -- What one turn of a loop over bytes does.
-use mathlib.Core.Path.{_≡_, refl, ap, _∙_, subst}
+use mathlib.Core.Path.{_≡_, refl, sym, ap, _∙_, subst}
 use mathlib.Core.Bool.{_&&_, and-true}
 use mathlib.Core.List.{List, [], _∷_, _++_}
 use Prim.Native.Nat.{ℕ, zero, suc, _+_, _<_}
@@ -9,7 +9,7 @@ use native.Mathlib.Omega.{arith}
 use lib.Bits.{bitOr, bitXor, or-add-and, and-le-l, and-le-r, xor-self}
 use lib.Dec.{eqb}
 use lib.ListN.{length, getD, set, take, drop}
-use lib.Seq.{take-suc}
+use lib.Seq.{take-suc, drop-set-lt, drop-drop}
 use borrow.Author.Tests.{eqb-true, eq-eqb}
 use Rattle.flash.specs.Lists.{all}
 use Rattle.flash.proofs.Bools.{and-left, and-right, bool-eq}
@@ -47,6 +47,10 @@ pub over-more : (front area : List ℕ) (i v : ℕ) → length front ≡ i → i
     → set (front ++ drop i area) i v ≡ (front ++ (v ∷ [])) ++ drop (i + 1) area
 over-more front area i v e l = subst (λ (k : ℕ). set (front ++ drop k area) k v ≡ (front ++ (v ∷ [])) ++ drop (k + 1) area) e
     (rw (add-one (length front)) (over-suc front area v (rw e l)))
+
+-- what lies behind the element that is written stays
+pub rest-more : (area old : List ℕ) (i value : ℕ) → drop i area ≡ drop i old → drop (i + 1) (set area i value) ≡ drop (i + 1) old
+rest-more area old i value e = drop-set-lt (i + 1) area i value (omega arith) ∙ sym (drop-drop 1 i area) ∙ ap (drop 1) e ∙ drop-drop 1 i old
 
 -- A loop that gathers the bits in which bytes differ from a value: they are none while each byte is that value.
 or-none : (a b : ℕ) → eqb (bitOr a b) 0 ≡ (eqb a 0 && eqb b 0)

@@ -1,8 +1,8 @@
+pub mod AreaLaws
 pub mod DigitLaws
 pub mod PrintLaws
 pub mod WordLaws
 pub mod NumberLaws
-pub mod AreaLaws
 pub mod TakeLaws
 pub mod RequestLaws
 pub mod ReadBack

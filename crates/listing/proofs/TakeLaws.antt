@@ -9,7 +9,7 @@ use native.Mathlib.Numerals.{add-one}
 use native.Mathlib.Omega.{arith}
 use lib.Dec.{eqb}
 use lib.ListN.{length, getD, take, drop, set, take-append-drop}
-use lib.Seq.{take-suc-set, drop-set-lt, drop-drop, length-take-le}
+use lib.Seq.{take-suc-set, length-take-le}
 use borrow.Author.Tests.{ne-eqb}
 use denote.Enum.Declared.{tagOf}
 use Rattle.listing.specs.declared.number.Found.{Found}
@@ -65,12 +65,9 @@ one-met (suc count) value words rest h e =
     let k : suc count - 1 ≡ count = omega arith in
     rw (e, k)
 
--- one number more is put down, and what lies behind it stays
+-- one number more is put down
 pub met-more : (met area : List ℕ) (i left value : ℕ) (words rest : List (Option ℕ)) → i < length area → 1 ≤ left → met ≡ take i area ++ numbersMet left words → words ≡ some value ∷ rest → met ≡ take (i + 1) (set area i value) ++ numbersMet (left - 1) rest
 met-more met area i left value words rest l h e w = e ∙ rw (add-one i, take-suc-set area i value l, append-assoc, one-met left value words rest h w)
-
-pub rest-more : (area old : List ℕ) (i value : ℕ) → drop i area ≡ drop i old → drop (i + 1) (set area i value) ≡ drop (i + 1) old
-rest-more area old i value e = drop-set-lt (i + 1) area i value (omega arith) ∙ sym (drop-drop 1 i area) ∙ ap (drop 1) e ∙ drop-drop 1 i old
 
 pub met-all : (met area old : List ℕ) (i : ℕ) → i ≤ length area → met ≡ take i area ++ [] → drop i area ≡ drop i old → area ≡ over met old
 met-all met area old i l e d =

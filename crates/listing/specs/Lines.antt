@@ -1,8 +1,8 @@
 -- Document 01, "The step program": the lines that it writes, each ended by a line feed.
 use mathlib.Core.Path.{_≡_}
 use mathlib.Core.List.{List, [], _∷_, _++_}
-use Prim.Native.Nat.{ℕ, _+_}
-use lib.ListN.{length, take}
+use Prim.Native.Nat.{ℕ, _+_, _≤_}
+use lib.ListN.{length, take, drop}
 use Rattle.flash.specs.Lists.{concatMap}
 use Rattle.listing.specs.Digits.{decimal, hex}
 
@@ -27,7 +27,8 @@ refusedLine number = (114 ∷ 101 ∷ 102 ∷ 117 ∷ 115 ∷ 101 ∷ 100 ∷ 32
 unfoldable pub unreadableLine : List ℕ
 unreadableLine = 117 ∷ 110 ∷ 114 ∷ 101 ∷ 97 ∷ 100 ∷ 97 ∷ 98 ∷ 108 ∷ 101 ∷ 10 ∷ []
 
--- A text was printed into a lent part at a position: it stands behind what was printed before, and the next position is behind it.
+-- A text was printed into a lent part at a position: the next position is behind it, and all but the text is as it was.
 pub record Printed (text before : List ℕ) (at : ℕ) (after : List ℕ) (next : ℕ) : Type 0 where
   pub next-is : next ≡ at + length text
-  pub text-is : take next after ≡ take at before ++ text
+  pub fits : next ≤ length before
+  pub text-is : after ≡ take at before ++ (text ++ drop next before)

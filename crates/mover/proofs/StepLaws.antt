@@ -1,10 +1,11 @@
 -- What a step does: the slots that are summed for a write, and the operation that a place has.
-use mathlib.Core.Path.{_≡_, refl, ap, _∙_}
+use mathlib.Core.Path.{_≡_, refl, sym, ap, _∙_, subst}
 use mathlib.Core.Bool.{true, false}
 use mathlib.Core.List.{List, [], _∷_, _++_, append-nil}
 use Prim.Native.Nat.{ℕ, _+_, _-_, _*_, _≤_, _<_}
 use native.Mathlib.Omega.{arith}
-use lib.ListN.{take}
+use lib.ListN.{take, drop}
+use lib.Seq.{drop-drop}
 use Rattle.flash.specs.Lists.{concatMap, part}
 use Rattle.flash.specs.Geometry.{Sizes, slot, numberAt}
 use Rattle.flash.specs.PageSum.{sum}
@@ -25,6 +26,11 @@ use Rattle.walk.proofs.CycleLaws.{accepted}
 -- slots put behind slots
 pub appends-twice : (one two three more others : List ℕ) (a b : ℕ) → Appends one 0 more two a → Appends two a others three b → take b three ≡ more ++ others
 appends-twice one two three more others a b A B = B .slots-are ∙ ap (λ (xs : List ℕ). xs ++ others) (A .slots-are)
+
+pub rest-twice : (one two three more others : List ℕ) (a b : ℕ) → Appends one 0 more two a → Appends two a others three b → drop b three ≡ drop b one
+rest-twice one two three more others a b A B =
+    let e : a + (b - a) ≡ b = omega (arith, B .some) in
+    B .rest-is ∙ subst (λ (k : ℕ). drop k two ≡ drop k one) e (sym (drop-drop (b - a) a two) ∙ ap (drop (b - a)) (A .rest-is) ∙ drop-drop (b - a) a one)
 
 module _ (M : Move) (G : Given M) (block page : ℕ) (page-in : page < M .sizes .m) where
   open Sizes (M .sizes) using (n, m)

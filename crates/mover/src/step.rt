@@ -3,7 +3,7 @@ ghost use mathlib.Core.Path.{_≡_};
 ghost use mathlib.Core.Bool.{true, false};
 ghost use mathlib.Core.List.{[], _∷_};
 ghost use Prim.Native.Nat.{_+_, _*_, _≤_, _<_};
-ghost use lib.ListN.{length, take};
+ghost use lib.ListN.{length, take, drop};
 ghost use Rattle.method.specs.Place.{operationAt, write as writing, markOf};
 ghost use Rattle.method.specs.Step as method;
 ghost use Rattle.method.specs.Step.{writeSlots, perform, tally};
@@ -45,7 +45,7 @@ fn write_slots(
 ) -> usize
     requires { ⌜ Tables (moveOf z (now list) (now sets)) (now pages) (now from) × (length (now marks) ≡ (z .n + 1) * z .m) × (length (now slots) ≡ 130) ⌝ }
     requires { ⌜ (page < z .m) × (block ≤ z .n) × (backward ≡ true → 1 ≤ block) × (backward ≡ false → block + 1 ≤ z .n) ⌝ }
-    ensures { λ r. ⌜ (take r (now (slots .exit)) ≡ writeSlots (moveOf z (now (list .entry)) (now (sets .entry))) (passOf backward) block page (now (marks .entry))) × (1 ≤ r) × (r ≤ 130) ⌝ }
+    ensures { λ r. ⌜ (take r (now (slots .exit)) ≡ writeSlots (moveOf z (now (list .entry)) (now (sets .entry))) (passOf backward) block page (now (marks .entry))) × (1 ≤ r) × (r ≤ 130) × (drop r (now (slots .exit)) ≡ drop r (now (slots .entry))) ⌝ }
 {
     if backward {
         let k = sent_to(z, list, sets, pages, from, block, page);

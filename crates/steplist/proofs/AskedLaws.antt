@@ -1,5 +1,5 @@
 -- The numbers of a request, cut into its list and its bytes.
-use mathlib.Core.Path.{_≡_, refl, sym, ap, ap₂, _∙_}
+use mathlib.Core.Path.{_≡_, refl, sym, ap, ap₂, _∙_, subst}
 use mathlib.Core.Logic.{⊎-elim}
 use mathlib.Core.Bool.{Bool, true, false, _&&_}
 use mathlib.Core.List.{List, []}
@@ -13,10 +13,12 @@ use Rattle.flash.specs.Lists.{all}
 use Rattle.flash.specs.Geometry.{Sizes, originalCount}
 use Rattle.flash.proofs.Bools.{bool-cases, and-left, and-right}
 use Rattle.flash.proofs.Bounds.{product-le}
+use Rattle.listing.specs.Area.{Written}
 use Rattle.listing.specs.Numbers.{numbersIn, Taken, taken}
 use Rattle.listing.specs.Request.{Reading, unreadable, refused, request, isAllowed, sizesOf, numbersDue, exactly, requested, afterSizes, reading, withinLimit}
 use Rattle.listing.specs.Found.{requestIn, askedAs}
 use Rattle.listing.specs.declared.request.Request.{Request}
+use Rattle.listing.proofs.AreaLaws.{over-room}
 use Rattle.listing.proofs.RequestLaws.{bounded, few-originals}
 use Rattle.steplist.specs.Output.{answered, output}
 use Rattle.steplist.specs.Given.{Asked, Readable, Counts}
@@ -102,9 +104,9 @@ asked n m P s text numbers e =
     }
 
 -- what the reader told, and the output
-pub answers : (input numbers : List ℕ) (told known : Request) → askedAs numbers told ≡ reading (withinLimit input) → told ≡ known → answered (askedAs numbers known) ≡ output input
+pub answers : (input numbers before after : List ℕ) (count : ℕ) (told known : Request) → askedAs numbers told ≡ reading (withinLimit input) → told ≡ known
+    → Written (answered (askedAs numbers known)) before after count → Written (output input) before after count × Counts count after
 unfolding output
-answers input numbers told known e q = ap answered (ap (askedAs numbers) (sym q) ∙ e)
-
-pub counts : (count : ℕ) (out : List ℕ) → count ≤ length out → Counts count out
-counts count out h = (h, sym (length-take-le count out h))
+answers input numbers before after count told known e q w =
+    let room = over-room (answered (askedAs numbers known)) before after count (w .0) (w .1) in
+    (subst (λ (text : List ℕ). Written text before after count) (ap answered (ap (askedAs numbers) (sym q) ∙ e)) w, (room, sym (length-take-le count after room)))

@@ -75,6 +75,6 @@ module _ (n m P s : ℕ) (allowed : isAllowed (record { n = n; m = m; P = P; s =
       unfolding splitAnswer
       is-split R = record { readable = R; good = good; sets-is = S .sets-are ∙ rw (eq-eqb _ 0 (sym (S .number-is) ∙ e)) }
 
-      pub is-listed : (text : List ℕ) → text ≡ listed Z list bytes → text ≡ answered (request Z list bytes)
+      pub is-listed : answered (request Z list bytes) ≡ listed Z list bytes
       unfolding answered
-      is-listed text e = rw good e
+      is-listed = rw good

@@ -1,5 +1,5 @@
 -- The listing step by step: what is shown after one step more.
-use mathlib.Core.Path.{_≡_, refl, sym, ap, _∙_}
+use mathlib.Core.Path.{_≡_, refl, sym, ap, _∙_, subst}
 use mathlib.Core.List.{List, _++_, append-assoc, append-nil}
 use Prim.Native.Nat.{ℕ, zero, suc, _+_, _≤_}
 use native.Mathlib.Nat.{zero-add, suc-add, add-zero}
@@ -15,7 +15,9 @@ use Rattle.method.proofs.Runs.{steps-add}
 use Rattle.method.proofs.Tallies.{tally-split, tally-total, steps-tallied}
 use Rattle.method.proofs.Accepting.{run-taken, taken-run}
 use Rattle.method.proofs.RunClaims.{still-taken}
+use Rattle.listing.specs.Area.{Written}
 use Rattle.listing.specs.Lines.{Printed, endLine}
+use Rattle.listing.proofs.PrintLaws.{over-printed}
 use Rattle.steplist.specs.declared.listed.Shown.{Shown}
 use Rattle.steplist.specs.Output.{stepLine, stepLines, moveLines}
 use Rattle.steplist.specs.Listing.{runningOf, Listable, Stepped, Shows}
@@ -53,35 +55,37 @@ module _ (M : Move) (start : Running) where
       }
 
   -- no more is counted than steps were taken
-  pub few-counted : (place at writes erases : ℕ) (out store marks work : List ℕ) → place ≤ lastPlace (M .sizes) → Shows M start place at writes erases out store marks work → (writes ≤ place) × (erases ≤ place)
-  few-counted place at writes erases out store marks work h S =
+  pub few-counted : (place at writes erases : ℕ) (before out store marks work : List ℕ) → place ≤ lastPlace (M .sizes) → Shows M start place at writes erases before out store marks work → (writes ≤ place) × (erases ≤ place)
+  few-counted place at writes erases before out store marks work h S =
       let t = tally-total (operationsFrom M 0 place) in
       let s = steps-tallied M place 0 (omega arith) in
       (omega (arith, S .writes-is), omega (arith, S .erases-is))
 
-  pub shows-none : (out : List ℕ) → Shows M start 0 0 0 0 out (start .chip .store) (start .chip .marks) (start .work)
+  pub shows-none : (out : List ℕ) → Shows M start 0 0 0 0 out out (start .chip .store) (start .chip .marks) (start .work)
   unfolding steps stepLines tally operationsFrom
-  shows-none out = record { left = refl; text-is = refl; at-high = omega arith; writes-is = refl; erases-is = refl }
+  shows-none out = record { left = refl; lines-are = (refl, refl); at-high = omega arith; writes-is = refl; erases-is = refl }
 
-  pub shows-more : (place at writes erases : ℕ) (out store marks work out′ store′ marks′ work′ : List ℕ) (shown : Shown)
-      → Shows M start place at writes erases out store marks work → Stepped M place (runningOf store marks work) out at shown out′ store′ marks′ work′
-      → Shows M start (place + 1) (shown .at) (writes + shown .writes) (erases + shown .erases) out′ store′ marks′ work′
-  shows-more place at writes erases out store marks work out′ store′ marks′ work′ shown S T =
+  pub shows-more : (place at writes erases : ℕ) (before out store marks work out′ store′ marks′ work′ : List ℕ) (shown : Shown)
+      → Shows M start place at writes erases before out store marks work → Stepped M place (runningOf store marks work) out at shown out′ store′ marks′ work′
+      → Shows M start (place + 1) (shown .at) (writes + shown .writes) (erases + shown .erases) before out′ store′ marks′ work′
+  shows-more place at writes erases before out store marks work out′ store′ marks′ work′ shown S T =
       let after = T .left ∙ ap (step M place) (S .left) in
       let A = tally-split M 0 place 1 in
       let B = rw (zero-add place) at A in
+      let lines : stepLines M place 0 start ++ stepLine place (operationAt (M .sizes) place) work′ ≡ stepLines M (place + 1) 0 start = sym (line-more place ∙ rw (← after)) in
       record {
         left = after ∙ sym (step-more place);
-        text-is = T .printed .text-is ∙ rw (S .text-is) (sym (line-more place ∙ rw (← after)));
+        lines-are = subst (λ (lines : List ℕ). Written lines before out′ (shown .at)) lines (over-printed (stepLines M place 0 start) before (S .lines-are .0) (S .lines-are .1) (T .printed));
         at-high = omega (arith, T .printed .next-is, T .short, S .at-high);
         writes-is = omega (arith, B .writes, S .writes-is, T .writes-is);
         erases-is = omega (arith, B .erases, S .erases-is, T .erases-is);
       }
 
   -- all steps, and the end line
-  pub all-shown : (at writes erases next : ℕ) (out store marks work out′ : List ℕ) → Shows M start (lastPlace (M .sizes)) at writes erases out store marks work
-      → Printed (endLine writes erases) out at out′ next → take next out′ ≡ moveLines M start
+  pub all-shown : (at writes erases next : ℕ) (before out store marks work out′ : List ℕ) → Shows M start (lastPlace (M .sizes)) at writes erases before out store marks work
+      → Printed (endLine writes erases) out at out′ next → Written (moveLines M start) before out′ next
   unfolding moveLines operationsFrom StepsCounted
-  all-shown at writes erases next out store marks work out′ S T =
+  all-shown at writes erases next before out store marks work out′ S T =
       let all : take (lastPlace (M .sizes)) (operations (M .sizes)) ≡ operations (M .sizes) = rw (← steps-counted (M .sizes)) (take-length (operations (M .sizes))) in
-      T .text-is ∙ rw (S .text-is, S .writes-is, S .erases-is, all)
+      let lines : stepLines M (lastPlace (M .sizes)) 0 start ++ endLine writes erases ≡ moveLines M start = rw (S .writes-is, S .erases-is, all) in
+      subst (λ (text : List ℕ). Written text before out′ next) lines (over-printed (stepLines M (lastPlace (M .sizes)) 0 start) before (S .lines-are .0) (S .lines-are .1) T)

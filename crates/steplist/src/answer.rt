@@ -1,12 +1,14 @@
 // The answer to an input.
 ghost use mathlib.Core.Path.{_≡_};
 ghost use Prim.Native.Nat.{_*_, _≤_};
-ghost use lib.ListN.{length, take};
-ghost use Rattle.listing.specs.Request.{request};
+ghost use lib.ListN.{length};
+ghost use Rattle.method.specs.State.{atRest};
+ghost use Rattle.listing.specs.Area.{over, Written};
+ghost use Rattle.listing.specs.Request.{request, withinLimit};
 ghost use Rattle.listing.specs.Found.{requestIn};
 ghost use Rattle.steplist.specs.Output.{listed, answered, output};
-ghost use Rattle.steplist.specs.Listing.{mostOutput};
-ghost use Rattle.steplist.specs.Given.{Asked, Readable, Accepted, Empty, Counts};
+ghost use Rattle.steplist.specs.Listing.{moveOf, runningOf, moved, mostOutput};
+ghost use Rattle.steplist.specs.Given.{Asked, Readable, Accepted, judgedList, judgedSets, Empty, Counts};
 use crate::listed::put_listing;
 use crate::rest::put_marks;
 use crate::rest::put_store;
@@ -55,8 +57,8 @@ fn put_from_rest(
     work: &mut [u8],
 ) -> usize
     requires { ⌜ Accepted (record { n = n; m = m; P = p; s = s }) (now list) (now sets) (now originals) × Empty (record { n = n; m = m; P = p; s = s }) (now store) (now marks) (now work) × (mostOutput ≤ length (now out)) ⌝ }
-    ensures { λ r. ⌜ take r (now (out .exit)) ≡ listed (record { n = n; m = m; P = p; s = s }) (now (list .entry)) (now (originals .entry)) ⌝ }
-    ensures { λ r. ⌜ r ≤ mostOutput ⌝ }
+    ensures { λ r. ⌜ Written (listed (record { n = n; m = m; P = p; s = s }) (now (list .entry)) (now (originals .entry))) (now (out .entry)) (now (out .exit)) r ⌝ }
+    ensures { λ _. ⌜ runningOf (now (store .exit)) (now (marks .exit)) (now (work .exit)) ≡ moved (moveOf n m p s (now (list .entry)) (now (sets .entry))) (record { chip = atRest (record { n = n; m = m; P = p; s = s }) (now (originals .entry)); work = now (work .entry) }) ⌝ }
 {
     put_store(originals, m * p, store);
     put_marks(m, s as u8, marks);
@@ -75,8 +77,7 @@ fn put_accepted(
     originals: &[u32],
 ) -> usize
     requires { ⌜ Accepted (record { n = n; m = m; P = p; s = s }) (now list) (now sets) (now originals) × (mostOutput ≤ length (now out)) ⌝ }
-    ensures { λ r. ⌜ take r (now (out .exit)) ≡ listed (record { n = n; m = m; P = p; s = s }) (now (list .entry)) (now (originals .entry)) ⌝ }
-    ensures { λ r. ⌜ r ≤ mostOutput ⌝ }
+    ensures { λ r. ⌜ Written (listed (record { n = n; m = m; P = p; s = s }) (now (list .entry)) (now (originals .entry))) (now (out .entry)) (now (out .exit)) r ⌝ }
 {
     let mut store = [0u8; MOST_STORE];
     let mut marks = [0u8; MOST_SLOTS];
@@ -111,8 +112,8 @@ fn put_judged(
     sets: &mut [u8],
 ) -> usize
     requires { ⌜ Readable (record { n = n; m = m; P = p; s = s }) (now entries) (now originals) × (length (now list) ≡ n * m) × (length (now sets) ≡ n * m) × (mostOutput ≤ length (now out)) ⌝ }
-    ensures { λ r. ⌜ take r (now (out .exit)) ≡ answered (request (record { n = n; m = m; P = p; s = s }) (now (entries .entry)) (now (originals .entry))) ⌝ }
-    ensures { λ r. ⌜ r ≤ mostOutput ⌝ }
+    ensures { λ r. ⌜ Written (answered (request (record { n = n; m = m; P = p; s = s }) (now (entries .entry)) (now (originals .entry)))) (now (out .entry)) (now (out .exit)) r ⌝ }
+    ensures { λ _. ⌜ (now (list .exit) ≡ judgedList (now (entries .entry)) (now (list .entry))) × (now (sets .exit) ≡ judgedSets (record { n = n; m = m; P = p; s = s }) (now (entries .entry)) (now (sets .entry))) ⌝ }
 {
     if !fit(entries, MOST_ENTRY) {
         return put_refused(out, 0, 3);
@@ -127,8 +128,7 @@ fn put_judged(
 // Answers a request whose numbers were read.
 fn put_move(out: &mut [u8], n: usize, m: usize, p: usize, s: usize, numbers: &[u32]) -> usize
     requires { ⌜ Asked (record { n = n; m = m; P = p; s = s }) (now numbers) × (4160 ≤ length (now numbers)) × (mostOutput ≤ length (now out)) ⌝ }
-    ensures { λ r. ⌜ take r (now (out .exit)) ≡ answered (requestIn (now (numbers .entry)) (record { n = n; m = m; P = p; s = s })) ⌝ }
-    ensures { λ r. ⌜ r ≤ mostOutput ⌝ }
+    ensures { λ r. ⌜ Written (answered (requestIn (now (numbers .entry)) (record { n = n; m = m; P = p; s = s }))) (now (out .entry)) (now (out .exit)) r ⌝ }
 {
     let mut list = [0u16; MOST_ORIGINALS];
     let mut sets = [0u8; MOST_ORIGINALS];
@@ -157,17 +157,17 @@ fn put_request(
     numbers: &[u32; MOST_NUMBERS],
 ) -> usize
     requires { ⌜ Asked (record { n = n; m = m; P = p; s = s }) (now numbers) ⌝ }
-    ensures { λ r. ⌜ take r (now (out .exit)) ≡ answered (requestIn (now (numbers .entry)) (record { n = n; m = m; P = p; s = s })) ⌝ }
-    ensures { λ r. ⌜ r ≤ length (now (out .exit)) ⌝ }
+    ensures { λ r. ⌜ Written (answered (requestIn (now (numbers .entry)) (record { n = n; m = m; P = p; s = s }))) (now (out .entry)) (now (out .exit)) r ⌝ }
 {
     put_move(out, n, m, p, s, numbers)
 }
 
-// Answers an input: the answer stands at the front of `out`, and its length is returned. The input's byte behind the limit, if it has
-// one, is overwritten.
+// Answers an input: the answer is written over the front of `out`, and its length is returned. The input's byte behind the limit, if it
+// has one, is overwritten.
 pub fn answer(input: &mut [u8], out: &mut [u8; MOST_OUTPUT]) -> usize
-    ensures { λ r. ⌜ take r (now (out .exit)) ≡ output (now (input .entry)) ⌝ }
+    ensures { λ r. ⌜ Written (output (now (input .entry))) (now (out .entry)) (now (out .exit)) r ⌝ }
     ensures { λ r. ⌜ Counts r (now (out .exit)) ⌝ }
+    ensures { λ _. ⌜ now (input .exit) ≡ over (withinLimit (now (input .entry))) (now (input .entry)) ⌝ }
 {
     let mut numbers = [0u32; MOST_NUMBERS];
     let end = limit(input);

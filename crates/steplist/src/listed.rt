@@ -1,10 +1,11 @@
 // The lines of all steps and the end line.
 ghost use mathlib.Core.Path.{_≡_};
 ghost use Prim.Native.Nat.{_+_, _≤_, _<_};
-ghost use lib.ListN.{length, take};
+ghost use lib.ListN.{length};
 ghost use Rattle.method.specs.Place.{lastPlace};
+ghost use Rattle.listing.specs.Area.{Written};
 ghost use Rattle.steplist.specs.Output.{moveLines};
-ghost use Rattle.steplist.specs.Listing.{moveOf, runningOf, Listable, mostLine, mostOutput, Stepped, Shows};
+ghost use Rattle.steplist.specs.Listing.{moveOf, runningOf, Listable, moved, mostLine, mostOutput, Stepped, Shows};
 use crate::line::put_line;
 use flash::wide::word;
 use listing::lines::put_end;
@@ -61,7 +62,7 @@ fn put_steps(
     work: &mut [u8],
 ) -> Shown
     requires { ⌜ Listable (moveOf n m p s (now list) (now sets)) (runningOf (now store) (now marks) (now work)) 0 × (mostOutput ≤ length (now out)) ⌝ }
-    ensures { λ r. ⌜ Shows (moveOf n m p s (now (list .entry)) (now (sets .entry))) (runningOf (now (store .entry)) (now (marks .entry)) (now (work .entry))) (lastPlace (record { n = n; m = m; P = p; s = s })) (r .at) (r .writes) (r .erases) (now (out .exit)) (now (store .exit)) (now (marks .exit)) (now (work .exit)) ⌝ }
+    ensures { λ r. ⌜ Shows (moveOf n m p s (now (list .entry)) (now (sets .entry))) (runningOf (now (store .entry)) (now (marks .entry)) (now (work .entry))) (lastPlace (record { n = n; m = m; P = p; s = s })) (r .at) (r .writes) (r .erases) (now (out .entry)) (now (out .exit)) (now (store .exit)) (now (marks .exit)) (now (work .exit)) ⌝ }
 {
     let last = last_place(Sizes { n, m, p, s });
     let mut at = 0;
@@ -92,8 +93,8 @@ pub fn put_listing(
     work: &mut [u8],
 ) -> usize
     requires { ⌜ Listable (moveOf n m p s (now list) (now sets)) (runningOf (now store) (now marks) (now work)) 0 × (mostOutput ≤ length (now out)) ⌝ }
-    ensures { λ r. ⌜ take r (now (out .exit)) ≡ moveLines (moveOf n m p s (now (list .entry)) (now (sets .entry))) (runningOf (now (store .entry)) (now (marks .entry)) (now (work .entry))) ⌝ }
-    ensures { λ r. ⌜ r ≤ mostOutput ⌝ }
+    ensures { λ r. ⌜ Written (moveLines (moveOf n m p s (now (list .entry)) (now (sets .entry))) (runningOf (now (store .entry)) (now (marks .entry)) (now (work .entry)))) (now (out .entry)) (now (out .exit)) r ⌝ }
+    ensures { λ _. ⌜ runningOf (now (store .exit)) (now (marks .exit)) (now (work .exit)) ≡ moved (moveOf n m p s (now (list .entry)) (now (sets .entry))) (runningOf (now (store .entry)) (now (marks .entry)) (now (work .entry))) ⌝ }
 {
     let shown = put_steps(out, n, m, p, s, list, sets, store, marks, work);
     put_end(out, shown.at, shown.writes, shown.erases)

@@ -1,7 +1,8 @@
 use mathlib.Core.List.{_++_}
 use native.Mathlib.Nat.{mod-lt}
 use lib.ListN.{length, take, drop, take-append-drop, length-set}
-use lib.Seq.{take-set-le, take-take}
+use lib.Seq.{take-set-le, take-take, drop-set-lt}
+use Rattle.listing.proofs.PrintLaws.{printed}
 use Rattle.listing.specs.Digits.{digits}
 use Rattle.listing.proofs.DigitLaws.{length-digits, digits-start, digits-more}
 use mathlib.Core.Path.{_≡_, refl, sym, _∙_}
@@ -12,7 +13,7 @@ use Rattle.listing.proofs.digits.put_digits.Statement.{statement}
 use Rattle.listing.proofs.digits.put_digits.Tie as tie
 
 abbrev Inv-loop : tie.InvT-loop
-Inv-loop out₀ at base count n end i₀ rest₀ out i rest = (take at out ≡ take at out₀) × (digits base (i - at) rest ++ drop i (take end out) ≡ digits base count n) × (at ≤ i) × (i ≤ end) × (length out ≡ length out₀)
+Inv-loop out₀ at base count n end i₀ rest₀ out i rest = (take at out ≡ take at out₀) × (digits base (i - at) rest ++ drop i (take end out) ≡ digits base count n) × (at ≤ i) × (i ≤ end) × (length out ≡ length out₀) × (drop end out ≡ drop end out₀)
 
 abbrev μ-loop : tie.MeasureT-loop
 μ-loop out₀ at base count n end i₀ rest₀ out i rest = i - at
@@ -23,7 +24,7 @@ add-end c = search needs
 loop-holds : tie.Need-loop-holds Inv-loop μ-loop
 loop-holds c =
     let a = c .before .args in
-    (refl, digits-start (a .base) (a .at) (a .at + a .count) (a .count) (a .n) (a .out .now) refl, omega arith, omega arith, refl)
+    (refl, digits-start (a .base) (a .at) (a .at + a .count) (a .count) (a .n) (a .out .now) refl, omega arith, omega arith, refl, refl)
 
 sub-i : tie.Need-sub-i Inv-loop μ-loop
 sub-i c = search needs
@@ -53,6 +54,7 @@ loop-again c =
       omega arith,
       omega arith,
       simp length-set (omega arith),
+      drop-set-lt (a .at + a .count) (l .out) (l .i - 1) _ (omega arith) ∙ l .inv .5,
     )
 
 same-length : tie.Need-same-length Inv-loop μ-loop
@@ -66,10 +68,9 @@ returns c =
     let e : l .i ≡ a .at = omega arith in
     let z : l .i - a .at ≡ 0 = omega arith in
     let whole : drop (a .at) (take (a .at + a .count) (l .out)) ≡ digits (a .base) (a .count) (a .n) = rw (z, e) at (l .inv .1) in
-    record {
-      next-is = omega (arith, length-digits (a .base) (a .count) (a .n));
-      text-is = sym (take-append-drop (a .at) (take (a .at + a .count) (l .out))) ∙ rw (take-take (a .at) (a .at + a .count) (l .out) (omega arith), l .inv .0, whole);
-    }
+    let text : take (a .at + a .count) (l .out) ≡ take (a .at) (a .out .now) ++ digits (a .base) (a .count) (a .n) =
+    sym (take-append-drop (a .at) (take (a .at + a .count) (l .out))) ∙ rw (take-take (a .at) (a .at + a .count) (l .out) (omega arith), l .inv .0, whole) in
+    printed (digits (a .base) (a .count) (a .n)) (a .out .now) (l .out) (a .at) (a .at + a .count) (omega (arith, length-digits (a .base) (a .count) (a .n))) (omega arith) text (l .inv .5)
 
 pub put-digits-spec : {M : Type 1} → statement M
 put-digits-spec =

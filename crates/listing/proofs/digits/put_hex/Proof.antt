@@ -19,7 +19,7 @@ abbrev μ-loop : tie.MeasureT-loop
 
 loop-holds : tie.Need-loop-holds Inv-loop μ-loop
 unfolding concatMap
-loop-holds c = (nothing-printed (c .before .before .args .out .now) (c .before .before .args .at), omega arith, refl)
+loop-holds c = (nothing-printed (c .before .before .args .out .now) (c .before .before .args .at) (omega (arith, c .before .before .pre)), omega arith, refl)
 
 shared-slice-read-wide : tie.Need-shared-slice-read-wide Inv-loop μ-loop
 shared-slice-read-wide c = search needs

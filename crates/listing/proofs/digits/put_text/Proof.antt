@@ -1,7 +1,8 @@
 use mathlib.Core.List.{_++_, append-nil}
-use lib.ListN.{length, take, length-set}
+use lib.ListN.{length, take, drop, length-set}
 use lib.Seq.{take-length}
-use Rattle.listing.proofs.PrintLaws.{printed-byte}
+use Rattle.listing.proofs.PrintLaws.{printed, printed-byte}
+use Rattle.flash.proofs.Loops.{rest-more}
 use mathlib.Core.Path.{_≡_, refl, sym, _∙_}
 use Prim.Native.Nat.{_+_, _-_, _≤_}
 use native.Mathlib.Omega.{arith}
@@ -10,7 +11,7 @@ use Rattle.listing.proofs.digits.put_text.Statement.{statement}
 use Rattle.listing.proofs.digits.put_text.Tie as tie
 
 abbrev Inv-loop : tie.InvT-loop
-Inv-loop out₀ at text i₀ out i = (take (at + i) out ≡ take at out₀ ++ take i text) × (i ≤ length text) × (length out ≡ length out₀)
+Inv-loop out₀ at text i₀ out i = (take (at + i) out ≡ take at out₀ ++ take i text) × (drop (at + i) out ≡ drop (at + i) out₀) × (i ≤ length text) × (length out ≡ length out₀)
 
 abbrev μ-loop : tie.MeasureT-loop
 μ-loop out₀ at text i₀ out i = length text - i
@@ -18,7 +19,7 @@ abbrev μ-loop : tie.MeasureT-loop
 loop-holds : tie.Need-loop-holds Inv-loop μ-loop
 loop-holds c =
     let e : c .args .at + 0 ≡ c .args .at = omega arith in
-    (rw e (sym (append-nil (take (c .args .at) (c .args .out .now)))), omega arith, refl)
+    (rw e (sym (append-nil (take (c .args .at) (c .args .out .now)))), refl, omega arith, refl)
 
 shared-slice-read-out : tie.Need-shared-slice-read-out Inv-loop μ-loop
 shared-slice-read-out c = search needs
@@ -39,7 +40,12 @@ loop-again : tie.Need-loop-again Inv-loop μ-loop
 loop-again c =
     let l = c .before .before .loop in
     let a = c .before .before .before .args in
-    (printed-byte (a .text .now) (a .out .now) (l .out) (a .at) (l .i) (omega arith) (omega arith) (l .inv .0), omega arith, simp length-set (omega arith))
+    let n : a .at + (l .i + 1) ≡ a .at + l .i + 1 = omega arith in (
+      printed-byte (a .text .now) (a .out .now) (l .out) (a .at) (l .i) (omega arith) (omega arith) (l .inv .0),
+      rw n (rest-more (l .out) (a .out .now) (a .at + l .i) _ (l .inv .1)),
+      omega arith,
+      simp length-set (omega arith),
+    )
 
 add-result : tie.Need-add-result Inv-loop μ-loop
 add-result c = search needs
@@ -52,10 +58,7 @@ returns c =
     let l = c .before .loop in
     let a = c .before .before .args in
     let e : l .i ≡ length (a .text .now) = omega arith in
-    record {
-      next-is = omega arith;
-      text-is = l .inv .0 ∙ rw (e, take-length);
-    }
+    printed (a .text .now) (a .out .now) (l .out) (a .at) (a .at + l .i) (omega arith) (omega arith) (l .inv .0 ∙ rw (e, take-length)) (l .inv .1)
 
 pub put-text-spec : {M : Type 1} → statement M
 put-text-spec =

@@ -7,7 +7,8 @@ use lib.ListN.{length, take, drop, length-set}
 use lib.Seq.{take-suc-set, take-length}
 use Rattle.listing.specs.Numbers.{numbersIn, taken, numbersMet}
 use Rattle.listing.specs.Found.{toldAs}
-use Rattle.listing.proofs.TakeLaws.{went-on, stopped, taken-more, met-stopped, met-more, rest-more, met-all}
+use Rattle.listing.proofs.TakeLaws.{went-on, stopped, taken-more, met-stopped, met-more, met-all}
+use Rattle.flash.proofs.Loops.{rest-more}
 use borrow.Author.Needs.{needs}
 use Rattle.listing.proofs.request.fill.Statement.{statement}
 use Rattle.listing.proofs.request.fill.Tie as tie

@@ -6,7 +6,7 @@ use Rattle.method.specs.Cycle.{D, pred, isTop}
 use Rattle.walk.specs.Moving.{moveOf}
 use Rattle.walk.proofs.CycleLaws.{table-fits, leads, page-lt}
 use Rattle.walk.proofs.WalkLaws.{Next, back-next, page-in}
-use Rattle.mover.proofs.StepLaws.{appends-twice, sent-lt, final-slots, top-slots, code-slots}
+use Rattle.mover.proofs.StepLaws.{appends-twice, rest-twice, sent-lt, final-slots, top-slots, code-slots}
 use Rattle.mover.proofs.step.write_slots.Statement.{statement}
 use Rattle.mover.proofs.step.write_slots.Tie as tie
 
@@ -32,7 +32,7 @@ returns c =
     let a = start .args in
     let e = final-slots (moveOf (a .z) (a .list .now) (a .sets .now)) (start .pre .0 .0 .given) (a .block) (a .page) (omega arith) (a .marks .now) (c .before .before .before .before .sent-to .result) (c .before .before .before .before .sent-to .ensures) in
     let A = c .before .before .read-slots .ensures in
-    (rw (c .before .before .before .before .before .if1 .taken) (A .slots-are ∙ sym e), omega (arith, A .some), omega (arith, A .few))
+    (rw (c .before .before .before .before .before .if1 .taken) (A .slots-are ∙ sym e), omega (arith, A .some), omega (arith, A .few), A .rest-is)
 
 add-i : tie.Need-add-i
 add-i c = search needs
@@ -77,7 +77,7 @@ returns-2 c =
     let a = start .args in
     let e = top-slots (moveOf (a .z) (a .list .now) (a .sets .now)) (start .pre .0 .0 .given) (a .block) (a .page) (omega arith) (a .marks .now) (c .before .before .before .before .before .before .page-of .result) (original (c .before .before .before .before .before .before) .0) (sym (top-told (c .before)) ∙ c .if2 .taken) in
     let A = c .before .before .before .before .read-slots2 .ensures in
-    (rw (c .before .before .before .before .before .before .before .if1 .left) (A .slots-are ∙ sym e), omega (arith, A .some), omega (arith, A .few))
+    (rw (c .before .before .before .before .before .before .before .if1 .left) (A .slots-are ∙ sym e), omega (arith, A .some), omega (arith, A .few), A .rest-is)
 
 -- the entry of block i is in the table
 inside : (c : tie.Else2) → (let a = c .before .before .before .before .before .before .before .before .before .before .before .before .args in a .block * a .z .m + a .page < 4096)
@@ -140,7 +140,7 @@ returns-3 c =
     let E = c .before .before .read-slots3 .ensures in
     let e = code-slots (moveOf (a .z) (a .list .now) (a .sets .now)) (T .given) (a .block) (a .page) (omega arith) (a .marks .now) (c .before .before .before .before .before .before .before .before .before .before .before .before .before .before .page-of .result) (c .before .before .before .before .before .wide .result) (c .before .before .before .before .page-of2 .result)
     (original (c .before .before .before .before .before .before .before .before .before .before .before .before .before .before) .0) (next (c .before .before .before .before .before) .is) (c .before .before .before .before .page-of2 .ensures (a .list .now) (a .sets .now) (a .from .now) T) (sym (top-told (c .before .before .before .before .before .before .before .before .before)) ∙ c .before .before .before .before .before .before .before .before .if2 .left) in
-    (rw (c .before .before .before .before .before .before .before .before .before .before .before .before .before .before .before .if1 .left) (appends-twice _ _ _ _ _ _ _ A E ∙ sym e), omega (arith, E .some), omega (arith, A .few, E .few))
+    (rw (c .before .before .before .before .before .before .before .before .before .before .before .before .before .before .before .if1 .left) (appends-twice _ _ _ _ _ _ _ A E ∙ sym e), omega (arith, E .some), omega (arith, A .few, E .few), rest-twice _ _ _ _ _ _ _ A E)
 
 pub write-slots-spec : {M : Type 1} → statement M
 write-slots-spec =

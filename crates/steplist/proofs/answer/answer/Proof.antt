@@ -7,7 +7,8 @@ use Rattle.listing.specs.Found.{askedAs}
 use Rattle.steplist.specs.Output.{answered}
 use Rattle.steplist.proofs.LengthLaws.{refused-short}
 use Rattle.listing.proofs.AreaLaws.{over-front, over-room}
-use Rattle.steplist.proofs.AskedLaws.{asked, answers, counts}
+use Rattle.listing.proofs.PrintLaws.{first-printed}
+use Rattle.steplist.proofs.AskedLaws.{asked, answers}
 use borrow.Author.Needs.{needs}
 use Rattle.steplist.proofs.answer.answer.Statement.{statement}
 use Rattle.steplist.proofs.answer.answer.Tie as tie
@@ -61,20 +62,32 @@ same-length c = search needs
 
 returns : tie.Need-returns
 unfolding answered unreadableLine
-returns c = (c .put-unreadable .ensures .text-is ∙ answers (c .before .before .before .before .before .before .before .before .before .before .before .before .args .input .now) (c .before .before .before .before .read .last .1 .0) (c .before .before .before .before .read .result) _ (told (c .before .before .before .before)) (c .before .before .enum-told .given .1), counts _ _ (omega (arith, c .put-unreadable .ensures .next-is)))
+returns c =
+    let r = c .before .before .before .before in
+    let a = r .before .before .before .before .before .before .before .before .args in
+    let done = answers (a .input .now) (r .read .last .1 .0) (a .out .now) _ _ (r .read .result) _ (told r) (c .before .before .enum-told .given .1) (first-printed (c .put-unreadable .ensures)) in
+    (done .0, (done .1, r .before .before .before .before .before .limit .ensures .1))
 
 same-length-2 : tie.Need-same-length-2
 same-length-2 c = search needs
 
 returns-2 : tie.Need-returns-2
 unfolding answered
-returns-2 c = (c .put-refused .ensures .text-is ∙ answers (c .before .before .before .before .before .before .before .before .before .before .before .before .args .input .now) (c .before .before .before .before .read .last .1 .0) (c .before .before .before .before .read .result) _ (told (c .before .before .before .before)) (c .before .before .enum-told2 .given .1), counts _ _ (omega (arith, c .put-refused .ensures .next-is, refused-short 1 (omega arith))))
+returns-2 c =
+    let r = c .before .before .before .before in
+    let a = r .before .before .before .before .before .before .before .before .args in
+    let done = answers (a .input .now) (r .read .last .1 .0) (a .out .now) _ _ (r .read .result) _ (told r) (c .before .before .enum-told2 .given .1) (first-printed (c .put-refused .ensures)) in
+    (done .0, (done .1, r .before .before .before .before .before .limit .ensures .1))
 
 same-length-3 : tie.Need-same-length-3
 same-length-3 c = search needs
 
 returns-3 : tie.Need-returns-3
-returns-3 c = (c .put-request .ensures .0 ∙ answers (c .before .before .before .before .before .before .before .before .before .before .before .before .before .before .args .input .now) (c .before .before .before .before .before .before .read .last .1 .0) (c .before .before .before .before .before .before .read .result) _ (told (c .before .before .before .before .before .before)) (c .before .before .before .before .n .given .1), counts _ _ (c .put-request .ensures .1))
+returns-3 c =
+    let r = c .before .before .before .before .before .before in
+    let a = r .before .before .before .before .before .before .before .before .args in
+    let done = answers (a .input .now) (r .read .last .1 .0) (a .out .now) _ _ (r .read .result) _ (told r) (c .before .before .before .before .n .given .1) (c .put-request .ensures) in
+    (done .0, (done .1, r .before .before .before .before .before .limit .ensures .1))
 
 pub answer-spec : {M : Type 1} → statement M
 answer-spec = tie.close (tie.spec limit-requires slice-reshare-prefix-read slice-aggregate-read read-requires enum-told put-unreadable-requires enum-told-2 put-refused-requires enum-known-n put-request-requires same-length returns same-length-2 returns-2 same-length-3 returns-3)

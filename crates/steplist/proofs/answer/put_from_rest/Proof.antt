@@ -59,7 +59,8 @@ unfolding listed
 returns c =
     let start = c .before .before .before .before .before .before .before .before .before .before .before .before .before .before .before .before .before .before .before .before .before .before .before .before .before .before .before .before in
     let listing = c .before .before .before .before .before .before .before .before .put-listing .ensures in
-    (rw (at-rest (c .before .before .before .before .before .before .before .before .before .before .before .before .before .before .before), start .pre .0 .sets-is) at (listing .0), listing .1)
+    let rest = at-rest (c .before .before .before .before .before .before .before .before .before .before .before .before .before .before .before) in
+    (rw (rest, start .pre .0 .sets-is) at (listing .0), rw (start .pre .1 .work-is) (rw rest at (listing .1)))
 
 pub put-from-rest-spec : {M : Type 1} → statement M
 put-from-rest-spec = tie.close (tie.spec mul-put-store put-store-requires cast-put-marks put-marks-requires put-listing-requires same-length same-length-2 same-length-3 same-length-4 returns)

@@ -1,7 +1,9 @@
 use native.Mathlib.Omega.{arith}
-use mathlib.Core.Path.{sym, _∙_}
+use mathlib.Core.Path.{_≡_, sym, _∙_}
 use borrow.Author.Tests.{not-true, not-false}
 use Rattle.split.specs.Answer.{SplitAnswered}
+use Rattle.steplist.specs.Given.{judgedList, judgedSets}
+use Rattle.listing.proofs.PrintLaws.{first-printed}
 use Rattle.steplist.proofs.LengthLaws.{refused-short}
 use Rattle.steplist.proofs.JudgeLaws.{too-large, not-split, is-split, is-listed}
 use borrow.Author.Needs.{needs}
@@ -12,6 +14,16 @@ use Rattle.steplist.proofs.answer.put_judged.Tie as tie
 judged : (c : tie.After-split)
     → (let a = c .before .before .before .before .before .before .before .before .before .before .before .before .before .before .args in SplitAnswered (record { n = a .n; m = a .m; P = a .p; s = a .s }) (a .entries .now) (a .sets .now) (c .split .result) (c .split .last .1 .1 .1 .1 .1 .0))
 judged c = rw (c .before .before .before .before .before .put-entries .ensures) at (c .split .ensures)
+
+-- what the areas of the list and of the set bytes hold from here on
+left : (c : tie.After-split)
+    → (let a = c .before .before .before .before .before .before .before .before .before .before .before .before .before .before .args in
+    (c .before .before .before .before .before .put-entries .last .1 .0 ≡ judgedList (a .entries .now) (a .list .now))
+    × (c .split .last .1 .1 .1 .1 .1 .0 ≡ judgedSets (record { n = a .n; m = a .m; P = a .p; s = a .s }) (a .entries .now) (a .sets .now)))
+left c =
+    let p = c .before .before .before .before .before in
+    let fits = sym (p .before .before .before .fit .ensures) ∙ not-false _ (p .before .before .if1 .left) in
+    rw fits (p .put-entries .ensures, judged c .sets-are)
 
 fit-requires : tie.Need-fit-requires
 fit-requires c κs = search needs
@@ -27,7 +39,8 @@ returns c =
     let start = c .before .before .before .before .before .before .before .before .before .before .before in
     let a = start .args in
     let line = c .before .before .put-refused .ensures in
-    (line .text-is ∙ sym (too-large (a .n) (a .m) (a .p) (a .s) (start .pre .0 .allowed) (a .entries .now) (a .originals .now) (sym (c .before .before .before .before .before .fit .ensures) ∙ not-true _ (c .before .before .before .before .if1 .taken))), omega (arith, line .next-is, refused-short 3 (omega arith)))
+    let large = sym (c .before .before .before .before .before .fit .ensures) ∙ not-true _ (c .before .before .before .before .if1 .taken) in
+    (rw (too-large (a .n) (a .m) (a .p) (a .s) (start .pre .0 .allowed) (a .entries .now) (a .originals .now) large) (first-printed line), (rw large, rw large))
 
 put-entries-requires : tie.Need-put-entries-requires
 put-entries-requires c κs =
@@ -55,7 +68,7 @@ returns-2 c =
     let a = start .args in
     let split = c .before .before .before .before .before .before .before .split in
     let line = c .before .before .put-refused2 .ensures in
-    (line .text-is ∙ sym (not-split (a .n) (a .m) (a .p) (a .s) (start .pre .0 .allowed) (a .entries .now) (a .originals .now) (a .sets .now) (split .last .1 .1 .1 .1 .1 .0) (split .result) (start .pre .0 .list-length) (start .pre .2) (judged (c .before .before .before .before .before .before .before)) (c .before .before .before .before .if2 .taken)), omega (arith, line .next-is, refused-short 3 (omega arith)))
+    (rw (not-split (a .n) (a .m) (a .p) (a .s) (start .pre .0 .allowed) (a .entries .now) (a .originals .now) (a .sets .now) (split .last .1 .1 .1 .1 .1 .0) (split .result) (start .pre .0 .list-length) (start .pre .2) (judged (c .before .before .before .before .before .before .before)) (c .before .before .before .before .if2 .taken)) (first-printed line), left (c .before .before .before .before .before .before .before))
 
 put-accepted-requires : tie.Need-put-accepted-requires
 put-accepted-requires c κs =
@@ -79,7 +92,7 @@ returns-3 c =
     let a = start .args in
     let split = c .before .before .before .before .before .before .before .before .before .split in
     let listing = c .before .before .put-accepted .ensures in
-    (is-listed (a .n) (a .m) (a .p) (a .s) (start .pre .0 .allowed) (a .entries .now) (a .originals .now) (a .sets .now) (split .last .1 .1 .1 .1 .1 .0) (split .result) (start .pre .0 .list-length) (start .pre .2) (judged (c .before .before .before .before .before .before .before .before .before)) (c .before .before .before .before .before .before .if2 .left) _ (rw (c .before .before .before .before .before .before .before .before .before .before .before .before .before .before .put-entries .ensures) at (listing .0)), listing .1)
+    (rw (is-listed (a .n) (a .m) (a .p) (a .s) (start .pre .0 .allowed) (a .entries .now) (a .originals .now) (a .sets .now) (split .last .1 .1 .1 .1 .1 .0) (split .result) (start .pre .0 .list-length) (start .pre .2) (judged (c .before .before .before .before .before .before .before .before .before)) (c .before .before .before .before .before .before .if2 .left)) (rw (c .before .before .before .before .before .before .before .before .before .before .before .before .before .before .put-entries .ensures) at listing), left (c .before .before .before .before .before .before .before .before .before))
 
 pub put-judged-spec : {M : Type 1} → statement M
 put-judged-spec = tie.close (tie.spec fit-requires put-refused-requires same-length returns put-entries-requires split-requires put-refused-requires-2 same-length-2 same-length-3 same-length-4 returns-2 put-accepted-requires same-length-5 same-length-6 same-length-7 returns-3)

@@ -1,3 +1,4 @@
+use native.Mathlib.Omega.{arith}
 use Rattle.flash.specs.Geometry.{Sizes}
 use Rattle.method.specs.Place.{operationAt}
 use Rattle.listing.proofs.PrintLaws.{nothing-printed}
@@ -57,7 +58,7 @@ returns-3 c =
     let a = c .before .before .before .before .before .args in
     let Z : Sizes = record { n = a .n; m = a .m; P = 0; s = a .s } in
     let e = line-told Z (operationAt Z (a .place)) (a .place) (a .work .now) (c .before .before .operation .result) _ (c .before .before .operation .ensures) (c .enum-told .given .1) in
-    rw e (nothing-printed (a .out .now) (a .at))
+    rw e (nothing-printed (a .out .now) (a .at) (omega (arith, c .before .before .before .before .before .pre .1)))
 
 pub put-line-spec : {M : Type 1} → statement M
 put-line-spec = tie.close (tie.spec operation-requires enum-known-block put-write-requires enum-known-block-2 put-erase-requires enum-told same-length returns same-length-2 returns-2 returns-3)

@@ -12,7 +12,7 @@ use Rattle.steplist.proofs.listed.put_steps.Tie as tie
 
 abbrev Inv-loop : tie.InvT-loop
 Inv-loop out₀ n m p s list sets store₀ marks₀ work₀ last at₀ writes₀ erases₀ place₀ out store marks work at writes erases place =
-    Shows (moveOf n m p s list sets) (runningOf store₀ marks₀ work₀) place at writes erases out store marks work
+    Shows (moveOf n m p s list sets) (runningOf store₀ marks₀ work₀) place at writes erases out₀ out store marks work
     × (place ≤ last) × (length out ≡ length out₀) × (length store ≡ length store₀) × (length marks ≡ length marks₀) × (length work ≡ length work₀)
 
 abbrev μ-loop : tie.MeasureT-loop
@@ -21,11 +21,11 @@ abbrev μ-loop : tie.MeasureT-loop
 -- a step more is shown
 shown : (c : tie.After-put-step Inv-loop μ-loop)
     → (let a = c .before .before .before .before .before .before .before .before .before .before .before .before .before .before .args in let l = c .before .before .before .before .before .before .loop in let r = c .put-step .result in
-    Shows (moveOf (a .n) (a .m) (a .p) (a .s) (a .list .now) (a .sets .now)) (runningOf (a .store .now) (a .marks .now) (a .work .now)) (l .place + 1) (r .at) (l .writes + r .writes) (l .erases + r .erases) (c .put-step .last .0) (c .put-step .last .1 .1 .1 .1 .1 .1 .1 .1 .0) (c .put-step .last .1 .1 .1 .1 .1 .1 .1 .1 .1 .0) (c .put-step .last .1 .1 .1 .1 .1 .1 .1 .1 .1 .1 .0))
+    Shows (moveOf (a .n) (a .m) (a .p) (a .s) (a .list .now) (a .sets .now)) (runningOf (a .store .now) (a .marks .now) (a .work .now)) (l .place + 1) (r .at) (l .writes + r .writes) (l .erases + r .erases) (a .out .now) (c .put-step .last .0) (c .put-step .last .1 .1 .1 .1 .1 .1 .1 .1 .0) (c .put-step .last .1 .1 .1 .1 .1 .1 .1 .1 .1 .0) (c .put-step .last .1 .1 .1 .1 .1 .1 .1 .1 .1 .1 .0))
 shown c =
     let a = c .before .before .before .before .before .before .before .before .before .before .before .before .before .before .args in
     let l = c .before .before .before .before .before .before .loop in
-    shows-more (moveOf (a .n) (a .m) (a .p) (a .s) (a .list .now) (a .sets .now)) (runningOf (a .store .now) (a .marks .now) (a .work .now)) (l .place) (l .at) (l .writes) (l .erases) _ _ _ _ _ _ _ _ (c .put-step .result) (l .inv .0) (c .put-step .ensures)
+    shows-more (moveOf (a .n) (a .m) (a .p) (a .s) (a .list .now) (a .sets .now)) (runningOf (a .store .now) (a .marks .now) (a .work .now)) (l .place) (l .at) (l .writes) (l .erases) _ _ _ _ _ _ _ _ _ (c .put-step .result) (l .inv .0) (c .put-step .ensures)
 
 -- and few steps are counted
 counted : (c : tie.After-put-step Inv-loop μ-loop) → (let l = c .before .before .before .before .before .before .loop in let r = c .put-step .result in (l .writes + r .writes ≤ 144) × (l .erases + r .erases ≤ 144))
@@ -33,7 +33,7 @@ counted c =
     let start = c .before .before .before .before .before .before .before .before .before .before .before .before .before .before in
     let a = start .args in
     let last = few-steps (record { n = a .n; m = a .m; P = a .p; s = a .s }) (start .pre .0 .few-blocks) (start .pre .0 .few-pages) in
-    let few = few-counted (moveOf (a .n) (a .m) (a .p) (a .s) (a .list .now) (a .sets .now)) (runningOf (a .store .now) (a .marks .now) (a .work .now)) (c .before .before .before .before .before .before .loop .place + 1) _ _ _ _ _ _ _ (omega (arith, c .before .before .before .before .before .before .before .last-place .ensures)) (shown c) in
+    let few = few-counted (moveOf (a .n) (a .m) (a .p) (a .s) (a .list .now) (a .sets .now)) (runningOf (a .store .now) (a .marks .now) (a .work .now)) (c .before .before .before .before .before .before .loop .place + 1) _ _ _ _ _ _ _ _ (omega (arith, c .before .before .before .before .before .before .before .last-place .ensures)) (shown c) in
     (omega arith, omega arith)
 
 last-place-requires : tie.Need-last-place-requires Inv-loop μ-loop

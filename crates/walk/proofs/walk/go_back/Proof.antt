@@ -1,10 +1,11 @@
-use mathlib.Core.Path.{_≡_, sym, ap, _∙_}
+use mathlib.Core.Path.{_≡_, refl, sym, ap, _∙_}
 use mathlib.Core.Logic.{_≢_}
 use mathlib.Core.List.{_++_, append-nil}
 use Prim.Native.Nat.{ℕ, _+_, _-_, _*_, _≤_, _<_}
 use native.Mathlib.Omega.{arith}
 use borrow.Author.Needs.{needs}
-use lib.ListN.{length, take, length-set}
+use lib.ListN.{length, take, drop, length-set}
+use Rattle.flash.proofs.Loops.{rest-more}
 use Rattle.flash.proofs.Bounds.{block-in-marks}
 use Rattle.method.specs.Cycle.{pred, top}
 use Rattle.method.specs.Read.{goBack}
@@ -17,7 +18,7 @@ use Rattle.walk.proofs.walk.go_back.Tie as tie
 abbrev Inv-loop : tie.InvT-loop
 Inv-loop z list sets pages from marks t set start slots₀ at m v₀ count₀ turns₀ slots v count turns =
     (take count slots ++ goBack (moveOf z list sets) marks set (z .n - turns) v ≡ take at slots₀ ++ goBack (moveOf z list sets) marks set (z .n) start)
-    × (top (moveOf z list sets) set v ≡ t) × (turns ≤ z .n) × (count ≡ at + turns) × (1 ≤ v) × (v ≤ z .n) × (length slots ≡ 130)
+    × (top (moveOf z list sets) set v ≡ t) × (turns ≤ z .n) × (count ≡ at + turns) × (1 ≤ v) × (v ≤ z .n) × (length slots ≡ 130) × (drop count slots ≡ drop count slots₀)
 
 abbrev μ-loop : tie.MeasureT-loop
 μ-loop z list sets pages from marks t set start slots₀ at m v₀ count₀ turns₀ slots v count turns = z .n - turns
@@ -27,7 +28,7 @@ loop-holds c =
     let a = c .before .before .before .before .args in
     let M = moveOf (a .z) (a .list .now) (a .sets .now) in
     let pre = c .before .before .before .before .pre in
-    (ap (λ (turns : ℕ). take (a .at) (a .slots .now) ++ goBack M (a .marks .now) (a .set) turns (a .start)) (omega arith), pre .1 .1 .0, omega arith, omega arith, omega arith, omega arith, omega arith)
+    (ap (λ (turns : ℕ). take (a .at) (a .slots .now) ++ goBack M (a .marks .now) (a .set) turns (a .start)) (omega arith), pre .1 .1 .0, omega arith, omega arith, omega arith, omega arith, omega arith, refl)
 
 sub-entry : tie.Need-sub-entry Inv-loop μ-loop
 sub-entry c = search needs
@@ -63,7 +64,7 @@ returns c =
     let l = c .before .before .before .loop in
     let M = moveOf (a .z) (a .list .now) (a .sets .now) in
     let rest = back-top M (start .pre .0 .given) (a .set) (omega arith) (a .marks .now) (l .v) (l .turns) (omega arith) (l .inv .1 ∙ sym (c .if2 .taken)) in
-    record { slots-are = put-last (l .slots) (l .count) _ _ _ (omega arith) (l .inv .0) rest; some = omega arith; few = omega arith }
+    record { slots-are = put-last (l .slots) (l .count) _ _ _ (omega arith) (l .inv .0) rest; rest-is = rest-more (l .slots) (a .slots .now) (l .count) _ (l .inv .7); some = omega arith; few = omega arith }
 
 element-copy-out-wide : tie.Need-element-copy-out-wide Inv-loop μ-loop
 element-copy-out-wide c = omega (arith, inside (c .before))
@@ -125,6 +126,7 @@ returns-2 c =
     (c .before .before .before .before .wide .result) (c .before .page-of .result) apart (N .is) (sym (c .before .before .before .full-of .ensures) ∙ c .before .before .if3 .taken) (c .before .page-of .ensures (a .list .now) (a .sets .now) (a .from .now) (start .pre .0)) in
     record {
       slots-are = rw (c .home .ensures) (put-both (l .slots) (l .count) _ _ _ (omega arith) (l .inv .0) _ (omega arith) rest);
+      rest-is = rest-more _ (a .slots .now) (l .count + 1) _ (rest-more (l .slots) (a .slots .now) (l .count) _ (l .inv .7));
       some = omega arith;
       few = omega arith;
     }
@@ -152,6 +154,7 @@ loop-again c =
       N .low,
       N .high,
       simp length-set (l .inv .6),
+      rest-more (l .slots) (a .slots .now) (l .count) _ (l .inv .7),
     )
 
 same-length-3 : tie.Need-same-length-3 Inv-loop μ-loop
@@ -166,6 +169,7 @@ returns-3 c =
     let none : a .z .n - l .turns ≡ 0 = omega arith in
     record {
       slots-are = sym (append-nil (take (l .count) (l .slots))) ∙ rw none at (l .inv .0);
+      rest-is = l .inv .7;
       some = omega arith;
       few = omega arith;
     }

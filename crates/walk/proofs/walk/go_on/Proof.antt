@@ -1,9 +1,10 @@
-use mathlib.Core.Path.{_≡_, sym, ap, _∙_}
+use mathlib.Core.Path.{_≡_, refl, sym, ap, _∙_}
 use mathlib.Core.List.{_++_, append-nil}
 use Prim.Native.Nat.{ℕ, _+_, _-_, _*_, _≤_, _<_}
 use native.Mathlib.Omega.{arith}
 use borrow.Author.Needs.{needs}
-use lib.ListN.{length, take, length-set}
+use lib.ListN.{length, take, drop, length-set}
+use Rattle.flash.proofs.Loops.{rest-more}
 use Rattle.flash.proofs.Bounds.{block-in-marks}
 use Rattle.method.specs.Cycle.{D, dest}
 use Rattle.method.specs.Read.{goOn}
@@ -16,7 +17,7 @@ use Rattle.walk.proofs.walk.go_on.Tie as tie
 abbrev Inv-loop : tie.InvT-loop
 Inv-loop z list sets pages from marks set start slots₀ at m v₀ next₀ count₀ turns₀ slots v next count turns =
     (take count slots ++ goOn (moveOf z list sets) marks set (z .n - turns) v ≡ take at slots₀ ++ goOn (moveOf z list sets) marks set (z .n) start)
-    × (turns ≤ z .n) × (count ≡ at + turns) × Next (dest (moveOf z list sets) set) (z .n) v next × (length slots ≡ 130)
+    × (turns ≤ z .n) × (count ≡ at + turns) × Next (dest (moveOf z list sets) set) (z .n) v next × (length slots ≡ 130) × (drop count slots ≡ drop count slots₀)
 
 abbrev μ-loop : tie.MeasureT-loop
 μ-loop z list sets pages from marks set start slots₀ at m v₀ next₀ count₀ turns₀ slots v next count turns = z .n - turns
@@ -46,6 +47,7 @@ loop-holds c =
       omega arith,
       on-next M (T .given) (a .set) (omega arith) (a .start) (c .before .page-of .result) (c .goes-to .result) (omega arith) (omega arith) (c .before .page-of .ensures (a .list .now) (a .sets .now) (a .from .now) T) (c .goes-to .ensures),
       omega arith,
+      refl,
     )
 
 sub-slots : tie.Need-sub-slots Inv-loop μ-loop
@@ -137,6 +139,7 @@ returns c =
     (l .next) (c .before .before .before .goes-to2 .result) (c .before .before .before .before .page-of2 .result) (l .inv .3 .is) (after (c .before .before .before) .is) (sym (c .before .before .full-of .ensures) ∙ c .before .if2 .taken) (original (c .before .before .before .before) .0) in
     record {
       slots-are = rw (c .home .ensures) (put-both (l .slots) (l .count) _ _ _ (omega arith) (l .inv .0) _ (omega arith) rest);
+      rest-is = rest-more _ (a .slots .now) (l .count + 1) _ (rest-more (l .slots) (a .slots .now) (l .count) _ (l .inv .5));
       some = omega arith;
       few = omega arith;
     }
@@ -154,7 +157,7 @@ loop-again c =
     let l = c .before .before .before .before .before .before .loop in
     let rest = on-turn (moveOf (a .z) (a .list .now) (a .sets .now)) (start .pre .0 .given) (a .set) (omega arith) (a .marks .now) (l .v) (l .turns) (omega arith)
     (l .next) (c .before .before .goes-to2 .result) (l .inv .3 .is) (after (c .before .before) .is) (sym (c .before .full-of .ensures) ∙ c .if2 .left) in
-    (put-next (l .slots) (l .count) _ _ _ (omega arith) (l .inv .0) _ rest, omega arith, omega arith, after (c .before .before), simp length-set (l .inv .4))
+    (put-next (l .slots) (l .count) _ _ _ (omega arith) (l .inv .0) _ rest, omega arith, omega arith, after (c .before .before), simp length-set (l .inv .4), rest-more (l .slots) (a .slots .now) (l .count) _ (l .inv .5))
 
 same-length-2 : tie.Need-same-length-2 Inv-loop μ-loop
 same-length-2 c = search needs
@@ -167,6 +170,7 @@ returns-2 c =
     let none : a .z .n - l .turns ≡ 0 = omega arith in
     record {
       slots-are = sym (append-nil (take (l .count) (l .slots))) ∙ rw none at (l .inv .0);
+      rest-is = l .inv .5;
       some = omega arith;
       few = omega arith;
     }

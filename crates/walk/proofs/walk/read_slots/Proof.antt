@@ -3,6 +3,7 @@ use Prim.Native.Nat.{_+_, _/_, _<_}
 use native.Mathlib.Omega.{arith}
 use borrow.Author.Needs.{needs}
 use lib.ListN.{length}
+use Rattle.flash.proofs.Loops.{rest-more}
 use Rattle.flash.proofs.Bounds.{block-in-marks}
 use Rattle.method.specs.Cycle.{dest}
 use Rattle.walk.specs.Moving.{sizesOf, moveOf}
@@ -66,6 +67,7 @@ returns c =
     let f = sym (c .before .before .full-of .ensures) ∙ c .before .if1 .taken in
     record {
       slots-are = rw (c .home .ensures) (put-last (a .slots .now) (a .at) _ _ _ (omega arith) refl (read-plain (moveOf (a .z) (a .list .now) (a .sets .now)) (start .pre .0 .given) (a .marks .now) (a .k) _ (begins (c .before .before .before)) f));
+      rest-is = rest-more (a .slots .now) (a .slots .now) (a .at) _ refl;
       some = omega arith;
       few = omega arith;
     }
@@ -109,6 +111,7 @@ returns-2 c =
     let f = sym (c .before .before .full-of2 .ensures) ∙ c .before .if2 .taken in
     record {
       slots-are = rw (c .home2 .ensures) (put-last (a .slots .now) (a .at) _ _ _ (omega arith) refl (read-final (moveOf (a .z) (a .list .now) (a .sets .now)) (start .pre .0 .given) (a .marks .now) (a .k) _ (begins (c .before .before .before .before .before .before)) _ (next (c .before .before .before)) plain f));
+      rest-is = rest-more (a .slots .now) (a .slots .now) (a .at) _ refl;
       some = omega arith;
       few = omega arith;
     }
