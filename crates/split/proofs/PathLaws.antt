@@ -1,19 +1,25 @@
 -- The search for a page of the walk, and what it finds.
-use mathlib.Core.Path.{_≡_, refl, ap, _∙_}
+use mathlib.Core.Path.{_≡_, refl, sym, ap, _∙_}
 use mathlib.Core.Logic.{_≢_, ⊎-elim}
-use mathlib.Core.Bool.{true, false}
+use mathlib.Core.Bool.{Bool, true, false, _&&_}
 use mathlib.Core.List.{List}
 use Prim.Native.Nat.{ℕ, _+_, _-_, _*_, _/_, _%_, _≤_, _<_}
 use native.Mathlib.Nat.{div-add-mod', mod-lt, mul-le-mul}
 use native.Mathlib.Omega.{arith}
+use lib.Dec.{eqb, ltb}
 use lib.ListN.{length, getD}
+use borrow.Author.Tests.{lt-ltb}
+use Rattle.flash.specs.Lists.{range}
+use Rattle.flash.proofs.Searches.{first-none}
+use Rattle.flash.proofs.Ranges.{none-is, first-is}
 use Rattle.flash.proofs.Bools.{never-both}
 use Rattle.flash.proofs.Comparisons.{lt-cases, eq-cases}
 use Rattle.split.specs.Split.{setOf, sourceBlock}
 use Rattle.split.specs.Rule.{End, source, blockAt, isPageOf}
 use Rattle.split.specs.Mask.{bitAt}
 use Rattle.split.specs.Accepted.{Accepted}
-use Rattle.split.specs.Ends.{Masks}
+use Rattle.split.specs.Ends.{endOf, Masks}
+use Rattle.split.specs.Hints.{hintOf, pageOf, soughtPage}
 use Rattle.split.specs.Work.{Found, Sought}
 use Rattle.split.proofs.RuleLaws.{blocks}
 use Rattle.split.proofs.MaskedLaws.{is-page, page-is, alone-bit}
@@ -69,6 +75,32 @@ module _ (m : ℕ) (list sets : List ℕ) (k : ℕ) (end : End) (block set : ℕ
             (λ y l e. let p = page-is m list sets end block set y e in alone y x l h (p .0) v (p .1) c));
       })
       (eq-cases (bitAt (getD masks block 0) set) 1)
+
+-- ---- which page is found
+module _ (m : ℕ) (list sets : List ℕ) (k : ℕ) (end : End) (block set : ℕ) where
+  pub first-found : (page : ℕ) → Clear m list sets end block set page → page < k → isPageOf m list sets end block set page ≡ true → page ≡ pageOf m list sets k end block set
+  unfolding pageOf
+  first-found page C h e = sym (first-is (isPageOf m list sets end block set) 0 k k page (record { low = omega arith; high = omega arith; passes = e; before = λ j _ l. C j l }))
+
+  pub none-found : Clear m list sets end block set k → k ≡ pageOf m list sets k end block set
+  unfolding pageOf
+  none-found C = sym (first-none (isPageOf m list sets end block set) (range 0 k) k (none-is (isPageOf m list sets end block set) 0 k (λ j _ l. C j (omega arith))))
+
+module _ (m : ℕ) (list sets last : List ℕ) (k : ℕ) (from : Bool) (block set mask : ℕ) where
+  abbrev hint : ℕ
+  hint = hintOf last m from block set
+
+  pub by-mask : eqb (bitAt mask set) 1 ≡ false → k ≡ soughtPage m list sets last k from block set mask
+  unfolding soughtPage
+  by-mask e = rw e
+
+  pub by-hint : (page : ℕ) → eqb (bitAt mask set) 1 ≡ true → page ≡ hint → page < k → isPageOf m list sets (endOf from) block set page ≡ true → page ≡ soughtPage m list sets last k from block set mask
+  unfolding soughtPage
+  by-hint page e h l t = rw (e, ← h, lt-ltb page k l, t)
+
+  pub by-search : (page r : ℕ) → eqb (bitAt mask set) 1 ≡ true → page ≡ hint → (ltb page k && isPageOf m list sets (endOf from) block set page) ≡ false → r ≡ pageOf m list sets k (endOf from) block set → r ≡ soughtPage m list sets last k from block set mask
+  unfolding soughtPage
+  by-search page r e h t q = rw (e, ← h, t) q
 
 -- ---- sizes
 module _ (n m : ℕ) (list : List ℕ) (A : Accepted n m list) where

@@ -6,6 +6,7 @@ ghost use lib.ListN.{length, getD};
 ghost use Rattle.split.specs.Rule.{isPageOf};
 ghost use Rattle.flash.specs.Reciprocal.{reciprocal};
 ghost use Rattle.split.specs.Ends.{endOf};
+ghost use Rattle.split.specs.Hints.{pageOf, soughtPage};
 ghost use Rattle.split.specs.Work.{Found, Sought, Working, Blocked, Exchanged};
 use crate::ends::block_by;
 use crate::mask::flip_both;
@@ -46,6 +47,7 @@ fn search(
     requires { ⌜ (1 ≤ m) × (m ≤ 64) × (by ≡ reciprocal m) ⌝ }
     requires { ⌜ (k ≤ length (now list)) × (k ≤ length (now sets)) × (k ≤ 65536) ⌝ }
     ensures { λ r. ⌜ Found m (now (list .entry)) (now (sets .entry)) k (endOf source) block set r ⌝ }
+    ensures { λ r. ⌜ r ≡ pageOf m (now (list .entry)) (now (sets .entry)) k (endOf source) block set ⌝ }
 {
     let mut page = 0;
     while page < k {
@@ -74,6 +76,7 @@ fn find(
     requires { ⌜ (k ≤ length (now list)) × (k ≤ length (now sets)) × (k ≤ 65536) ⌝ }
     requires { ⌜ (1 ≤ block) × (block ≤ 64) × (set < 64) ⌝ }
     ensures { λ r. ⌜ Sought m (now (list .entry)) (now (sets .entry)) k (endOf source) block set mask r ⌝ }
+    ensures { λ r. ⌜ r ≡ soughtPage m (now (list .entry)) (now (sets .entry)) (now (last .entry)) k source block set mask ⌝ }
 {
     if !has(mask, set) {
         return k;

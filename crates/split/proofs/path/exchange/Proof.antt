@@ -64,7 +64,7 @@ loop-holds c =
     let W = start .pre .0 in
     walk-starts _ _ _ _ _ _ _ _ _ (ready _ _ _ _ _ _ _ _ W (omega arith) (start .pre .1 .2)) (W .source-masks) (W .destination-masks)
     (subst (λ (x : ℕ). Sought (a .m) (a .list .now) (a .sets .now) (a .k) destination x (a .a) (getD (a .destinations .now) x 0) (c .find .result))
-    (c .before .before .before .before .block-by .ensures) (c .find .ensures))
+    (c .before .before .before .before .block-by .ensures) (c .find .ensures .0))
 
 at-end-requires : tie.Need-at-end-requires Inv-loop μ-loop
 at-end-requires c κs = search needs
@@ -181,7 +181,7 @@ loop-again c =
     let l = i .before .loop in
     walk-more _ _ _ _ _ _ _ _ _ _ _ (l .inv) (i .loop-test .taken) (t .at-end .result) (t .at-end .ensures) (f .find2 .result)
     (e .at-end2 .result) (f .before .before .before .mask-at .result) (S .flip-both .last .0) (c .flip-both2 .last .0) (block-is e)
-    (f .before .before .before .mask-at .ensures) (f .find2 .ensures)
+    (f .before .before .before .mask-at .ensures) (f .find2 .ensures .0)
     (subst (λ (at : ℕ). FlippedBoth (l .sources) at (start .args .a) (start .args .b) (S .flip-both .last .0))
     (e .before .before .block-by2 .ensures) (S .flip-both .ensures))
     (subst (λ (at : ℕ). FlippedBoth (l .destinations) at (start .args .a) (start .args .b) (c .flip-both2 .last .0))

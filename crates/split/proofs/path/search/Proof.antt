@@ -4,7 +4,7 @@ use native.Mathlib.Nat.{not-suc-le-zero}
 use native.Mathlib.Omega.{arith}
 use borrow.Author.Needs.{needs}
 use Rattle.split.specs.Ends.{endOf}
-use Rattle.split.proofs.PathLaws.{Clear, clear-more, found-page, found-none}
+use Rattle.split.proofs.PathLaws.{Clear, clear-more, found-page, found-none, first-found, none-found}
 use Rattle.split.proofs.path.search.Statement.{statement}
 use Rattle.split.proofs.path.search.Tie as tie
 
@@ -23,7 +23,8 @@ is-page-requires c κs = search needs
 returns : tie.Need-returns Inv-loop μ-loop
 returns c =
     let i = c .before .before in
-    found-page _ _ _ _ _ _ _ _ (i .loop-test .taken) (sym (c .before .is-page .ensures) ∙ c .if1 .taken)
+    let hit = sym (c .before .is-page .ensures) ∙ c .if1 .taken in
+    (found-page _ _ _ _ _ _ _ _ (i .loop-test .taken) hit, first-found _ _ _ _ _ _ _ _ (i .before .loop .inv .1) (i .loop-test .taken) hit)
 
 add-page : tie.Need-add-page Inv-loop μ-loop
 add-page c = search needs
@@ -39,7 +40,9 @@ loop-again c =
 returns-2 : tie.Need-returns-2 Inv-loop μ-loop
 returns-2 c =
     let l = c .before .loop in
-    found-none _ _ _ _ _ _ _ (λ x h. l .inv .1 x (omega (arith, c .loop-test .left)))
+    let a = c .before .before .before .before .args in
+    let clear : Clear (a .m) (a .list .now) (a .sets .now) (endOf (a .source)) (a .block) (a .set) (a .k) = λ x h. l .inv .1 x (omega (arith, c .loop-test .left)) in
+    (found-none _ _ _ _ _ _ _ clear, none-found _ _ _ _ _ _ _ clear)
 
 pub search-spec : {M : Type 1} → statement M
 search-spec =
