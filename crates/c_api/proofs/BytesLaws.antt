@@ -11,7 +11,8 @@ use lib.Dec.{ltb}
 use lib.ListN.{length, getD, take, drop, set}
 use lib.Seq.{take-suc, take-all, take-at, length-take-le}
 use borrow.Author.Tests.{eqb-false, ltb-true, ltb-false}
-use Rattle.flash.specs.Geometry.{Sizes, inRange, originalCount}
+use Rattle.flash.specs.declared.sizes.Sizes.{Sizes}
+use Rattle.flash.specs.Geometry.{inRange, originalCount}
 use Rattle.flash.proofs.Bools.{bool-cases, or-false-left, or-false-right}
 use Rattle.flash.proofs.Bounds.{in-range}
 use Rattle.flash.proofs.Loops.{over-more}

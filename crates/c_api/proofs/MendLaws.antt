@@ -1,14 +1,10 @@
 -- What mend returns is small.
-use mathlib.Core.List.{List}
-use Prim.Native.Nat.{ℕ, _≤_}
-use native.Mathlib.Omega.{arith}
-use Rattle.flash.specs.Geometry.{Sizes}
+use mathlib.Core.Path.{_≡_}
+use Prim.Native.Nat.{_≤_}
+use Rattle.flash.specs.declared.sizes.Sizes.{Sizes}
 use Rattle.flash.specs.Chip.{Chip}
-use Rattle.method.proofs.AnswerBounds.{mend-small}
-use Rattle.recovery.specs.MendIs.{MendIs}
-use Rattle.recovery.specs.declared.mend.Mended.{Mended}
+use Rattle.method.specs.Answers.{MendAnswer, mendAnswer}
+use Rattle.method.proofs.refusals.AnswerBounds.{mend-small}
 
-pub small : {Z : Sizes} {chip : Chip} {r : Mended} {store marks : List ℕ} → MendIs Z chip r store marks → (r .number ≤ 6) × (r .place ≤ 8384) × (r .erases ≤ 1)
-small {Z} {chip} I =
-    let S = mend-small Z chip in
-    (omega (arith, I .number-is, S .number), omega (arith, I .place-is, S .place), omega (arith, I .erases-is, S .erases))
+pub small : (Z : Sizes) (chip : Chip) (answer : MendAnswer) → answer ≡ mendAnswer Z chip → (answer .number ≤ 6) × (answer .place ≤ 8384) × (answer .erases ≤ 1)
+small Z chip answer e = rw e (let S = mend-small Z chip in (S .number, S .place, S .erases))

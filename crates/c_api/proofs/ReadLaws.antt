@@ -1,17 +1,16 @@
 -- What the exported read answers is what the call answers for the entries decoded.
-use mathlib.Core.Path.{_≡_, ap, _∙_, subst}
+use mathlib.Core.Path.{_≡_, ap, _∙_}
 use mathlib.Core.Bool.{cond}
 use mathlib.Core.List.{List}
 use Prim.Native.Nat.{ℕ}
-use Rattle.flash.specs.Geometry.{Sizes, inRange}
+use Rattle.flash.specs.declared.sizes.Sizes.{Sizes}
+use Rattle.flash.specs.Geometry.{inRange}
 use Rattle.flash.specs.Chip.{Chip}
 use Rattle.method.specs.Move.{Move}
 use Rattle.method.specs.Answers.{ReadAnswer, readAnswer}
-use Rattle.method.proofs.ListRefusals.{read-refuses-list}
-use Rattle.mover.specs.declared.read.Rebuilt.{Rebuilt}
-use Rattle.mover.specs.Answers.{ReadIs}
+use Rattle.method.proofs.refusals.ListRefusals.{read-refuses-list}
 use Rattle.c_api.specs.Bytes.{entriesWithin}
-use Rattle.c_api.specs.ReadExport.{readOfBytes, ReadExported}
+use Rattle.c_api.specs.ReadExport.{readOfBytes}
 use Rattle.c_api.proofs.BytesLaws.{answer-within}
 
 module _ (Z : Sizes) (list sets : List ℕ) (chip : Chip) (work : List ℕ) (original : ℕ) where
@@ -24,9 +23,6 @@ module _ (Z : Sizes) (list sets : List ℕ) (chip : Chip) (work : List ℕ) (ori
       answer-within Z (λ entries. readAnswer (move entries) chip work original) (record { number = cond (inRange Z) 2 1; count = 0; work = work })
       (λ entries other. read-refuses-list (move entries) chip work other original) list
 
-  pub exported : (entries after : List ℕ) (r : Rebuilt) → entries ≡ entriesWithin 4096 list → ReadIs (readAnswer (move entries) chip work original) r after
-      → ReadExported (readOfBytes Z list sets chip work original) (r .number) after (r .count)
-  exported entries after r e answers =
-      let answer = ap (λ (list : List ℕ). readAnswer (move list) chip work original) e ∙ decoded in
-      let A = subst (λ (answer : ReadAnswer). ReadIs answer r after) answer answers in
-      record { number-is = A .number-is; work-is = A .work-is; count-is = A .count-is }
+  pub exported : (entries : List ℕ) (answer : ReadAnswer) → entries ≡ entriesWithin 4096 list → answer ≡ readAnswer (move entries) chip work original
+      → answer ≡ readOfBytes Z list sets chip work original
+  exported entries answer e A = A ∙ ap (λ (list : List ℕ). readAnswer (move list) chip work original) e ∙ decoded

@@ -5,12 +5,13 @@ use mathlib.Core.Bool.{true, false, cond}
 use mathlib.Core.List.{List}
 use Prim.Native.Nat.{ℕ}
 use lib.ListN.{length}
-use Rattle.flash.specs.Geometry.{Sizes, inRange, originalCount}
+use Rattle.flash.specs.declared.sizes.Sizes.{Sizes}
+use Rattle.flash.specs.Geometry.{inRange, originalCount}
 use Rattle.flash.proofs.Bools.{bool-cases}
-use Rattle.split.specs.Answer.{SplitAnswer, splitAnswer, SplitAnswered}
+use Rattle.split.specs.Answer.{SplitAnswer, splitAnswer}
 use Rattle.split.proofs.Answers.{gives-1, gives-2-list}
 use Rattle.c_api.specs.Bytes.{entriesWithin}
-use Rattle.c_api.specs.SplitExport.{splitOfBytes, SplitExported}
+use Rattle.c_api.specs.SplitExport.{splitOfBytes}
 use Rattle.c_api.proofs.BytesLaws.{answer-within}
 
 module _ (Z : Sizes) (list sets : List ℕ) where
@@ -28,11 +29,6 @@ module _ (Z : Sizes) (list sets : List ℕ) where
   decoded =
       answer-within Z (λ entries. splitAnswer Z entries sets) (record { number = cond (inRange Z) 2 1; sets = sets }) split-refuses-list list
 
-  pub exported : (entries after : List ℕ) (number : ℕ) → entries ≡ entriesWithin 4096 list → SplitAnswered Z entries sets number after
-      → SplitExported Z list sets number after
-  exported entries after number e A =
-      let answer = ap (λ (list : List ℕ). splitAnswer Z list sets) e ∙ decoded in
-      record {
-        number-is = A .number-is ∙ ap (λ (x : SplitAnswer). x .number) answer;
-        sets-is = A .sets-are ∙ ap (λ (x : SplitAnswer). x .sets) answer;
-      }
+  pub exported : (entries : List ℕ) (answer : SplitAnswer) → entries ≡ entriesWithin 4096 list → answer ≡ splitAnswer Z entries sets
+      → answer ≡ splitOfBytes Z list sets
+  exported entries answer e A = A ∙ ap (λ (list : List ℕ). splitAnswer Z list sets) e ∙ decoded

@@ -1,9 +1,9 @@
 -- What the exported read promises: every number and the work page are those of the call on the decoded list.
-use mathlib.Core.Path.{_≡_}
 use mathlib.Core.Bool.{cond}
 use mathlib.Core.List.{List}
 use Prim.Native.Nat.{ℕ}
-use Rattle.flash.specs.Geometry.{Sizes, inRange}
+use Rattle.flash.specs.declared.sizes.Sizes.{Sizes}
+use Rattle.flash.specs.Geometry.{inRange}
 use Rattle.flash.specs.Chip.{Chip}
 use Rattle.method.specs.Answers.{ReadAnswer, readAnswer}
 use Rattle.c_api.specs.Bytes.{entriesOf, isOdd}
@@ -12,8 +12,3 @@ unfoldable pub readOfBytes : Sizes → (list sets : List ℕ) → Chip → (work
 readOfBytes Z list sets chip work original =
     cond (isOdd list) (record { number = cond (inRange Z) 2 1; count = 0; work = work })
     (readAnswer (record { sizes = Z; list = entriesOf list; sets = sets }) chip work original)
-
-pub record ReadExported (answer : ReadAnswer) (number : ℕ) (work : List ℕ) (count : ℕ) : Type 0 where
-  pub number-is : number ≡ answer .number
-  pub work-is : work ≡ answer .work
-  pub count-is : count ≡ answer .count

@@ -1,7 +1,7 @@
 // The calls as C sees them: numbers of 32 bits, lent parts as pointer and length, the list as two bytes an entry.
 mod list;
-pub mod mending;
+pub mod mend;
 pub mod operation;
-pub mod reading;
-pub mod running;
-pub mod splitting;
+pub mod read;
+pub mod run;
+pub mod split_call;

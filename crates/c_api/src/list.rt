@@ -14,7 +14,8 @@ fn entry(low: u8, high: u8) -> u16
 
 // Decodes a list and returns how many entries it has: none where the bytes are no list or there is no room for it.
 pub fn decode(bytes: &[u8], list: &mut [u16]) -> usize
-    ensures { λ r. ⌜ (r ≡ length (entriesWithin (length (now (list .entry))) (now (bytes .entry)))) × (now (list .exit) ≡ decodedInto (now (list .entry)) (now (bytes .entry))) ⌝ }
+    ensures { λ r. ⌜ (r ≡ length (entriesWithin (length (now (list .entry))) (now (bytes .entry))))
+        × (now (list .exit) ≡ decodedInto (now (list .entry)) (now (bytes .entry))) ⌝ }
 {
     let count = bytes.len() / 2;
     if (bytes.len() % 2 == 1) | (list.len() < count) {

@@ -2,6 +2,7 @@
 
 ghost use mathlib.Core.Path.{_≡_};
 ghost use Rattle.places.specs.Operation.{operationAnswer};
+use flash::sizes::Sizes;
 use places::operation::operation;
 
 #[no_mangle]
@@ -15,9 +16,19 @@ pub extern "C" fn mover_operation(
     page: &mut u32,
     mark: &mut u32,
 ) -> u32
-    ensures { λ r. ⌜ record { number = r; kind = now (kind .exit); block = now (block .exit); page = now (page .exit); mark = now (mark .exit) } ≡ operationAnswer (record { n = n; m = m; P = 1; s = s }) place ⌝ }
+    ensures { λ r. ⌜ record { number = r; kind = now (kind .exit); block = now (block .exit); page = now (page .exit); mark = now (mark .exit) }
+        ≡ operationAnswer (record { n = n; m = m; p = 1; s = s }) place ⌝ }
 {
-    let told = operation(n as usize, m as usize, s as usize, place as usize);
+    // a page size in range, since no step depends on it
+    let told = operation(
+        Sizes {
+            n: n as usize,
+            m: m as usize,
+            p: 1,
+            s: s as usize,
+        },
+        place as usize,
+    );
     *kind = told.kind;
     *block = told.block;
     *page = told.page;

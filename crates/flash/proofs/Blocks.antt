@@ -9,12 +9,12 @@ use native.Mathlib.Omega.{arith}
 use lib.Dec.{eqb}
 use lib.ListN.{length, getD}
 use borrow.Author.Tests.{eqb-true, eq-eqb, ne-eqb}
-use Rattle.flash.specs.Lists.{range, all, part}
+use Rattle.flash.specs.Lists.{all, part}
 use Rattle.flash.specs.Geometry.{slot}
-use Rattle.flash.specs.Chip.{erased, markAt, isFull, isUnfinished, letterOf, noLetter}
+use Rattle.flash.specs.Chip.{erased, markAt, isFull, isUnfinished}
 use Rattle.flash.proofs.Bools.{never-both, fails, bool-eq}
-use Rattle.flash.proofs.Searches.{all-at, all-of, first-none}
-use Rattle.flash.proofs.Ranges.{all-in, all-is, all-not, none-is, first-is}
+use Rattle.flash.proofs.Searches.{all-at, all-of}
+use Rattle.flash.proofs.Ranges.{all-in, all-is, all-not}
 use Rattle.flash.proofs.Parts.{length-part, part-at}
 
 -- what a list has at an index within it does not depend on the default
@@ -55,10 +55,6 @@ module _ (m : ℕ) (marks : List ℕ) (block : ℕ) where
   not-full letter page h ne = all-not (marked letter) 0 m page (omega arith) (omega arith) (ne-eqb _ _ ne)
 
   -- full of one letter, and of no other
-  pub full-other : (letter other : ℕ) → 0 < m → isFull m marks block letter ≡ true → letter ≢ other
-      → isFull m marks block other ≡ false
-  full-other letter other h e ne = not-full other 0 h (λ q. ne (sym (full-at letter 0 e h) ∙ q))
-
   pub full-same : (letter other : ℕ) → 0 < m → isFull m marks block letter ≡ true → isFull m marks block other ≡ true
       → letter ≡ other
   full-same letter other h e f = sym (full-at letter 0 e h) ∙ full-at other 0 f h
@@ -81,25 +77,6 @@ module _ (m : ℕ) (marks : List ℕ) (block : ℕ) where
   unfolding isUnfinished
   unfinished-of f = rw (f 0 (omega arith), f 1 (omega arith), f 2 (omega arith))
 
-  -- the letter that fills a block
-  pub letter-is : (letter : ℕ) → 0 < m → letter < 3 → isFull m marks block letter ≡ true
-      → letterOf m marks block ≡ letter
-  unfolding letterOf
-  letter-is letter h l e =
-      first-is (isFull m marks block) 0 3 noLetter letter
-      (record {
-        low = omega arith;
-        high = omega arith;
-        passes = e;
-        before = λ other a b. full-other letter other h e (omega arith);
-      })
-
-  pub letter-none : isUnfinished m marks block ≡ true → letterOf m marks block ≡ noLetter
-  unfolding letterOf
-  letter-none u =
-      first-none (isFull m marks block) (range 0 3) noLetter
-      (none-is (isFull m marks block) 0 3 (λ letter a b. unfinished-at letter (omega arith) u))
-
   -- no other letter than its first mark can fill a block
   pub unfinished-first : (mark : ℕ) → 0 < m → markAt marks (slot m block 0) ≡ mark
       → (mark < 3 → isFull m marks block mark ≡ false) → isUnfinished m marks block ≡ true
@@ -108,11 +85,6 @@ module _ (m : ℕ) (marks : List ℕ) (block : ℕ) where
       (λ letter l. fails (λ e.
       let same : mark ≡ letter = sym at ∙ full-at letter 0 e h in
       never-both e (rw same at (f (rw same l)))))
-
-  pub first-not-full : 0 < m → block * m + m ≤ length marks
-      → (getD marks (block * m) 0 < 3 → isFull m marks block (getD marks (block * m) 0) ≡ false)
-      → letterOf m marks block ≡ noLetter
-  first-not-full h fits f = letter-none (unfinished-first (getD marks (block * m) 0) h (first-mark m marks block h fits) f)
 
   -- the test over the block's part of the marks
   pub full-part : (letter : ℕ) → block * m + m ≤ length marks

@@ -7,7 +7,8 @@ use native.Mathlib.Omega.{arith}
 use lib.Arith.{digits-lt}
 use lib.Dec.{leb, ltb}
 use borrow.Author.Tests.{leb-true, ltb-true, le-leb, lt-ltb}
-use Rattle.flash.specs.Geometry.{Sizes, isLetter, inRange, slot, slotCount, storeLength}
+use Rattle.flash.specs.declared.sizes.Sizes.{Sizes}
+use Rattle.flash.specs.Geometry.{isLetter, inRange, slot, slotCount, storeLength}
 use Rattle.flash.proofs.Bools.{and-left, and-right}
 use Rattle.flash.proofs.Parts.{part-fits}
 
@@ -16,8 +17,8 @@ pub record Bounds (Z : Sizes) : Type 0 where
   pub n-high : Z .n ≤ 64
   pub m-low : 1 ≤ Z .m
   pub m-high : Z .m ≤ 64
-  pub P-low : 1 ≤ Z .P
-  pub P-high : Z .P ≤ 4096
+  pub p-low : 1 ≤ Z .p
+  pub p-high : Z .p ≤ 4096
   pub s-high : Z .s < 3
 
 pub in-range : (Z : Sizes) → inRange Z ≡ true → Bounds Z
@@ -27,11 +28,11 @@ in-range Z e =
     let t2 : Bool = t1 && leb (Z .n) 64 in
     let t3 : Bool = t2 && leb 1 (Z .m) in
     let t4 : Bool = t3 && leb (Z .m) 64 in
-    let t5 : Bool = t4 && leb 1 (Z .P) in
-    let t6 : Bool = t5 && leb (Z .P) 4096 in
+    let t5 : Bool = t4 && leb 1 (Z .p) in
+    let t6 : Bool = t5 && leb (Z .p) 4096 in
     let e6 : t6 ≡ true = and-left t6 (ltb (Z .s) 3) e in
-    let e5 : t5 ≡ true = and-left t5 (leb (Z .P) 4096) e6 in
-    let e4 : t4 ≡ true = and-left t4 (leb 1 (Z .P)) e5 in
+    let e5 : t5 ≡ true = and-left t5 (leb (Z .p) 4096) e6 in
+    let e4 : t4 ≡ true = and-left t4 (leb 1 (Z .p)) e5 in
     let e3 : t3 ≡ true = and-left t3 (leb (Z .m) 64) e4 in
     let e2 : t2 ≡ true = and-left t2 (leb 1 (Z .m)) e3 in
     record {
@@ -39,8 +40,8 @@ in-range Z e =
       n-high = leb-true (Z .n) 64 (and-right t1 (leb (Z .n) 64) e2);
       m-low = leb-true 1 (Z .m) (and-right t2 (leb 1 (Z .m)) e3);
       m-high = leb-true (Z .m) 64 (and-right t3 (leb (Z .m) 64) e4);
-      P-low = leb-true 1 (Z .P) (and-right t4 (leb 1 (Z .P)) e5);
-      P-high = leb-true (Z .P) 4096 (and-right t5 (leb (Z .P) 4096) e6);
+      p-low = leb-true 1 (Z .p) (and-right t4 (leb 1 (Z .p)) e5);
+      p-high = leb-true (Z .p) 4096 (and-right t5 (leb (Z .p) 4096) e6);
       s-high = ltb-true (Z .s) 3 (and-right t6 (ltb (Z .s) 3) e);
     }
 
@@ -52,8 +53,8 @@ range-in Z B =
       le-leb _ _ (B .n-high),
       le-leb _ _ (B .m-low),
       le-leb _ _ (B .m-high),
-      le-leb _ _ (B .P-low),
-      le-leb _ _ (B .P-high),
+      le-leb _ _ (B .p-low),
+      le-leb _ _ (B .p-high),
     )
     (lt-ltb _ _ (B .s-high))
 
@@ -62,7 +63,7 @@ pub product-le : (a b : ℕ) {c d : ℕ} → a ≤ c → b ≤ d → a * b ≤ c
 product-le a b h k = mul-le-mul h k
 
 module _ (Z : Sizes) where
-  open Sizes Z using (n, m, P)
+  open Sizes Z using (n, m, p as P)
 
   pub block-in-marks : (block : ℕ) → block ≤ n → block * m + m ≤ slotCount Z
   block-in-marks block h = part-fits block (n + 1) m (omega arith)

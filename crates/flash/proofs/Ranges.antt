@@ -208,3 +208,9 @@ one-counted test start (suc size) k O =
       others = λ j a b p. O .others j (omega arith) (omega arith) p;
     })))
     (bool-cases (test start))
+
+-- one block more that is not full
+pub none-full : (test : ℕ → Bool) (block : ℕ) → any test (range 0 block) ≡ false → test block ≡ false → any test (range 0 (block + 1)) ≡ false
+none-full test block none this =
+    let at : 0 + block ≡ block = omega arith in
+    any-more test 0 block ∙ rw (none, at, this)

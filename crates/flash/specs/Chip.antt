@@ -5,7 +5,7 @@ use mathlib.Core.List.{List}
 use Prim.Native.Nat.{ℕ, _*_}
 use lib.Dec.{eqb}
 use lib.ListN.{getD, set, replicate}
-use Rattle.flash.specs.Lists.{range, all, first, part, setPart}
+use Rattle.flash.specs.Lists.{range, all, part, setPart}
 use Rattle.flash.specs.Geometry.{isLetter, slot}
 
 -- "The store is .. bytes in slot order. The marks are .. bytes, one a slot, kept in the chip's spare area."
@@ -43,13 +43,6 @@ isFull m marks block letter = all (λ page. eqb (markAt marks (slot m block page
 -- "otherwise it is unfinished."
 unfoldable pub isUnfinished : (m : ℕ) → List ℕ → (block : ℕ) → Bool
 isUnfinished m marks block = not (isFull m marks block 0 || isFull m marks block 1 || isFull m marks block 2)
-
--- The letter that fills a block, or 3, which is no letter, of an unfinished block.
-abbrev pub noLetter : ℕ
-noLetter = 3
-
-unfoldable pub letterOf : (m : ℕ) → List ℕ → (block : ℕ) → ℕ
-letterOf m marks block = first (isFull m marks block) (range 0 3) noLetter
 
 -- "An erase makes all pages of a block blank. An erase touches one block and nothing beside it."
 unfoldable pub eraseBlock : (m P block : ℕ) → Chip → Chip

@@ -2,25 +2,19 @@
 use mathlib.Core.Bool.{Bool, _&&_}
 use Prim.Native.Nat.{ℕ, _+_, _-_, _*_, _/_, _%_}
 use lib.Dec.{leb, ltb}
-
--- What each call is given besides the lent parts.
-pub record Sizes : Type 0 where
-  -- "n data blocks, 1 to 64, numbered 1 to n. Block 0 is the spare."
-  pub n : ℕ
-  -- "Each has m pages, 1 to 64,"
-  pub m : ℕ
-  -- "of P bytes, 1 to 4,096."
-  pub P : ℕ
-  -- "a start letter s": the letter that marks the data blocks before the move
-  pub s : ℕ
+use Rattle.flash.specs.declared.sizes.Sizes.{Sizes}
 
 -- "A mark is 0, 1 or 2, a letter": a letter is a phase tag, the pass of the move in which a page was written.
 unfoldable pub isLetter : ℕ → Bool
 isLetter mark = ltb mark 3
 
+-- "letters mod 3": the letter that comes i after s
+unfoldable pub letter : Sizes → (i : ℕ) → ℕ
+letter Z i = (Z .s + i) % 3
+
 unfoldable pub inRange : Sizes → Bool
 inRange Z =
-    leb 1 (Z .n) && leb (Z .n) 64 && leb 1 (Z .m) && leb (Z .m) 64 && leb 1 (Z .P) && leb (Z .P) 4096 && isLetter (Z .s)
+    leb 1 (Z .n) && leb (Z .n) 64 && leb 1 (Z .m) && leb (Z .m) 64 && leb 1 (Z .p) && leb (Z .p) 4096 && isLetter (Z .s)
 
 -- "A slot is block × m + page (page 0 to m − 1)."
 abbrev pub slot : (m block page : ℕ) → ℕ
@@ -48,7 +42,7 @@ slotCount Z = (Z .n + 1) * Z .m
 
 -- "The store is (n + 1) × m × P bytes in slot order."
 abbrev pub storeLength : Sizes → ℕ
-storeLength Z = slotCount Z * Z .P
+storeLength Z = slotCount Z * Z .p
 
 -- "The marks are (n + 1) × m bytes, one a slot"
 abbrev pub marksLength : Sizes → ℕ
@@ -64,4 +58,4 @@ setsLength Z = originalCount Z
 
 -- "a work page of P bytes"
 abbrev pub workLength : Sizes → ℕ
-workLength Z = Z .P
+workLength Z = Z .p

@@ -3,5 +3,5 @@ pub mod Tables
 pub mod Geometry
 pub mod PageSum
 pub mod Chip
-pub mod Reciprocal
 pub mod Claims
+pub mod inner

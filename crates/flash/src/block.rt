@@ -1,15 +1,12 @@
 // A block: its pages in the store and its marks.
 
 ghost use mathlib.Core.Path.{_≡_};
-ghost use Prim.Native.Nat.{_+_, _*_, _≤_, _<_};
+ghost use Prim.Native.Nat.{_+_, _*_, _≤_};
 ghost use lib.ListN.{length};
-ghost use Rattle.flash.specs.Chip.{Holds, isFull, letterOf, eraseBlock};
+ghost use Rattle.flash.specs.Chip.{Holds, isFull, eraseBlock};
 use crate::ERASED;
 use crate::part::fill;
 use crate::part::is_filled;
-
-// What `block_letter` answers of an unfinished block.
-pub const NO_LETTER: u8 = 3;
 
 // All pages of the block become blank. Its parts of the store and of the marks are lent on, so nothing beside it can change.
 pub fn erase_block(store: &mut [u8], marks: &mut [u8], m: usize, p: usize, block: usize)
@@ -35,19 +32,4 @@ pub fn is_full(marks: &[u8], m: usize, block: usize, letter: u8) -> bool
     let start = block * m;
     let end = start + m;
     is_filled(&marks[start..end], letter)
-}
-
-// The letter that the block is full of, or NO_LETTER. No other letter than its first mark can fill it.
-pub fn block_letter(marks: &[u8], m: usize, block: usize) -> u8
-    requires { ⌜ 0 < m ⌝ }
-    requires { ⌜ block * m + m ≤ length (now marks) ⌝ }
-    ensures { λ r. ⌜ r ≡ letterOf m (now (marks .entry)) block ⌝ }
-{
-    let letter = marks[block * m];
-    if letter < NO_LETTER {
-        if is_full(marks, m, block, letter) {
-            return letter;
-        }
-    }
-    NO_LETTER
 }

@@ -11,6 +11,9 @@ pub mod wide;
 // A byte or a mark that is not written.
 pub const ERASED: u8 = 255;
 
+// The letters are the marks below this.
+pub const LETTERS: u8 = 3;
+
 ghost use Rattle.flash.specs.Claims.{WholeByLetter};
 
 // Nothing to run: the contract demands the proof.

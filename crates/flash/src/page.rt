@@ -22,7 +22,8 @@ pub fn read_pages(
 )
     requires { ⌜ (one * p + p ≤ length (now store)) × (other * p + p ≤ length (now store)) ⌝ }
     requires { ⌜ length (now work) ≡ p ⌝ }
-    ensures { λ _. ⌜ now (work .exit) ≡ putOrAdd add (now (work .entry)) (oneOrBoth both (part p one (now (store .entry))) (part p other (now (store .entry)))) ⌝ }
+    ensures { λ _. ⌜ now (work .exit) ≡ putOrAdd add (now (work .entry))
+        (oneOrBoth both (part p one (now (store .entry))) (part p other (now (store .entry)))) ⌝ }
 {
     let first = one * p;
     let first_end = first + p;

@@ -2,7 +2,7 @@
 // for each page.
 ghost use mathlib.Core.Path.{_≡_};
 ghost use Prim.Native.Nat.{_/_, _≤_, _<_};
-ghost use Rattle.flash.specs.Reciprocal.{reciprocal};
+ghost use Rattle.flash.specs.inner.Reciprocal.{reciprocal};
 
 // The number `by` for m pages a block.
 pub fn reciprocal(m: usize) -> usize

@@ -1,36 +1,56 @@
 // The sizes of a move, and how long each lent part is.
 
 ghost use mathlib.Core.Path.{_≡_};
-ghost use Prim.Native.Nat.{_≤_};
-ghost use Rattle.flash.specs.Geometry.{inRange, originalCount, slotCount, storeLength};
+ghost use Prim.Native.Nat.{_≤_, _<_};
+ghost use Rattle.flash.specs.Geometry.{letter, inRange, originalCount, slotCount, storeLength};
 
-// Whether n, m, P and s are in their ranges. Nothing is multiplied before they are.
-pub fn in_range(n: usize, m: usize, p: usize, s: usize) -> bool
-    ensures { λ r. ⌜ r ≡ inRange (record { n = n; m = m; P = p; s = s }) ⌝ }
-{
-    (1 <= n) & (n <= 64) & (1 <= m) & (m <= 64) & (1 <= p) & (p <= 4096) & (s < 3)
+// What each call is given besides the lent parts. The definitions use this struct as it is.
+pub struct Sizes {
+    // Data blocks, 1 to 64, numbered 1 to n. Block 0 is the spare.
+    pub n: usize,
+    // Pages of a block, 1 to 64.
+    pub m: usize,
+    // Bytes of a page, 1 to 4,096.
+    pub p: usize,
+    // The start letter, 0 to 2: the mark of the data blocks before the move.
+    pub s: usize,
 }
 
-// How many originals there are, which is the length of the list and of the set bytes. P and s do not enter, as below.
-pub fn original_count(n: usize, m: usize) -> usize
-    requires { ⌜ (n ≤ 64) × (m ≤ 64) ⌝ }
-    ensures { λ r. ⌜ r ≡ originalCount (record { n = n; m = m; P = 0; s = 0 }) ⌝ }
+// Whether the sizes are in their ranges. Nothing is multiplied before they are.
+pub fn in_range(z: Sizes) -> bool
+    ensures { λ r. ⌜ r ≡ inRange z ⌝ }
 {
-    n * m
+    (1 <= z.n) & (z.n <= 64) & (1 <= z.m) & (z.m <= 64) & (1 <= z.p) & (z.p <= 4096) & (z.s < 3)
+}
+
+// How many originals there are, which is the length of the list and of the set bytes.
+pub fn original_count(z: Sizes) -> usize
+    requires { ⌜ (z .n ≤ 64) × (z .m ≤ 64) ⌝ }
+    ensures { λ r. ⌜ r ≡ originalCount z ⌝ }
+{
+    z.n * z.m
 }
 
 // How many slots there are, which is the length of the marks.
-pub fn slot_count(n: usize, m: usize) -> usize
-    requires { ⌜ (n ≤ 64) × (m ≤ 64) ⌝ }
-    ensures { λ r. ⌜ r ≡ slotCount (record { n = n; m = m; P = 0; s = 0 }) ⌝ }
+pub fn slot_count(z: Sizes) -> usize
+    requires { ⌜ (z .n ≤ 64) × (z .m ≤ 64) ⌝ }
+    ensures { λ r. ⌜ r ≡ slotCount z ⌝ }
 {
-    (n + 1) * m
+    (z.n + 1) * z.m
 }
 
 // The length of the store.
-pub fn store_length(n: usize, m: usize, p: usize) -> usize
-    requires { ⌜ (n ≤ 64) × (m ≤ 64) × (p ≤ 4096) ⌝ }
-    ensures { λ r. ⌜ r ≡ storeLength (record { n = n; m = m; P = p; s = 0 }) ⌝ }
+pub fn store_length(z: Sizes) -> usize
+    requires { ⌜ (z .n ≤ 64) × (z .m ≤ 64) × (z .p ≤ 4096) ⌝ }
+    ensures { λ r. ⌜ r ≡ storeLength z ⌝ }
 {
-    slot_count(n, m) * p
+    slot_count(z) * z.p
+}
+
+// The letter that comes `i` after the start letter.
+pub fn letter_after(z: Sizes, i: usize) -> u8
+    requires { ⌜ (z .s < 3) × (i < 3) ⌝ }
+    ensures { λ r. ⌜ r ≡ letter z i ⌝ }
+{
+    ((z.s + i) % 3) as u8
 }

@@ -11,46 +11,47 @@ use lib.ListN.{length, take, drop, set, length-drop, length-append, take-append-
 use lib.Seq.{length-take-le, drop-append-le, drop-length, take-at, set-split}
 use borrow.Author.Tests.{leb-true, ltb-true, le-leb, lt-leb}
 use Rattle.flash.specs.Lists.{all}
+use Rattle.flash.specs.declared.sizes.Sizes.{Sizes}
 use Rattle.flash.specs.Geometry.{isLetter}
 use Rattle.flash.proofs.Bools.{and-left, and-right}
 use Rattle.listing.specs.declared.request.SizesRead.the-variants.{Sizes as SizesAre, Unreadable as NoSizes}
 use Rattle.listing.specs.Numbers.{numbersIn, Taken, taken, numbersMet}
 use Rattle.listing.specs.Request.{unreadable, refused, isAllowed, exactly, requested, afterSizes, reading, metAfter, numbersPut, withinLimit}
-use Rattle.listing.specs.Found.{sizesAs, requestIn}
+use Rattle.listing.specs.inner.Found.{sizesAs, requestIn}
 use Rattle.listing.specs.Area.{over}
 use Rattle.listing.proofs.TakeLaws.{met-short}
 
 -- the program's limits
-pub record Bounded (n m P s : ℕ) : Type 0 where
-  pub some-blocks : 1 ≤ n
-  pub few-blocks : n ≤ 8
-  pub some-pages : 1 ≤ m
-  pub few-pages : m ≤ 8
-  pub some-bytes : 1 ≤ P
-  pub short-pages : P ≤ 64
-  pub letter : s < 3
+pub record Bounded (Z : Sizes) : Type 0 where
+  pub some-blocks : 1 ≤ Z .n
+  pub few-blocks : Z .n ≤ 8
+  pub some-pages : 1 ≤ Z .m
+  pub few-pages : Z .m ≤ 8
+  pub some-bytes : 1 ≤ Z .p
+  pub short-pages : Z .p ≤ 64
+  pub letter : Z .s < 3
 
-pub bounded : (n m P s : ℕ) → isAllowed (record { n = n; m = m; P = P; s = s }) ≡ true → Bounded n m P s
+pub bounded : (Z : Sizes) → isAllowed Z ≡ true → Bounded Z
 unfolding isAllowed isLetter
-bounded n m P s e =
-    let one : Bool = leb 1 n in
-    let two : Bool = one && leb n 8 in
-    let three : Bool = two && leb 1 m in
-    let four : Bool = three && leb m 8 in
-    let five : Bool = four && leb 1 P in
-    let f = and-left (five && leb P 64) (ltb s 3) e in
-    let g = and-left five (leb P 64) f in
-    let q = and-left four (leb 1 P) g in
-    let h = and-left three (leb m 8) q in
-    let t = and-left two (leb 1 m) h in
+bounded Z e =
+    let one : Bool = leb 1 (Z .n) in
+    let two : Bool = one && leb (Z .n) 8 in
+    let three : Bool = two && leb 1 (Z .m) in
+    let four : Bool = three && leb (Z .m) 8 in
+    let five : Bool = four && leb 1 (Z .p) in
+    let f = and-left (five && leb (Z .p) 64) (ltb (Z .s) 3) e in
+    let g = and-left five (leb (Z .p) 64) f in
+    let q = and-left four (leb 1 (Z .p)) g in
+    let h = and-left three (leb (Z .m) 8) q in
+    let t = and-left two (leb 1 (Z .m)) h in
     record {
-      some-blocks = leb-true 1 n (and-left one (leb n 8) t);
-      few-blocks = leb-true n 8 (and-right one (leb n 8) t);
-      some-pages = leb-true 1 m (and-right two (leb 1 m) h);
-      few-pages = leb-true m 8 (and-right three (leb m 8) q);
-      some-bytes = leb-true 1 P (and-right four (leb 1 P) g);
-      short-pages = leb-true P 64 (and-right five (leb P 64) f);
-      letter = ltb-true s 3 (and-right (five && leb P 64) (ltb s 3) e);
+      some-blocks = leb-true 1 (Z .n) (and-left one (leb (Z .n) 8) t);
+      few-blocks = leb-true (Z .n) 8 (and-right one (leb (Z .n) 8) t);
+      some-pages = leb-true 1 (Z .m) (and-right two (leb 1 (Z .m)) h);
+      few-pages = leb-true (Z .m) 8 (and-right three (leb (Z .m) 8) q);
+      some-bytes = leb-true 1 (Z .p) (and-right four (leb 1 (Z .p)) g);
+      short-pages = leb-true (Z .p) 64 (and-right five (leb (Z .p) 64) f);
+      letter = ltb-true (Z .s) 3 (and-right (five && leb (Z .p) 64) (ltb (Z .s) 3) e);
     }
 
 pub few-originals : (n m : ℕ) → n ≤ 8 → m ≤ 8 → n * m ≤ 64
@@ -119,20 +120,20 @@ module _ (text : List ℕ) where
   none-put numbers e = rw (← e)
 
   module _ (n m P s next : ℕ) (sizes : sizesAs text (SizesAre n m P s next) ≡ taken [] 4 (numbersIn text)) where
-    pub not-allowed : isAllowed (record { n = n; m = m; P = P; s = s }) ≡ false → refused ≡ reading text
+    pub not-allowed : isAllowed (record { n = n; m = m; p = P; s = s }) ≡ false → refused ≡ reading text
     unfolding reading afterSizes
     not-allowed e = sym (ap afterSizes (sym sizes) ∙ rw e)
 
-    pub none-put-refused : (numbers : List ℕ) → isAllowed (record { n = n; m = m; P = P; s = s }) ≡ false → numbers ≡ over (numbersPut text) numbers
+    pub none-put-refused : (numbers : List ℕ) → isAllowed (record { n = n; m = m; p = P; s = s }) ≡ false → numbers ≡ over (numbersPut text) numbers
     unfolding numbersPut metAfter
     none-put-refused numbers e = rw (← sizes, e)
 
-    pub all-put : (count : ℕ) (numbers exit : List ℕ) → isAllowed (record { n = n; m = m; P = P; s = s }) ≡ true → count ≡ n * m
+    pub all-put : (count : ℕ) (numbers exit : List ℕ) → isAllowed (record { n = n; m = m; p = P; s = s }) ≡ true → count ≡ n * m
         → exit ≡ over (numbersMet (count + count * P) (numbersIn (drop next text))) numbers → exit ≡ over (numbersPut text) numbers
     unfolding numbersPut metAfter
     all-put count numbers exit e k f = f ∙ rw (k, ← sizes, e)
 
-    pub as-asked : (count : ℕ) (right : Bool) (exit : List ℕ) → isAllowed (record { n = n; m = m; P = P; s = s }) ≡ true → count ≡ n * m → cond right (some (take (count + count * P) exit)) none ≡ exactly count (taken [] (count + count * P) (numbersIn (drop next text))) → cond right (requestIn exit (record { n = n; m = m; P = P; s = s })) unreadable ≡ reading text
+    pub as-asked : (count : ℕ) (right : Bool) (exit : List ℕ) → isAllowed (record { n = n; m = m; p = P; s = s }) ≡ true → count ≡ n * m → cond right (some (take (count + count * P) exit)) none ≡ exactly count (taken [] (count + count * P) (numbersIn (drop next text))) → cond right (requestIn exit (record { n = n; m = m; p = P; s = s })) unreadable ≡ reading text
     unfolding reading afterSizes requested
     as-asked count true exit e k f =
         let g = rw k at f in

@@ -1,5 +1,5 @@
 -- Numbers that are taken from the front of a text, one after the other.
-use mathlib.Core.Path.{_≡_, refl, sym, ap, _∙_}
+use mathlib.Core.Path.{_≡_, refl, sym, _∙_}
 use mathlib.Core.Bool.{Bool, true, false}
 use mathlib.Core.Logic.{_⊎_, ⊎-elim}
 use mathlib.Core.List.{List, [], _∷_, _++_, append-assoc, append-nil}
@@ -16,7 +16,7 @@ use Rattle.listing.specs.declared.number.Found.{Found}
 use Rattle.listing.specs.declared.number.Found.the-variants.{Number, Malformed, End}
 use Rattle.listing.specs.Numbers.{numbersIn, Next, number, malformed, end, next, taken, numbersMet}
 use Rattle.listing.specs.Area.{over}
-use Rattle.listing.specs.Found.{toldAs}
+use Rattle.listing.specs.inner.Found.{toldAs}
 use Rattle.listing.proofs.number.Found.{the-type}
 
 -- the code found a number

@@ -4,7 +4,7 @@ use mathlib.Core.List.{List, [], _∷_, _++_}
 use mathlib.Core.Option.{some}
 use Prim.Native.Nat.{ℕ, _<_}
 use Rattle.flash.specs.Lists.{concatMap}
-use Rattle.flash.specs.Geometry.{Sizes}
+use Rattle.flash.specs.declared.sizes.Sizes.{Sizes}
 use Rattle.listing.specs.Numbers.{numberOf}
 use Rattle.listing.specs.Request.{unreadable, refused, request, reading}
 use Rattle.listing.specs.Digits.{decimal}
@@ -25,7 +25,7 @@ abbrev three : List ℕ
 three = 3 ∷ 1 ∷ 1 ∷ 0 ∷ 1 ∷ 2 ∷ 0 ∷ []
 
 abbrev threeSizes : Sizes
-threeSizes = record { n = 3; m = 1; P = 1; s = 0 }
+threeSizes = record { n = 3; m = 1; p = 1; s = 0 }
 
 pub record Examples : Type 0 where
   pub asked : reading (spaced (three ++ (1 ∷ 2 ∷ 4 ∷ []))) ≡ request threeSizes (1 ∷ 2 ∷ 0 ∷ []) (1 ∷ 2 ∷ 4 ∷ [])
@@ -36,7 +36,7 @@ pub record Examples : Type 0 where
   pub too-many : reading (spaced (three ++ (1 ∷ 2 ∷ 4 ∷ 8 ∷ []))) ≡ unreadable
   pub no-byte : reading (spaced (three ++ (1 ∷ 2 ∷ 256 ∷ []))) ≡ unreadable
   -- an entry is judged later, as it was written
-  pub large-entry : reading (spaced (1 ∷ 1 ∷ 1 ∷ 0 ∷ 65536 ∷ 7 ∷ [])) ≡ request (record { n = 1; m = 1; P = 1; s = 0 }) (65536 ∷ []) (7 ∷ [])
+  pub large-entry : reading (spaced (1 ∷ 1 ∷ 1 ∷ 0 ∷ 65536 ∷ 7 ∷ [])) ≡ request (record { n = 1; m = 1; p = 1; s = 0 }) (65536 ∷ []) (7 ∷ [])
   -- all four sizes are read before one is judged; what stands behind them is not looked at
   pub three-sizes : reading (spaced (9 ∷ 1 ∷ 1 ∷ [])) ≡ unreadable
   pub nine-blocks : reading (spaced (9 ∷ 1 ∷ 1 ∷ 0 ∷ []) ++ (120 ∷ [])) ≡ refused

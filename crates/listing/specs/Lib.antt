@@ -3,5 +3,5 @@ pub mod Numbers
 pub mod Request
 pub mod Digits
 pub mod Lines
-pub mod Found
 pub mod Examples
+pub mod inner

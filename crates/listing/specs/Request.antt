@@ -6,7 +6,8 @@ use Prim.Native.Nat.{ℕ, _+_, _*_}
 use lib.Dec.{eqb, leb}
 use lib.ListN.{length, getD, take, drop}
 use Rattle.flash.specs.Lists.{all}
-use Rattle.flash.specs.Geometry.{Sizes, originalCount, isLetter}
+use Rattle.flash.specs.declared.sizes.Sizes.{Sizes}
+use Rattle.flash.specs.Geometry.{originalCount, isLetter}
 use Rattle.listing.specs.Numbers.{numbersIn, Taken, taken, numbersMet}
 
 pub data Reading : Type 0 where
@@ -18,14 +19,14 @@ pub data Reading : Type 0 where
 
 -- "It allows n and m to 8, P to 64": "one outside these limits, or s above 2, gives `refused 1`"
 unfoldable pub isAllowed : Sizes → Bool
-isAllowed Z = leb 1 (Z .n) && leb (Z .n) 8 && leb 1 (Z .m) && leb (Z .m) 8 && leb 1 (Z .P) && leb (Z .P) 64 && isLetter (Z .s)
+isAllowed Z = leb 1 (Z .n) && leb (Z .n) 8 && leb 1 (Z .m) && leb (Z .m) 8 && leb 1 (Z .p) && leb (Z .p) 64 && isLetter (Z .s)
 
 abbrev pub sizesOf : (values : List ℕ) → Sizes
-sizesOf values = record { n = getD values 0 0; m = getD values 1 0; P = getD values 2 0; s = getD values 3 0 }
+sizesOf values = record { n = getD values 0 0; m = getD values 1 0; p = getD values 2 0; s = getD values 3 0 }
 
 -- "the list, then the originals' bytes": n × m entries, and P bytes for each original
 abbrev pub numbersDue : Sizes → ℕ
-numbersDue Z = originalCount Z + originalCount Z * Z .P
+numbersDue Z = originalCount Z + originalCount Z * Z .p
 
 -- "Then anything but exactly the numbers due, bytes to 255, gives `unreadable`": the first `count` of them are the list.
 unfoldable pub exactly : (count : ℕ) → Option Taken → Option (List ℕ)

@@ -4,7 +4,7 @@ ghost use mathlib.Core.Bool.{false};
 ghost use Prim.Native.Nat.{_-_, _≤_, _<_};
 ghost use lib.ListN.{length, getD, drop};
 ghost use Rattle.listing.specs.Numbers.{isSeparator, isDigit, numbersIn, next};
-ghost use Rattle.listing.specs.Found.{toldAs};
+ghost use Rattle.listing.specs.inner.Found.{toldAs};
 
 const MOST_DIGITS: usize = 5;
 

@@ -8,11 +8,12 @@ ghost use lib.Dec.{eqb};
 ghost use lib.ListN.{length, take, drop};
 ghost use Rattle.listing.specs.Area.{over};
 ghost use Rattle.listing.specs.Numbers.{numbersIn, taken, numbersMet};
-ghost use Rattle.listing.specs.Found.{filledAs, sizesAs, askedAs};
+ghost use Rattle.listing.specs.inner.Found.{filledAs, sizesAs, askedAs};
 ghost use Rattle.listing.specs.Request.{isAllowed, exactly, reading, numbersPut, withinLimit};
 use crate::fit::fit;
 use crate::number::Found;
 use crate::number::number;
+use flash::sizes::Sizes;
 use flash::sizes::original_count;
 use flash::wide::word;
 
@@ -31,8 +32,10 @@ pub enum Filled {
 
 // The area is filled with the numbers from a position on.
 fn fill(text: &[u8], from: usize, area: &mut [u32]) -> Filled
-    ensures { λ r. ⌜ filledAs (now (text .entry)) (now (area .exit)) r ≡ taken [] (length (now (area .entry))) (numbersIn (drop from (now (text .entry)))) ⌝ }
-    ensures { λ _. ⌜ now (area .exit) ≡ over (numbersMet (length (now (area .entry))) (numbersIn (drop from (now (text .entry))))) (now (area .entry)) ⌝ }
+    ensures { λ r. ⌜ filledAs (now (text .entry)) (now (area .exit)) r
+        ≡ taken [] (length (now (area .entry))) (numbersIn (drop from (now (text .entry)))) ⌝ }
+    ensures { λ _. ⌜ now (area .exit) ≡ over (numbersMet (length (now (area .entry))) (numbersIn (drop from (now (text .entry)))))
+        (now (area .entry)) ⌝ }
 {
     let mut at = from;
     let mut i = 0;
@@ -76,10 +79,10 @@ fn read_sizes(text: &[u8]) -> SizesRead
 }
 
 // The program's own limits.
-fn is_allowed(n: usize, m: usize, p: usize, s: usize) -> bool
-    ensures { λ r. ⌜ r ≡ isAllowed (record { n = n; m = m; P = p; s = s }) ⌝ }
+fn is_allowed(z: Sizes) -> bool
+    ensures { λ r. ⌜ r ≡ isAllowed z ⌝ }
 {
-    (1 <= n) & (n <= 8) & (1 <= m) & (m <= 8) & (1 <= p) & (p <= 64) & (s < 3)
+    (1 <= z.n) & (z.n <= 8) & (1 <= z.m) & (z.m <= 8) & (1 <= z.p) & (z.p <= 64) & (z.s < 3)
 }
 
 // How many numbers follow the sizes: the entries, and p bytes for each.
@@ -103,8 +106,10 @@ fn is_end(text: &[u8], at: usize) -> bool
 // Whether exactly the numbers due for `count` originals stand from a position on, bytes to 255. They are put into `numbers`.
 fn read_numbers(text: &[u8], from: usize, count: usize, p: usize, numbers: &mut [u32]) -> bool
     requires { ⌜ (count ≤ 64) × (p ≤ 64) × (4160 ≤ length (now numbers)) ⌝ }
-    ensures { λ r. ⌜ cond r (some (take (count + count * p) (now (numbers .exit)))) none ≡ exactly count (taken [] (count + count * p) (numbersIn (drop from (now (text .entry))))) ⌝ }
-    ensures { λ _. ⌜ now (numbers .exit) ≡ over (numbersMet (count + count * p) (numbersIn (drop from (now (text .entry))))) (now (numbers .entry)) ⌝ }
+    ensures { λ r. ⌜ cond r (some (take (count + count * p) (now (numbers .exit)))) none
+        ≡ exactly count (taken [] (count + count * p) (numbersIn (drop from (now (text .entry))))) ⌝ }
+    ensures { λ _. ⌜ now (numbers .exit) ≡ over (numbersMet (count + count * p) (numbersIn (drop from (now (text .entry)))))
+        (now (numbers .entry)) ⌝ }
 {
     let due = numbers_due(count, p);
     let Filled::Full { next } = fill(text, from, &mut numbers[..due]) else {
@@ -123,12 +128,7 @@ pub enum Request {
     // `refused 1`
     Refused,
     // The list's entries and then the bytes are in the lent area.
-    Move {
-        n: usize,
-        m: usize,
-        p: usize,
-        s: usize,
-    },
+    Move { z: Sizes },
 }
 
 // Reads the input.
@@ -139,11 +139,12 @@ pub fn read(text: &[u8], numbers: &mut [u32; MOST_NUMBERS]) -> Request
     let SizesRead::Sizes { n, m, p, s, next } = read_sizes(text) else {
         return Request::Unreadable;
     };
-    if !is_allowed(n, m, p, s) {
+    let z = Sizes { n, m, p, s };
+    if !is_allowed(z) {
         return Request::Refused;
     }
-    if read_numbers(text, next, original_count(n, m), p, numbers) {
-        Request::Move { n, m, p, s }
+    if read_numbers(text, next, original_count(z), p, numbers) {
+        Request::Move { z }
     } else {
         Request::Unreadable
     }
@@ -151,7 +152,8 @@ pub fn read(text: &[u8], numbers: &mut [u32; MOST_NUMBERS]) -> Request
 
 // What lies beyond the limit becomes one byte that no number has. Answers the length of what is to be read.
 pub fn limit(input: &mut [u8]) -> usize
-    ensures { λ r. ⌜ (r ≡ length (withinLimit (now (input .entry)))) × (now (input .exit) ≡ over (withinLimit (now (input .entry))) (now (input .entry))) ⌝ }
+    ensures { λ r. ⌜ (r ≡ length (withinLimit (now (input .entry))))
+        × (now (input .exit) ≡ over (withinLimit (now (input .entry))) (now (input .entry))) ⌝ }
 {
     if input.len() <= INPUT_LIMIT {
         return input.len();

@@ -1,5 +1,5 @@
 -- Document 01, "Refused calls": the refusals of run, mend and read, and the whole answer of each.
-use mathlib.Core.Bool.{Bool, true, false, cond, _&&_, _||_, not}
+use mathlib.Core.Bool.{Bool, cond, _&&_, _||_, not}
 use mathlib.Core.List.{List, [], _∷_}
 use mathlib.Core.Option.{Option, none, some}
 use Prim.Native.Nat.{ℕ, _+_, _-_, min}
@@ -7,7 +7,8 @@ use lib.Dec.{eqb, leb, ltb}
 use lib.ListN.{length}
 use Rattle.flash.specs.Lists.{range, any, isSame}
 use Rattle.flash.specs.Tables.{Row, refusal}
-use Rattle.flash.specs.Geometry.{Sizes, inRange, originalCount, slotCount, storeLength, marksLength, listLength, setsLength, workLength}
+use Rattle.flash.specs.declared.sizes.Sizes.{Sizes}
+use Rattle.flash.specs.Geometry.{inRange, originalCount, slotCount, storeLength, marksLength, listLength, setsLength, workLength}
 use Rattle.flash.specs.Chip.{Chip, erased, markAt, isBlank, eraseBlock}
 use Rattle.split.specs.OneToOne.{badList}
 use Rattle.split.specs.Split.{isSplit}
@@ -42,7 +43,7 @@ fitsNone told = eqb (marksAnswer told .number) 6
 unfoldable pub isElsewhere : Move → Chip → (place : ℕ) → Bool
 isElsewhere M chip place =
     ltb (lastPlace (M .sizes)) place || not (isSame (chip .marks) (marksOf (M .sizes) place))
-    || any (λ t. eqb (markAt (chip .marks) t) erased && not (isBlank (M .sizes .P) chip t)) (range 0 (slotCount (M .sizes)))
+    || any (λ t. eqb (markAt (chip .marks) t) erased && not (isBlank (M .sizes .p) chip t)) (range 0 (slotCount (M .sizes)))
 
 -- the rows that run and read share, in the table's order
 unfoldable pub moveRows : Move → Chip → (work : List ℕ) → (rest : List (Row ℕ)) → List (Row ℕ)
@@ -136,7 +137,7 @@ pub record MendAnswer : Type 0 where
 unfoldable pub mended : Sizes → Chip → Reading → MendAnswer
 mended Z chip found = elim (found .toErase) [
   | none ↦ record { number = 0; place = found .place; erases = 0; chip = chip }
-  | some b ↦ record { number = 0; place = found .place; erases = 1; chip = eraseBlock (Z .m) (Z .P) b chip }
+  | some b ↦ record { number = 0; place = found .place; erases = 1; chip = eraseBlock (Z .m) (Z .p) b chip }
 ]
 
 unfoldable pub mendAnswer : Sizes → Chip → MendAnswer

@@ -6,7 +6,7 @@ use mathlib.Core.List.{List, [], _∷_, _++_, map}
 use Prim.Native.Nat.{ℕ, zero, suc, _+_, _-_, _^_}
 use lib.ListN.{replicate}
 use Rattle.flash.specs.Lists.{range}
-use Rattle.flash.specs.Geometry.{Sizes}
+use Rattle.flash.specs.declared.sizes.Sizes.{Sizes}
 use Rattle.flash.specs.Chip.{Chip}
 use Rattle.split.specs.OneToOne.{isOneToOne}
 use Rattle.split.specs.Answer.{SplitAnswer, splitAnswer}
@@ -89,7 +89,7 @@ pub data Every (P : Case → Type 0) : List Case → Type 0 where
 
 -- short forms for what the cases are made of
 abbrev sizes : (n m : ℕ) → Sizes
-sizes n m = record { n = n; m = m; P = 1; s = 0 }
+sizes n m = record { n = n; m = m; p = 1; s = 0 }
 
 abbrev chip : (store marks : List ℕ) → Chip
 chip store marks = record { store = store; marks = marks }

@@ -8,7 +8,8 @@ use Prim.Native.Nat.{ℕ, _+_, _-_, _*_, _/_, _≤_, _<_}
 use lib.ListN.{length, getD}
 use Rattle.flash.specs.Lists.{range, any, count}
 use Rattle.flash.specs.Tables.{Row, Lowest, refusal}
-use Rattle.flash.specs.Geometry.{Sizes, inRange, blockOf, originalCount, slotCount, listLength, setsLength}
+use Rattle.flash.specs.declared.sizes.Sizes.{Sizes}
+use Rattle.flash.specs.Geometry.{inRange, blockOf, originalCount, slotCount, listLength, setsLength}
 use Rattle.flash.specs.Chip.{Chip, isWhole, isUnfinished}
 use Rattle.split.specs.OneToOne.{isOneToOne}
 use Rattle.split.specs.Split.{setOf, isSplit}

@@ -7,7 +7,8 @@ use mathlib.Core.Logic.{_⊎_}
 use Prim.Native.Nat.{ℕ, _/_, _<_}
 use lib.Dec.{eqb}
 use lib.ListN.{length}
-use Rattle.flash.specs.Geometry.{Sizes, slot, slotCount, storeLength, marksLength}
+use Rattle.flash.specs.declared.sizes.Sizes.{Sizes}
+use Rattle.flash.specs.Geometry.{slot, slotCount, storeLength, marksLength}
 use Rattle.flash.specs.Chip.{Chip, erased, pageAt, markAt}
 use Rattle.method.specs.Place.{Operation, write, erase, done}
 
@@ -16,7 +17,7 @@ unfoldable pub isTornMark : ℕ → Bool
 isTornMark mark = eqb mark erased
 
 module _ (Z : Sizes) where
-  open Sizes Z using (m, P)
+  open Sizes Z using (m, p as P)
 
   -- the slots that an operation writes or erases
   unfoldable pub touches : Operation → (t : ℕ) → Bool

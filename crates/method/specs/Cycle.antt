@@ -5,7 +5,8 @@ use Prim.Native.Nat.{ℕ, _-_, _*_, max}
 use lib.Dec.{eqb}
 use lib.ListN.{getD}
 use Rattle.flash.specs.Lists.{range, iterates, first}
-use Rattle.flash.specs.Geometry.{Sizes, originalCount}
+use Rattle.flash.specs.declared.sizes.Sizes.{Sizes}
+use Rattle.flash.specs.Geometry.{originalCount}
 use Rattle.split.specs.Split.{destBlock, setOf}
 use Rattle.method.specs.Move.{Move}
 

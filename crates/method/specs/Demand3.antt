@@ -57,20 +57,20 @@ pub record Stays (M : Move) (chip : Chip) (k : ℕ) (page : List ℕ) : Type 0 w
   pub few : length (readSlots M (chip .marks) k) ≤ M .sizes .n
   pub stored : (i : ℕ) → i < length (readSlots M (chip .marks) k) → getD (readSlots M (chip .marks) k) i 0 < slotCount (M .sizes)
   pub whole : (i : ℕ) → i < length (readSlots M (chip .marks) k) → isWhole (chip .marks) (getD (readSlots M (chip .marks) k) i 0) ≡ true
-  pub total : sum (pageAt (M .sizes .P) chip) (readSlots M (chip .marks) k) ≡ page
+  pub total : sum (pageAt (M .sizes .p) chip) (readSlots M (chip .marks) k) ≡ page
   pub read-gives : (work : List ℕ) → length work ≡ workLength (M .sizes)
       → readAnswer M chip work k ≡ record { number = 0; count = length (readSlots M (chip .marks) k); work = page }
 
 -- what holds at every moment; `chip₀` is the store at rest, "whose pages are the originals"
 pub record Keeps (M : Move) (chip₀ : Chip) (h : History) : Type 0 where
-  pub stays : (k : ℕ) → k < originalCount (M .sizes) → Stays M (h .chip) k (pageAt (M .sizes .P) chip₀ (slotOf (M .sizes .m) k))
+  pub stays : (k : ℕ) → k < originalCount (M .sizes) → Stays M (h .chip) k (pageAt (M .sizes .p) chip₀ (slotOf (M .sizes .m) k))
   -- "erases are at most 2 × n plus one for each recovery call"
   pub erases : count isErase (h .begun) ≤ 2 * M .sizes .n + h .mends
   -- "with no cut and no recovery no block is erased more than twice"
   pub block-erases : h .cuts ≡ 0 → h .mends ≡ 0 → (b : ℕ) → count (erasesBlock b) (h .begun) ≤ 2
   -- "the finish is final": "from then on, cuts included, the slot that the list gives for original k holds its bytes"
   pub final : h .finished ≡ true → (k : ℕ) → k < originalCount (M .sizes)
-      → pageAt (M .sizes .P) (h .chip) (slotOf (M .sizes .m) (getD (M .list) k 0)) ≡ pageAt (M .sizes .P) chip₀ (slotOf (M .sizes .m) k)
+      → pageAt (M .sizes .p) (h .chip) (slotOf (M .sizes .m) (getD (M .list) k 0)) ≡ pageAt (M .sizes .p) chip₀ (slotOf (M .sizes .m) k)
   -- whenever a run is not refused, store and marks are those of its place (demand 2 along the list)
   pub placed : (work : List ℕ) (place : ℕ) → refusal (runRows M (h .chip) work place) ≡ 0
       → h .chip ≡ stateOf M (originalsIn (M .sizes) chip₀) place
@@ -91,4 +91,4 @@ pub record Demand3 : Type 0 where
   pub same-slots : (M : Move) (marks : List ℕ) (k : ℕ)
       → (slots : List ℕ)
       × ((chip : Chip) → chip .marks ≡ marks → (work : List ℕ) → readAnswer M chip work k .number ≡ 0
-      → readAnswer M chip work k ≡ record { number = 0; count = length slots; work = sum (pageAt (M .sizes .P) chip) slots })
+      → readAnswer M chip work k ≡ record { number = 0; count = length slots; work = sum (pageAt (M .sizes .p) chip) slots })

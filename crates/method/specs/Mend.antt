@@ -3,11 +3,11 @@ use mathlib.Core.Bool.{Bool, cond, _&&_}
 use mathlib.Core.List.{List, _++_, map}
 use mathlib.Core.Option.{Option, none, some}
 use Prim.Native.Nat.{ℕ, _+_, _-_, _*_}
+use Rattle.flash.specs.Geometry.{letter}
 use Rattle.flash.specs.Lists.{range, all}
 use Rattle.flash.specs.Tables.{Row, firstFit}
-use Rattle.flash.specs.Geometry.{Sizes}
+use Rattle.flash.specs.declared.sizes.Sizes.{Sizes}
 use Rattle.flash.specs.Chip.{isMark, isFull, isUnfinished}
-use Rattle.method.specs.Move.{letter}
 
 -- what mend finds: the place, and the block that it erases, if any
 pub record Reading : Type 0 where

@@ -5,9 +5,9 @@ use Prim.Native.Nat.{ℕ, _+_, _-_, _*_, _/_, _%_}
 use lib.Dec.{ltb}
 use lib.ListN.{getD}
 use Rattle.flash.specs.Lists.{range, downFrom, concatMap}
-use Rattle.flash.specs.Geometry.{Sizes, slotCount}
+use Rattle.flash.specs.declared.sizes.Sizes.{Sizes}
+use Rattle.flash.specs.Geometry.{slotCount, letter}
 use Rattle.flash.specs.Chip.{erased}
-use Rattle.method.specs.Move.{letter}
 
 pub data Pass : Type 0 where
   forward : Pass

@@ -5,11 +5,12 @@ use mathlib.Core.List.{List, [], _∷_}
 use Prim.Native.Nat.{ℕ, zero, suc, _+_, _-_}
 use lib.ListN.{getD}
 use Rattle.flash.specs.Lists.{range, any}
-use Rattle.flash.specs.Geometry.{Sizes, slot, blockOf, slotOf}
+use Rattle.flash.specs.declared.sizes.Sizes.{Sizes}
+use Rattle.flash.specs.Geometry.{slot, blockOf, slotOf, letter}
 use Rattle.flash.specs.PageSum.{sum}
 use Rattle.flash.specs.Chip.{Chip, pageAt, isFull}
 use Rattle.split.specs.Split.{setOf}
-use Rattle.method.specs.Move.{Move, letter}
+use Rattle.method.specs.Move.{Move}
 use Rattle.method.specs.Cycle.{D, dest, pred, top, isTop}
 
 module _ (M : Move) (marks : List ℕ) where
@@ -63,4 +64,4 @@ module _ (M : Move) (marks : List ℕ) where
 
 -- "Read puts original k in the work page": the sum of those pages
 unfoldable pub readPage : Move → Chip → (k : ℕ) → List ℕ
-readPage M chip k = sum (pageAt (M .sizes .P) chip) (readSlots M (chip .marks) k)
+readPage M chip k = sum (pageAt (M .sizes .p) chip) (readSlots M (chip .marks) k)

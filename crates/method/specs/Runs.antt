@@ -46,7 +46,7 @@ pub record RunsAddUp : Type 0 where
   -- "only when blank", whatever bytes are stored: the page that a step writes was blank before it
   pub only-blank : (M : Move) (chip : Chip) (work : List ℕ) (place finished : ℕ) (pass : Pass) (block page : ℕ) → refusal (runRows M chip work place) ≡ 0
       → operationAt (M .sizes) (place + finished) ≡ write pass block page
-      → isBlank (M .sizes .P) (runAnswer M chip work place finished .chip) (slot (M .sizes .m) block page) ≡ true
+      → isBlank (M .sizes .p) (runAnswer M chip work place finished .chip) (slot (M .sizes .m) block page) ≡ true
 
 -- "It starts from a store at rest, whose pages are the originals", with "an accepted list (one that split doesn't refuse) and a
 -- correct split of it", and lent parts of their lengths
@@ -64,5 +64,5 @@ pub record StatesReached : Type 0 where
       → (runAnswer M chip work 0 t .number ≡ 0) × (runAnswer M chip work 0 t .place ≡ t)
       × (runAnswer M chip work 0 t .chip ≡ stateOf M (originalsIn (M .sizes) chip) t)
   pub at-end : (M : Move) (chip : Chip) → Start M chip → (work : List ℕ) → length work ≡ workLength (M .sizes) → (k : ℕ) → k < originalCount (M .sizes)
-      → pageAt (M .sizes .P) (runAnswer M chip work 0 (lastPlace (M .sizes)) .chip) (slotOf (M .sizes .m) (getD (M .list) k 0))
-      ≡ pageAt (M .sizes .P) chip (slotOf (M .sizes .m) k)
+      → pageAt (M .sizes .p) (runAnswer M chip work 0 (lastPlace (M .sizes)) .chip) (slotOf (M .sizes .m) (getD (M .list) k 0))
+      ≡ pageAt (M .sizes .p) chip (slotOf (M .sizes .m) k)

@@ -4,7 +4,8 @@ use mathlib.Core.List.{List, [], _∷_, _++_}
 use Prim.Native.Nat.{ℕ, _+_, _*_, _/_, _%_}
 use lib.ListN.{drop, replicate}
 use Rattle.flash.specs.Lists.{range, all, concatMap, part}
-use Rattle.flash.specs.Geometry.{Sizes, slot, numberAt, originalCount, slotCount}
+use Rattle.flash.specs.declared.sizes.Sizes.{Sizes}
+use Rattle.flash.specs.Geometry.{slot, numberAt, originalCount, slotCount}
 use Rattle.flash.specs.PageSum.{sum}
 use Rattle.flash.specs.Chip.{Chip, erased, isBlank, isFull}
 use Rattle.method.specs.Move.{Move}
@@ -15,18 +16,18 @@ use Rattle.method.specs.Place.{Held, blank, plain, code, final, heldAt, 
 unfoldable pub isAtRest : Sizes → Chip → Bool
 isAtRest Z chip =
     all (λ block. isFull (Z .m) (chip .marks) block (Z .s)) (range 1 (Z .n))
-    && all (λ page. isBlank (Z .P) chip (slot (Z .m) 0 page)) (range 0 (Z .m))
+    && all (λ page. isBlank (Z .p) chip (slot (Z .m) 0 page)) (range 0 (Z .m))
 
 -- The store at rest whose pages are the originals: n × m pages, one after the other.
 unfoldable pub atRest : Sizes → (originals : List ℕ) → Chip
 atRest Z originals = record {
-  store = replicate (Z .m * Z .P) erased ++ originals;
+  store = replicate (Z .m * Z .p) erased ++ originals;
   marks = replicate (Z .m) erased ++ replicate (originalCount Z) (Z .s);
 }
 
 -- the originals that a store at rest holds: the pages of the data blocks
 unfoldable pub originalsIn : Sizes → Chip → List ℕ
-originalsIn Z chip = drop (Z .m * Z .P) (chip .store)
+originalsIn Z chip = drop (Z .m * Z .p) (chip .store)
 
 -- the originals whose sum a page holds
 unfoldable pub heldOriginals : Move → Held → (block page : ℕ) → List ℕ
@@ -36,7 +37,7 @@ heldOriginals M code block page = coded M page (block + 1)
 heldOriginals M final block page = sentTo M (numberAt (M .sizes .m) block page) ∷ []
 
 module _ (M : Move) (originals : List ℕ) where
-  open Sizes (M .sizes) using (m, P)
+  open Sizes (M .sizes) using (m, p as P)
 
   -- the bytes of a page from the originals
   unfoldable pub heldPage : Held → (block page : ℕ) → List ℕ

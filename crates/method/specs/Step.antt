@@ -28,17 +28,17 @@ module _ (M : Move) where
   writeSlots pass block page marks = concatMap (readSlots M marks) (originalsOf pass block page)
 
   unfoldable pub writtenPage : Pass → (block page : ℕ) → Chip → List ℕ
-  writtenPage pass block page chip = sum (pageAt (M .sizes .P) chip) (writeSlots pass block page (chip .marks))
+  writtenPage pass block page chip = sum (pageAt (M .sizes .p) chip) (writeSlots pass block page (chip .marks))
 
   -- "The work page holds the last page written, unchanged if none."
   unfoldable pub perform : Operation → Running → Running
   perform (write pass block page) run =
       let new = writtenPage pass block page (run .chip) in
       record {
-        chip = writePage (M .sizes .P) (slot (M .sizes .m) block page) new (markOf (M .sizes) pass) (run .chip);
+        chip = writePage (M .sizes .p) (slot (M .sizes .m) block page) new (markOf (M .sizes) pass) (run .chip);
         work = new;
       }
-  perform (erase block) run = record { chip = eraseBlock (M .sizes .m) (M .sizes .P) block (run .chip); work = run .work }
+  perform (erase block) run = record { chip = eraseBlock (M .sizes .m) (M .sizes .p) block (run .chip); work = run .work }
   perform done run = run
 
   -- the step at a place

@@ -30,7 +30,7 @@ work = 7 ∷ []
 
 -- the same move for a chip of three blocks
 abbrev pub otherSizes : Move
-otherSizes = record { sizes = record { n = 3; m = 2; P = 1; s = 0 }; list = two .list; sets = two .sets }
+otherSizes = record { sizes = record { n = 3; m = 2; p = 1; s = 0 }; list = two .list; sets = two .sets }
 
 abbrev pub wholeMend : Event
 wholeMend = record { call = mend (two .sizes); cut = uncut }

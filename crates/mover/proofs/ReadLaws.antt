@@ -15,7 +15,7 @@ use Rattle.method.specs.Move.{Move}
 use Rattle.method.specs.Mend.{reading}
 use Rattle.method.specs.Read.{readSlots, readPage}
 use Rattle.method.specs.Answers.{fitsNone, moveRows, readRows, readAnswer}
-use Rattle.mover.specs.Answers.{ReadIs}
+use Rattle.mover.specs.Answers.{readAs}
 use Rattle.mover.specs.declared.read.Rebuilt.{Rebuilt}
 use Rattle.mover.proofs.RefusalLaws.{move-then}
 
@@ -26,12 +26,13 @@ last-rows false true = refl
 last-rows false false = refl
 
 module _ (M : Move) (chip : Chip) (work : List ℕ) (k : ℕ) where
+  -- what a refused read returns; it leaves the work page
   abbrev Refused : ℕ → Rebuilt → Type 0
-  Refused x r = r ≡ record { number = x; count = 0 } → ReadIs (readAnswer M chip work k) r work
+  Refused x r = r ≡ record { number = x; count = 0 } → readAs r work ≡ readAnswer M chip work k
 
   refused-answer : (x : ℕ) (r : Rebuilt) → x ≢ 0 → refusal (readRows M chip work k) ≡ x → Refused x r
   unfolding readAnswer
-  refused-answer x r ne e f = rw (e, ne-eqb x 0 ne, f) (record { number-is = refl; count-is = refl; work-is = refl })
+  refused-answer x r ne e f = rw (f, e, ne-eqb x 0 ne)
 
   -- rows 1 to 4 decide
   pub refused-by-move : (x : ℕ) (r : Rebuilt) → x ≡ refusal (moveRows M chip work []) → x ≢ 0 → Refused x r
@@ -52,6 +53,6 @@ module _ (M : Move) (chip : Chip) (work : List ℕ) (k : ℕ) where
     refused-7 r f g = refused-answer 7 r (λ z. absurd (omega arith)) (by-rest false true f g)
 
     pub rebuilt : (count : ℕ) (after : List ℕ) → false ≡ fitsNone (reading (M .sizes) (chip .marks)) → false ≡ leb (originalCount (M .sizes)) k
-        → count ≡ length (readSlots M (chip .marks) k) → after ≡ readPage M chip k → ReadIs (readAnswer M chip work k) (record { number = 0; count = count }) after
+        → count ≡ length (readSlots M (chip .marks) k) → after ≡ readPage M chip k → readAs (record { number = 0; count = count }) after ≡ readAnswer M chip work k
     unfolding readAnswer
-    rebuilt count after f g h i = rw (by-rest false false f g) (record { number-is = refl; count-is = h; work-is = i })
+    rebuilt count after f g h i = rw (by-rest false false f g, h, i)

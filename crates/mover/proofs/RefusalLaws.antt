@@ -6,20 +6,19 @@ use mathlib.Core.List.{List, [], _∷_}
 use Prim.Native.Nat.{ℕ, _≤_}
 use native.Mathlib.Omega.{arith}
 use lib.Dec.{eqb}
-use borrow.Author.Tests.{eq-eqb, ne-eqb, le-leb}
+use borrow.Author.Tests.{eq-eqb, ne-eqb}
 use Rattle.flash.specs.Tables.{Row, firstFit, numberOr0, refusal}
 use Rattle.flash.specs.Geometry.{inRange, originalCount}
 use Rattle.flash.specs.Chip.{Chip}
-use Rattle.flash.proofs.Bounds.{in-range}
 use Rattle.split.specs.OneToOne.{badList, isOneToOne}
 use Rattle.split.specs.Split.{isSplit, isCorrectSplit}
 use Rattle.method.specs.Move.{Move}
 use Rattle.method.specs.Place.{lastPlace}
-use Rattle.method.specs.Answers.{badParts, isElsewhere, moveRows, runRows, runCarriedOut, runRefused, runAnswer}
-use Rattle.method.proofs.Accepting.{parts-ok, move-accepted, run-taken}
-use Rattle.walk.specs.Moving.{Given}
-use Rattle.mover.specs.Steps.{Lent}
-use Rattle.mover.specs.Answers.{Answers}
+use Rattle.method.specs.Answers.{badParts, isElsewhere, moveRows, runRows, RunAnswer, runCarriedOut, runRefused, runAnswer}
+use Rattle.method.proofs.basics.AcceptedCalls.{parts-ok, move-accepted, run-taken}
+use Rattle.walk.specs.inner.Moving.{Given}
+use Rattle.mover.specs.inner.Steps.{Lent}
+use Rattle.mover.specs.Answers.{ranAs}
 use Rattle.mover.specs.declared.run.Ran.{Ran}
 
 abbrev rows : (a b c d : Bool) → List (Row ℕ) → List (Row ℕ)
@@ -59,22 +58,13 @@ module _ (M : Move) (chip : Chip) (work : List ℕ) where
 
   -- Past rows 1 and 2: 0 where there is a split, and else 3 or 4 by the list.
   pub move-split : inRange (M .sizes) ≡ true → badParts M chip work ≡ false
-      → number ≡ cond (isCorrectSplit (M .sizes .n) (M .sizes .m) (M .list) (M .sets)) 0 (cond (isOneToOne (originalCount (M .sizes)) (M .list)) 4 3)
+      → number ≡ cond (isCorrectSplit (M .sizes) (M .list) (M .sets)) 0 (cond (isOneToOne (originalCount (M .sizes)) (M .list)) 4 3)
   unfolding isCorrectSplit isOneToOne
   move-split e f =
-      let B = in-range (M .sizes) e in
       let lengths = parts-ok M chip work f in
       move-number
-      ∙ rw (
-        e,
-        f,
-        le-leb _ _ (B .n-low),
-        le-leb _ _ (B .n-high),
-        le-leb _ _ (B .m-low),
-        le-leb _ _ (B .m-high),
-        eq-eqb _ _ (lengths .0),
-        eq-eqb _ _ (lengths .1),
-      ) (by-list (badList (originalCount (M .sizes)) (M .list)) (isSplit (M .sizes .n) (M .sizes .m) (M .list) (M .sets)))
+      ∙ rw (e, f, eq-eqb _ _ (lengths .0), eq-eqb _ _ (lengths .1))
+      (by-list (badList (originalCount (M .sizes)) (M .list)) (isSplit (M .sizes .n) (M .sizes .m) (M .list) (M .sets)))
     where
       by-list : (bad split : Bool) → _≡_ {A = ℕ} (cond bad 3 (cond (not split) 4 0)) (cond (not bad && split) 0 (cond (not bad) 4 3))
       by-list true split = refl
@@ -92,8 +82,8 @@ module _ (M : Move) (chip : Chip) (work : List ℕ) where
           n-high = B .n-high;
           m-low = B .m-low;
           m-high = B .m-high;
-          P-low = B .P-low;
-          P-high = B .P-high;
+          p-low = B .p-low;
+          p-high = B .p-high;
           s-high = B .s-high;
           list-length = A .list-length;
           sets-length = A .sets-length;
@@ -118,37 +108,26 @@ module _ (M : Move) (chip : Chip) (work : List ℕ) (place budget : ℕ) where
       last true = refl
       last false = refl
 
-  refused-answer : (x : ℕ) (ran : Ran) → x ≢ 0 → refusal (runRows M chip work place) ≡ x
-      → (ran .number ≡ x) × (ran .place ≡ 0) × (ran .steps ≡ 0) × (ran .writes ≡ 0) × (ran .erases ≡ 0) × (ran .finished ≡ 0)
-      → Answers (runAnswer M chip work place budget) ran (chip .store) (chip .marks) work
+  -- what a refused run returns; it leaves all as it was
+  abbrev Refused : ℕ → Type 0
+  Refused x =
+      (ran : Ran) → ran ≡ record { number = x; place = 0; steps = 0; writes = 0; erases = 0; finished = 0 }
+      → ranAs ran (chip .store) (chip .marks) work ≡ runAnswer M chip work place budget
+
+  refused-answer : (x : ℕ) → x ≢ 0 → refusal (runRows M chip work place) ≡ x → Refused x
   unfolding runAnswer runRefused
-  refused-answer x ran ne e r = rw (e, ne-eqb x 0 ne)
-      (record {
-        number-is = r .0;
-        place-is = r .1;
-        steps-is = r .2;
-        writes-is = r .3;
-        erases-is = r .4;
-        finished-is = r .5;
-        store-is = refl;
-        marks-is = refl;
-        work-is = refl;
-      })
+  refused-answer x ne e ran r = rw (r, e, ne-eqb x 0 ne)
 
-  pub refused-by-move : (x : ℕ) (ran : Ran) → x ≡ refusal (moveRows M chip work []) → x ≢ 0
-      → (ran .number ≡ x) × (ran .place ≡ 0) × (ran .steps ≡ 0) × (ran .writes ≡ 0) × (ran .erases ≡ 0) × (ran .finished ≡ 0)
-      → Answers (runAnswer M chip work place budget) ran (chip .store) (chip .marks) work
-  refused-by-move x ran e ne r = refused-answer x ran ne (by-move x e ne) r
+  pub refused-by-move : (x : ℕ) → x ≡ refusal (moveRows M chip work []) → x ≢ 0 → Refused x
+  refused-by-move x e ne = refused-answer x ne (by-move x e ne)
 
-  pub refused-by-place : (ran : Ran) → 0 ≡ refusal (moveRows M chip work []) → true ≡ isElsewhere M chip place
-      → (ran .number ≡ 5) × (ran .place ≡ 0) × (ran .steps ≡ 0) × (ran .writes ≡ 0) × (ran .erases ≡ 0) × (ran .finished ≡ 0)
-      → Answers (runAnswer M chip work place budget) ran (chip .store) (chip .marks) work
-  refused-by-place ran e f r = refused-answer 5 ran (λ z. absurd (omega arith)) (by-place true e f) r
+  pub refused-by-place : 0 ≡ refusal (moveRows M chip work []) → true ≡ isElsewhere M chip place → Refused 5
+  refused-by-place e f = refused-answer 5 (λ z. absurd (omega arith)) (by-place true e f)
 
   module _ (e : 0 ≡ refusal (moveRows M chip work [])) (f : false ≡ isElsewhere M chip place) where
     pub in-place : place ≤ lastPlace (M .sizes)
     in-place = run-taken M chip work place (by-place false e f) .stands .inside
 
-    pub not-refused : (ran : Ran) (store marks after : List ℕ) → Answers (runCarriedOut M chip work place budget) ran store marks after → Answers (runAnswer M chip work place budget) ran store marks after
+    pub not-refused : (answer : RunAnswer) → answer ≡ runCarriedOut M chip work place budget → answer ≡ runAnswer M chip work place budget
     unfolding runAnswer
-    not-refused ran store marks after A = rw (by-place false e f) A
+    not-refused answer A = rw (by-place false e f) A

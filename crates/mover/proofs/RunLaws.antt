@@ -11,11 +11,11 @@ use Rattle.method.specs.Move.{Move}
 use Rattle.method.specs.Place.{Operation, write, erase, done, operationAt, lastPlace}
 use Rattle.method.specs.Step.{Running, step, steps, tallied, tally, operationsFrom}
 use Rattle.method.specs.Answers.{stepsTaken, runCarriedOut}
-use Rattle.method.proofs.Runs.{steps-add}
-use Rattle.method.proofs.Tallies.{tally-split, operationsFrom-suc}
-use Rattle.walk.specs.Moving.{Given}
-use Rattle.mover.specs.Steps.{runningOf, Leaves, Counted}
-use Rattle.mover.specs.Answers.{Answers}
+use Rattle.method.proofs.states.StepsAddUp.{steps-add}
+use Rattle.method.proofs.places.Tallies.{tally-split, operationsFrom-suc}
+use Rattle.walk.specs.inner.Moving.{Given}
+use Rattle.mover.specs.inner.Steps.{runningOf, Leaves, Counted}
+use Rattle.mover.specs.Answers.{ranAs}
 
 -- what is lent makes up the run
 left-is : (after : Running) (store marks work : List ℕ) → Leaves after store marks work → runningOf store marks work ≡ after
@@ -67,20 +67,9 @@ last-small M G = omega (arith, product-le (2 * M .sizes .n) (M .sizes .m + 1) {c
 pub carried : (M : Move) (store marks work : List ℕ) (place budget last taken : ℕ) (store′ marks′ work′ : List ℕ) (a b c finished : ℕ)
     → last ≡ lastPlace (M .sizes) → taken ≡ min budget (last - place) → finished ≡ cond (eqb (place + taken) last) 1 0
     → Leaves (steps M taken place (runningOf store marks work)) store′ marks′ work′ → Counted (tally (operationsFrom M place taken)) a b c
-    → Answers (runCarriedOut M (record { store = store; marks = marks }) work place budget)
-    (record { number = 0; place = place + taken; steps = a; writes = b; erases = c; finished = finished }) store′ marks′ work′
+    → ranAs (record { number = 0; place = place + taken; steps = a; writes = b; erases = c; finished = finished }) store′ marks′ work′
+    ≡ runCarriedOut M (record { store = store; marks = marks }) work place budget
 unfolding runCarriedOut stepsTaken
 carried M store marks work place budget last taken store′ marks′ work′ a b c finished e f g L C =
     let t : taken ≡ min budget (lastPlace (M .sizes) - place) = rw e at f in
-    rw (← t)
-    (record {
-      number-is = refl;
-      place-is = refl;
-      steps-is = C .steps-is;
-      writes-is = C .writes-is;
-      erases-is = C .erases-is;
-      finished-is = rw e at g;
-      store-is = L .store-is;
-      marks-is = L .marks-is;
-      work-is = L .work-is;
-    })
+    rw (← t, ← e, g, C .steps-is, C .writes-is, C .erases-is, L .store-is, L .marks-is, L .work-is)

@@ -7,7 +7,8 @@ use native.Mathlib.Omega.{arith}
 use lib.ListN.{take, drop}
 use lib.Seq.{drop-drop}
 use Rattle.flash.specs.Lists.{concatMap, part}
-use Rattle.flash.specs.Geometry.{Sizes, slot, numberAt}
+use Rattle.flash.specs.declared.sizes.Sizes.{Sizes}
+use Rattle.flash.specs.Geometry.{slot, numberAt}
 use Rattle.flash.specs.PageSum.{sum}
 use Rattle.flash.specs.Chip.{Holds, pageAt, writePage, eraseBlock}
 use Rattle.method.specs.Move.{Move}
@@ -16,11 +17,11 @@ use Rattle.method.specs.Place.{Pass, forward, backward, Operation, write, erase
 use Rattle.method.specs.Read.{readSlots}
 use Rattle.method.specs.State.{heldOriginals}
 use Rattle.method.specs.Step.{originalsOf, writeSlots, writtenPage, perform, Running, step, tallied, tally}
-use Rattle.method.proofs.Indexes.{slot-lt}
-use Rattle.method.proofs.Cycles.{sent-in}
-use Rattle.walk.specs.Moving.{Given}
-use Rattle.walk.specs.Slots.{Appends}
-use Rattle.mover.specs.Steps.{runningOf, Leaves, Counted}
+use Rattle.method.proofs.basics.Indexes.{slot-lt}
+use Rattle.method.proofs.cycles.SetCycles.{sent-in}
+use Rattle.walk.specs.inner.Moving.{Given}
+use Rattle.walk.specs.inner.Slots.{Appends}
+use Rattle.mover.specs.inner.Steps.{runningOf, Leaves, Counted}
 use Rattle.walk.proofs.CycleLaws.{accepted}
 
 -- slots put behind slots
@@ -60,7 +61,7 @@ module _ (M : Move) (G : Given M) (block page : ℕ) (page-in : page < M .sizes 
 
 -- ---- a write
 module _ (M : Move) (pass : Pass) (block page : ℕ) (store marks work : List ℕ) where
-  open Sizes (M .sizes) using (m, P)
+  open Sizes (M .sizes) using (m, p as P)
 
   pub written-is : (slots new : List ℕ) (count : ℕ) → new ≡ sum (λ t. part P t store) (take count slots) → take count slots ≡ writeSlots M pass block page marks
       → new ≡ writtenPage M pass block page (record { store = store; marks = marks })
@@ -75,7 +76,7 @@ module _ (M : Move) (pass : Pass) (block page : ℕ) (store marks work : List �
 
 -- ---- the other steps, and the step at a place
 pub erased : (M : Move) (block : ℕ) (store marks work store′ marks′ : List ℕ)
-    → Holds (eraseBlock (M .sizes .m) (M .sizes .P) block (record { store = store; marks = marks })) store′ marks′
+    → Holds (eraseBlock (M .sizes .m) (M .sizes .p) block (record { store = store; marks = marks })) store′ marks′
     → Leaves (perform M (erase block) (runningOf store marks work)) store′ marks′ work
 unfolding perform
 erased M block store marks work store′ marks′ H = record { store-is = H .store-is; marks-is = H .marks-is; work-is = refl }

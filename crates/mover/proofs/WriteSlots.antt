@@ -5,20 +5,21 @@ use mathlib.Core.List.{List, [], _∷_}
 use Prim.Native.Nat.{ℕ, suc, _+_, _*_, _≤_, _<_}
 use native.Mathlib.Omega.{arith}
 use Rattle.flash.specs.Lists.{concatMap}
-use Rattle.flash.specs.Geometry.{Sizes, numberAt, slotCount}
+use Rattle.flash.specs.declared.sizes.Sizes.{Sizes}
+use Rattle.flash.specs.Geometry.{numberAt, slotCount}
 use Rattle.method.specs.Move.{Move}
 use Rattle.method.specs.Cycle.{D, pred, isTop, coded, sentTo}
 use Rattle.method.specs.Place.{forward, backward, written}
 use Rattle.method.specs.Read.{readSlots}
 use Rattle.method.specs.State.{heldOriginals}
 use Rattle.method.specs.Step.{originalsOf, writeSlots}
-use Rattle.method.proofs.Each.{Each, each-cons, each-one}
-use Rattle.method.proofs.Orbit.{DataBlock}
-use Rattle.method.proofs.Cycles.{pred-in}
-use Rattle.walk.specs.Moving.{Given}
+use Rattle.method.proofs.basics.EachNumber.{Each, each-cons, each-one}
+use Rattle.method.proofs.cycles.Orbits.{DataBlock}
+use Rattle.method.proofs.cycles.SetCycles.{pred-in}
+use Rattle.walk.specs.inner.Moving.{Given}
 use Rattle.walk.proofs.CycleLaws.{accepted}
 use Rattle.walk.proofs.SlotLaws.{each-none, each-cond, each-append, page-lt, read-in}
-use Rattle.places.specs.Place.{passOf}
+use Rattle.places.specs.inner.Place.{passOf}
 use Rattle.mover.proofs.StepLaws.{sent-lt}
 
 module _ (M : Move) (G : Given M) (marks : List ℕ) where

@@ -2,17 +2,18 @@
 ghost use mathlib.Core.Path.{_≡_};
 ghost use Prim.Native.Nat.{_*_, _<_};
 ghost use lib.ListN.{length};
+ghost use Rattle.method.specs.Move.{moveOf};
 ghost use Rattle.method.specs.Read.{readSlots, readPage};
 ghost use Rattle.method.specs.Answers.{readAnswer};
-ghost use Rattle.walk.specs.Moving.{moveOf, Given};
-ghost use Rattle.mover.specs.Steps.{Lent};
-ghost use Rattle.mover.specs.Answers.{ReadIs};
+ghost use Rattle.walk.specs.inner.Moving.{Given};
+ghost use Rattle.mover.specs.inner.Steps.{Lent};
+ghost use Rattle.mover.specs.Answers.{readAs};
 use crate::refusals::move_refusal;
+use flash::sizes::Sizes;
 use flash::sizes::original_count;
 use recovery::marks::fits_none;
 use walk::cycles::follow;
 use walk::pages::sum_pages;
-use walk::sizes::Sizes;
 use walk::walk::read_slots;
 
 // What a read returns: the refusal number, and how many stored pages were summed, 0 with a refusal.
@@ -37,9 +38,11 @@ fn rebuild(
     work: &mut [u8],
     k: usize,
 ) -> usize
-    requires { ⌜ Given (moveOf z (now list) (now sets)) × Lent (moveOf z (now list) (now sets)) (now store) (now marks) (now work) × (k < z .n * z .m) ⌝ }
+    requires { ⌜ Given (moveOf z (now list) (now sets)) × Lent (moveOf z (now list) (now sets)) (now store) (now marks) (now work)
+        × (k < z .n * z .m) ⌝ }
     ensures { λ r. ⌜ (r ≡ length (readSlots (moveOf z (now (list .entry)) (now (sets .entry))) (now (marks .entry)) k)) × (r < 66) ⌝ }
-    ensures { λ _. ⌜ now (work .exit) ≡ readPage (moveOf z (now (list .entry)) (now (sets .entry))) (record { store = now (store .entry); marks = now (marks .entry) }) k ⌝ }
+    ensures { λ _. ⌜ now (work .exit) ≡ readPage (moveOf z (now (list .entry)) (now (sets .entry)))
+        (record { store = now (store .entry); marks = now (marks .entry) }) k ⌝ }
 {
     let mut pages = [0u8; 4096];
     let mut from = [0u8; 4096];
@@ -52,10 +55,7 @@ fn rebuild(
 
 // Read: checks in the table's order, then the sum. A refused read changes nothing that is lent.
 pub fn read(
-    n: usize,
-    m: usize,
-    p: usize,
-    s: usize,
+    z: Sizes,
     list: &[u16],
     sets: &[u8],
     store: &[u8],
@@ -63,23 +63,23 @@ pub fn read(
     work: &mut [u8],
     k: usize,
 ) -> Rebuilt
-    ensures { λ r. ⌜ ReadIs (readAnswer (moveOf (record { n = n; m = m; p = p; s = s }) (now (list .entry)) (now (sets .entry))) (record { store = now (store .entry); marks = now (marks .entry) }) (now (work .entry)) k) r (now (work .exit)) ⌝ }
+    ensures { λ r. ⌜ readAs r (now (work .exit))
+        ≡ readAnswer (moveOf z (now (list .entry)) (now (sets .entry))) (record { store = now (store .entry); marks = now (marks .entry) })
+        (now (work .entry)) k ⌝ }
 {
-    let number = move_refusal(n, m, p, s, list, sets, store, marks, work);
+    let number = move_refusal(z, list, sets, store, marks, work);
     if number != 0 {
         return refused(number);
     }
-    let unfit = fits_none(n, m, s, marks);
-    let beyond = original_count(n, m) <= k;
+    let unfit = fits_none(z, marks);
+    let beyond = original_count(z) <= k;
     if unfit {
         return refused(6);
     }
     if beyond {
         return refused(7);
     }
-    let count = rebuild(Sizes { n, m, p, s }, list, sets, store, marks, work, k);
-    Rebuilt {
-        number: 0,
-        count: count as u32,
-    }
+    let count = rebuild(z, list, sets, store, marks, work, k);
+    let count = count as u32;
+    Rebuilt { number: 0, count }
 }

@@ -3,21 +3,22 @@ ghost use mathlib.Core.Path.{_≡_};
 ghost use mathlib.Core.Bool.{cond};
 ghost use Prim.Native.Nat.{_+_, _≤_, min};
 ghost use lib.Dec.{eqb};
+ghost use Rattle.method.specs.Move.{moveOf};
 ghost use Rattle.method.specs.Place.{lastPlace};
 ghost use Rattle.method.specs.Step as method;
 ghost use Rattle.method.specs.Step.{tally, operationsFrom};
 ghost use Rattle.method.specs.Answers.{runCarriedOut, runAnswer};
-ghost use Rattle.walk.specs.Moving.{sizesOf, moveOf, Given, Tables};
-ghost use Rattle.mover.specs.Steps.{Lent, runningOf, Leaves, Counted};
-ghost use Rattle.mover.specs.Answers.{Answers};
+ghost use Rattle.walk.specs.inner.Moving.{Given, Tables};
+ghost use Rattle.mover.specs.inner.Steps.{Lent, runningOf, Leaves, Counted};
+ghost use Rattle.mover.specs.Answers.{ranAs};
 use crate::refusals::move_refusal;
 use crate::step::Tally;
 use crate::step::step;
+use flash::sizes::Sizes;
 use places::place::Place;
 use places::place::last_place;
 use places::stands::is_elsewhere;
 use walk::cycles::follow;
-use walk::sizes::Sizes;
 
 // What a run returns: the refusal number, and 0 in every other number with it. `finished` is 1, or 0 for stopped.
 pub struct Ran {
@@ -42,9 +43,13 @@ fn take_steps(
     place: usize,
     taken: usize,
 ) -> Tally
-    requires { ⌜ Tables (moveOf z (now list) (now sets)) (now pages) (now from) × Lent (moveOf z (now list) (now sets)) (now store) (now marks) (now work) × (place + taken ≤ lastPlace (sizesOf z)) ⌝ }
-    ensures { λ _. ⌜ Leaves (method.steps (moveOf z (now (list .entry)) (now (sets .entry))) taken place (runningOf (now (store .entry)) (now (marks .entry)) (now (work .entry)))) (now (store .exit)) (now (marks .exit)) (now (work .exit)) ⌝ }
-    ensures { λ r. ⌜ Counted (tally (operationsFrom (moveOf z (now (list .entry)) (now (sets .entry))) place taken)) (r .steps) (r .writes) (r .erases) ⌝ }
+    requires { ⌜ Tables (moveOf z (now list) (now sets)) (now pages) (now from)
+        × Lent (moveOf z (now list) (now sets)) (now store) (now marks) (now work) × (place + taken ≤ lastPlace z) ⌝ }
+    ensures { λ _. ⌜ Leaves (method.steps (moveOf z (now (list .entry)) (now (sets .entry))) taken place
+        (runningOf (now (store .entry)) (now (marks .entry)) (now (work .entry)))) (now (store .exit)) (now (marks .exit))
+        (now (work .exit)) ⌝ }
+    ensures { λ r. ⌜ Counted (tally (operationsFrom (moveOf z (now (list .entry)) (now (sets .entry))) place taken)) (r .steps) (r .writes)
+        (r .erases) ⌝ }
 {
     let mut at = Place { at: place };
     let mut steps: u32 = 0;
@@ -90,8 +95,11 @@ fn carry_out(
     place: usize,
     budget: usize,
 ) -> Ran
-    requires { ⌜ Given (moveOf z (now list) (now sets)) × Lent (moveOf z (now list) (now sets)) (now store) (now marks) (now work) × (place ≤ lastPlace (sizesOf z)) ⌝ }
-    ensures { λ r. ⌜ Answers (runCarriedOut (moveOf z (now (list .entry)) (now (sets .entry))) (record { store = now (store .entry); marks = now (marks .entry) }) (now (work .entry)) place budget) r (now (store .exit)) (now (marks .exit)) (now (work .exit)) ⌝ }
+    requires { ⌜ Given (moveOf z (now list) (now sets)) × Lent (moveOf z (now list) (now sets)) (now store) (now marks) (now work)
+        × (place ≤ lastPlace z) ⌝ }
+    ensures { λ r. ⌜ ranAs r (now (store .exit)) (now (marks .exit)) (now (work .exit))
+        ≡ runCarriedOut (moveOf z (now (list .entry)) (now (sets .entry))) (record { store = now (store .entry); marks = now (marks .entry) })
+        (now (work .entry)) place budget ⌝ }
 {
     let mut pages = [0u8; 4096];
     let mut from = [0u8; 4096];
@@ -122,7 +130,7 @@ fn carry_out(
 }
 
 fn refused(number: u32) -> Ran
-    ensures { λ r. ⌜ (r .number ≡ number) × (r .place ≡ 0) × (r .steps ≡ 0) × (r .writes ≡ 0) × (r .erases ≡ 0) × (r .finished ≡ 0) ⌝ }
+    ensures { λ r. ⌜ r ≡ record { number = number; place = 0; steps = 0; writes = 0; erases = 0; finished = 0 } ⌝ }
 {
     Ran {
         number,
@@ -136,10 +144,7 @@ fn refused(number: u32) -> Ran
 
 // The run: checks in the table's order, then the steps. A refused run changes nothing that is lent.
 pub fn run(
-    n: usize,
-    m: usize,
-    p: usize,
-    s: usize,
+    z: Sizes,
     list: &[u16],
     sets: &[u8],
     store: &mut [u8],
@@ -148,13 +153,14 @@ pub fn run(
     place: usize,
     budget: u32,
 ) -> Ran
-    ensures { λ r. ⌜ Answers (runAnswer (moveOf (record { n = n; m = m; p = p; s = s }) (now (list .entry)) (now (sets .entry))) (record { store = now (store .entry); marks = now (marks .entry) }) (now (work .entry)) place budget) r (now (store .exit)) (now (marks .exit)) (now (work .exit)) ⌝ }
+    ensures { λ r. ⌜ ranAs r (now (store .exit)) (now (marks .exit)) (now (work .exit))
+        ≡ runAnswer (moveOf z (now (list .entry)) (now (sets .entry))) (record { store = now (store .entry); marks = now (marks .entry) })
+        (now (work .entry)) place budget ⌝ }
 {
-    let number = move_refusal(n, m, p, s, list, sets, store, marks, work);
+    let number = move_refusal(z, list, sets, store, marks, work);
     if number != 0 {
         return refused(number);
     }
-    let z = Sizes { n, m, p, s };
     if is_elsewhere(z, store, marks, place) {
         return refused(5);
     }

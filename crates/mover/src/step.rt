@@ -4,14 +4,16 @@ ghost use mathlib.Core.Bool.{true, false};
 ghost use mathlib.Core.List.{[], _∷_};
 ghost use Prim.Native.Nat.{_+_, _*_, _≤_, _<_};
 ghost use lib.ListN.{length, take, drop};
+ghost use Rattle.method.specs.Move.{moveOf};
 ghost use Rattle.method.specs.Place.{operationAt, write as writing, markOf};
 ghost use Rattle.method.specs.Step as method;
 ghost use Rattle.method.specs.Step.{writeSlots, perform, tally};
-ghost use Rattle.walk.specs.Moving.{sizesOf, moveOf, Tables};
-ghost use Rattle.places.specs.Place.{passOf};
-ghost use Rattle.mover.specs.Steps.{Lent, runningOf, Leaves, Counted};
+ghost use Rattle.walk.specs.inner.Moving.{Tables};
+ghost use Rattle.places.specs.inner.Place.{passOf};
+ghost use Rattle.mover.specs.inner.Steps.{Lent, runningOf, Leaves, Counted};
 use flash::block::erase_block;
 use flash::page::write_page;
+use flash::sizes::Sizes;
 use flash::wide::wide;
 use places::place::Op;
 use places::place::Place;
@@ -19,7 +21,6 @@ use walk::cycles::is_top;
 use walk::cycles::page_of;
 use walk::cycles::sent_to;
 use walk::pages::sum_pages;
-use walk::sizes::Sizes;
 use walk::walk::read_slots;
 
 // What was done: steps, and of these writes and erases.
@@ -43,9 +44,12 @@ fn write_slots(
     page: usize,
     slots: &mut [usize],
 ) -> usize
-    requires { ⌜ Tables (moveOf z (now list) (now sets)) (now pages) (now from) × (length (now marks) ≡ (z .n + 1) * z .m) × (length (now slots) ≡ 130) ⌝ }
+    requires { ⌜ Tables (moveOf z (now list) (now sets)) (now pages) (now from) × (length (now marks) ≡ (z .n + 1) * z .m)
+        × (length (now slots) ≡ 130) ⌝ }
     requires { ⌜ (page < z .m) × (block ≤ z .n) × (backward ≡ true → 1 ≤ block) × (backward ≡ false → block + 1 ≤ z .n) ⌝ }
-    ensures { λ r. ⌜ (take r (now (slots .exit)) ≡ writeSlots (moveOf z (now (list .entry)) (now (sets .entry))) (passOf backward) block page (now (marks .entry))) × (1 ≤ r) × (r ≤ 130) × (drop r (now (slots .exit)) ≡ drop r (now (slots .entry))) ⌝ }
+    ensures { λ r. ⌜ (take r (now (slots .exit))
+        ≡ writeSlots (moveOf z (now (list .entry)) (now (sets .entry))) (passOf backward) block page (now (marks .entry))) × (1 ≤ r)
+        × (r ≤ 130) × (drop r (now (slots .exit)) ≡ drop r (now (slots .entry))) ⌝ }
 {
     if backward {
         let k = sent_to(z, list, sets, pages, from, block, page);
@@ -77,9 +81,13 @@ fn write(
     page: usize,
     mark: u8,
 )
-    requires { ⌜ Tables (moveOf z (now list) (now sets)) (now pages) (now from) × Lent (moveOf z (now list) (now sets)) (now store) (now marks) (now work) ⌝ }
-    requires { ⌜ (page < z .m) × (block ≤ z .n) × (backward ≡ true → 1 ≤ block) × (backward ≡ false → block + 1 ≤ z .n) × (mark ≡ markOf (sizesOf z) (passOf backward)) ⌝ }
-    ensures { λ _. ⌜ Leaves (perform (moveOf z (now (list .entry)) (now (sets .entry))) (writing (passOf backward) block page) (runningOf (now (store .entry)) (now (marks .entry)) (now (work .entry)))) (now (store .exit)) (now (marks .exit)) (now (work .exit)) ⌝ }
+    requires { ⌜ Tables (moveOf z (now list) (now sets)) (now pages) (now from)
+        × Lent (moveOf z (now list) (now sets)) (now store) (now marks) (now work) ⌝ }
+    requires { ⌜ (page < z .m) × (block ≤ z .n) × (backward ≡ true → 1 ≤ block) × (backward ≡ false → block + 1 ≤ z .n)
+        × (mark ≡ markOf z (passOf backward)) ⌝ }
+    ensures { λ _. ⌜ Leaves (perform (moveOf z (now (list .entry)) (now (sets .entry))) (writing (passOf backward) block page)
+        (runningOf (now (store .entry)) (now (marks .entry)) (now (work .entry)))) (now (store .exit)) (now (marks .exit))
+        (now (work .exit)) ⌝ }
 {
     let mut slots = [0usize; 130];
     let count = write_slots(
@@ -122,11 +130,14 @@ pub fn step(
     work: &mut [u8],
     place: Place,
 ) -> Tally
-    requires { ⌜ Tables (moveOf z (now list) (now sets)) (now pages) (now from) × Lent (moveOf z (now list) (now sets)) (now store) (now marks) (now work) ⌝ }
-    ensures { λ _. ⌜ Leaves (method.step (moveOf z (now (list .entry)) (now (sets .entry))) (place .at) (runningOf (now (store .entry)) (now (marks .entry)) (now (work .entry)))) (now (store .exit)) (now (marks .exit)) (now (work .exit)) ⌝ }
-    ensures { λ r. ⌜ Counted (tally (operationAt (sizesOf z) (place .at) ∷ [])) (r .steps) (r .writes) (r .erases) ⌝ }
+    requires { ⌜ Tables (moveOf z (now list) (now sets)) (now pages) (now from)
+        × Lent (moveOf z (now list) (now sets)) (now store) (now marks) (now work) ⌝ }
+    ensures { λ _. ⌜ Leaves (method.step (moveOf z (now (list .entry)) (now (sets .entry))) (place .at)
+        (runningOf (now (store .entry)) (now (marks .entry)) (now (work .entry)))) (now (store .exit)) (now (marks .exit))
+        (now (work .exit)) ⌝ }
+    ensures { λ r. ⌜ Counted (tally (operationAt z (place .at) ∷ [])) (r .steps) (r .writes) (r .erases) ⌝ }
 {
-    match place.operation(z.n, z.m, z.s) {
+    match place.operation(z) {
         Op::Write {
             backward,
             block,

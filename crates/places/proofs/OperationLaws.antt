@@ -5,12 +5,12 @@ use Prim.Native.Nat.{ℕ, _+_, _-_, _*_, _/_, _%_, _≤_, _<_}
 use native.Mathlib.Nat.{mod-lt}
 use native.Mathlib.Omega.{arith}
 use borrow.Author.Tests.{lt-ltb, le-ltb}
-use Rattle.flash.specs.Geometry.{Sizes}
-use Rattle.method.specs.Move.{letter}
+use Rattle.flash.specs.Geometry.{letter}
+use Rattle.flash.specs.declared.sizes.Sizes.{Sizes}
 use Rattle.method.specs.Place.{Pass, forward, backward, markOf, lastPlace, operationAt, passAt, filling, filled}
-use Rattle.method.proofs.Places.{nextBlock, forward-until, backward-from, backward-low, operation-writes, operation-erases, operation-done}
+use Rattle.method.proofs.places.StepsAtPlaces.{nextBlock, forward-until, backward-from, backward-low, operation-writes, operation-erases, operation-done}
 use Rattle.places.specs.declared.place.Op.the-variants.{Write, Erase, Done}
-use Rattle.places.specs.Place.{isBackward, opOf}
+use Rattle.places.specs.inner.Place.{isBackward, opOf}
 
 module _ (Z : Sizes) (at : ℕ) where
   open Sizes Z using (n, m, s)

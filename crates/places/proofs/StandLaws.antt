@@ -10,19 +10,20 @@ use lib.Dec.{eqb, ltb}
 use lib.ListN.{length}
 use borrow.Author.Tests.{eqb-true, eq-eqb, ne-eqb, lt-ltb, le-ltb}
 use Rattle.flash.specs.Lists.{range, all, any, isSame}
-use Rattle.flash.specs.Geometry.{Sizes, slot, slotCount}
+use Rattle.flash.specs.declared.sizes.Sizes.{Sizes}
+use Rattle.flash.specs.Geometry.{slot, slotCount, letter}
 use Rattle.flash.specs.Chip.{Chip, erased, markAt, isBlank, isFull}
 use Rattle.flash.proofs.Bools.{never-both, bool-eq}
 use Rattle.flash.proofs.Ranges.{all-in, all-is, all-not}
 use Rattle.flash.proofs.Same.{eq-same, ne-same}
 use Rattle.flash.proofs.Comparisons.{lt-cases}
-use Rattle.method.specs.Move.{Move, letter}
+use Rattle.method.specs.Move.{Move}
 use Rattle.method.specs.Place.{Pass, forward, backward, lastPlace, passAt, filling, filled, Held, code, written, above, heldAt, heldMark, marksOf}
 use Rattle.method.specs.Answers.{isElsewhere}
-use Rattle.method.proofs.Places.{pages-in, forward-until, backward-from}
-use Rattle.method.proofs.Held.{held-below, held-above, held-written, held-blank, MarksAt, marksOf-at, marks-eq}
-use Rattle.places.specs.Stands.{MarksDue, blockStands}
-use Rattle.walk.proofs.WalkLaws.{none-full}
+use Rattle.method.proofs.places.StepsAtPlaces.{pages-in, forward-until, backward-from}
+use Rattle.method.proofs.places.PagesHeld.{held-below, held-above, held-written, held-blank, MarksAt, marksOf-at, marks-eq}
+use Rattle.places.specs.inner.Stands.{MarksDue, blockStands}
+use Rattle.flash.proofs.Ranges.{none-full}
 
 module _ (Z : Sizes) (place : ℕ) where
   open Sizes Z using (n, m, s)
@@ -158,6 +159,6 @@ module _ (M : Move) (chip : Chip) (place : ℕ) where
   other-marks h e = rw (le-ltb (lastPlace (M .sizes)) place h, e) refl
 
   pub else-torn : place ≤ lastPlace (M .sizes) → isSame (chip .marks) (marksOf (M .sizes) place) ≡ true
-      → any (torn (M .sizes .P) chip) (range 0 (slotCount (M .sizes))) ≡ isElsewhere M chip place
+      → any (torn (M .sizes .p) chip) (range 0 (slotCount (M .sizes))) ≡ isElsewhere M chip place
   unfolding isElsewhere
   else-torn h e = rw (le-ltb (lastPlace (M .sizes)) place h, e) refl

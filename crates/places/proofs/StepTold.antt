@@ -4,27 +4,14 @@ use mathlib.Core.Logic.{⊎-elim}
 use mathlib.Core.Bool.{Bool, true, false}
 use Prim.Native.Nat.{ℕ, _+_, _≤_, _<_}
 use native.Mathlib.Omega.{arith}
-use Rattle.flash.specs.Geometry.{Sizes}
+use Rattle.flash.specs.declared.sizes.Sizes.{Sizes}
 use Rattle.flash.proofs.Comparisons.{lt-cases}
-use Rattle.method.specs.Move.{letter}
-use Rattle.method.specs.Place.{Pass, forward, backward, Operation, write, erase, done, markOf, writes, forwardTurn, backwardTurn, operations, lastPlace, operationAt, passAt, filling, filled}
-use Rattle.method.proofs.Indexes.{clash}
-use Rattle.method.proofs.Places.{nextBlock, backward-low, forward-high, operation-done}
-use Rattle.method.proofs.Held.{Change, by-write, by-erase, change}
+use Rattle.method.specs.Place.{Pass, forward, backward, Operation, write, erase, done, markOf, lastPlace, operationAt, passAt, filling, filled}
+use Rattle.method.proofs.basics.Indexes.{clash}
+use Rattle.method.proofs.places.StepsAtPlaces.{nextBlock, backward-low, forward-high, operation-done}
+use Rattle.method.proofs.places.PagesHeld.{Change, by-write, by-erase, change}
 use Rattle.places.specs.declared.place.Op.the-variants.{Write, Erase, Done}
-use Rattle.places.specs.Place.{opOf, passOf}
-
--- P does not enter
-pub op-any : (n m P Q s at : ℕ) → (let Z : Sizes = record { n = n; m = m; P = P; s = s } in let Y : Sizes = record { n = n; m = m; P = Q; s = s } in
-    opOf Z (operationAt Z at) ≡ opOf Y (operationAt Y at))
-unfolding operationAt operations forwardTurn backwardTurn writes markOf letter
-op-any n m P Q s at = by-op (operationAt (record { n = n; m = m; P = P; s = s }) at)
-  where
-    by-op : (op : Operation) → opOf (record { n = n; m = m; P = P; s = s }) op ≡ opOf (record { n = n; m = m; P = Q; s = s }) op
-    by-op (write forward b q) = refl
-    by-op (write backward b q) = refl
-    by-op (erase b) = refl
-    by-op done = refl
+use Rattle.places.specs.inner.Place.{opOf, passOf}
 
 module _ (Z : Sizes) where
   open Sizes Z using (n, m)

@@ -3,7 +3,8 @@ use mathlib.Core.Path.{_≡_}
 use mathlib.Core.Bool.{true, false}
 use Prim.Native.Nat.{ℕ}
 use lib.Dec.{ltb}
-use Rattle.flash.specs.Geometry.{Sizes, inRange}
+use Rattle.flash.specs.declared.sizes.Sizes.{Sizes}
+use Rattle.flash.specs.Geometry.{inRange}
 use Rattle.method.specs.Place.{Operation, operationAt, lastPlace}
 use Rattle.places.specs.Operation.{toldOf, operationAnswer}
 

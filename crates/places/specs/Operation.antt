@@ -2,7 +2,8 @@
 use mathlib.Core.Bool.{cond, not}
 use Prim.Native.Nat.{ℕ}
 use lib.Dec.{ltb}
-use Rattle.flash.specs.Geometry.{Sizes, inRange}
+use Rattle.flash.specs.declared.sizes.Sizes.{Sizes}
+use Rattle.flash.specs.Geometry.{inRange}
 use Rattle.method.specs.Place.{Operation, write, erase, done, markOf, operationAt, lastPlace}
 use Rattle.places.specs.declared.operation.Told.{Told}
 

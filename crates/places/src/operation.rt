@@ -4,8 +4,8 @@ ghost use Rattle.places.specs.Operation.{operationAnswer};
 use crate::place::Op;
 use crate::place::Place;
 use crate::place::last_place;
+use flash::sizes::Sizes;
 use flash::sizes::in_range;
-use walk::sizes::Sizes;
 
 // The refusal number, or 0; the kind: 0 for a write, 1 for an erase, 2 where no step is left; the block, the page and its mark.
 // A number that does not apply is 0.
@@ -29,18 +29,18 @@ fn refused(number: u32) -> Told
     }
 }
 
-// The step at a place of a move with these sizes. Pages' bytes do not enter, so any length of a page will do.
-pub fn operation(n: usize, m: usize, s: usize, place: usize) -> Told
-    ensures { λ r. ⌜ r ≡ operationAnswer (record { n = n; m = m; P = 1; s = s }) place ⌝ }
+// The step at a place of a move with these sizes.
+pub fn operation(z: Sizes, place: usize) -> Told
+    ensures { λ r. ⌜ r ≡ operationAnswer z place ⌝ }
 {
-    if !in_range(n, m, 1, s) {
+    if !in_range(z) {
         return refused(1);
     }
-    if last_place(Sizes { n, m, p: 1, s }) < place {
+    if last_place(z) < place {
         return refused(5);
     }
     let here = Place { at: place };
-    match here.operation(n, m, s) {
+    match here.operation(z) {
         Op::Write {
             backward: _,
             block,

@@ -3,10 +3,9 @@
 ghost use mathlib.Core.Path.{_≡_};
 ghost use Prim.Native.Nat.{_+_, _≤_, _<_};
 ghost use Rattle.method.specs.Place.{operationAt, lastPlace};
-ghost use Rattle.walk.specs.Moving.{sizesOf};
-ghost use Rattle.places.specs.Place.{opOf};
-use walk::letters::letter_after;
-use walk::sizes::Sizes;
+ghost use Rattle.places.specs.inner.Place.{opOf};
+use flash::sizes::Sizes;
+use flash::sizes::letter_after;
 
 // What is to be done at a place.
 pub enum Op {
@@ -28,11 +27,13 @@ pub struct Place {
 }
 
 impl Place {
-    pub fn operation(self, n: usize, m: usize, s: usize) -> Op
-        requires { ⌜ (1 ≤ n) × (n ≤ 64) × (1 ≤ m) × (m ≤ 64) × (s < 3) ⌝ }
-        ensures { λ r. ⌜ r ≡ opOf (record { n = n; m = m; P = 0; s = s }) (operationAt (record { n = n; m = m; P = 0; s = s }) (self .at)) ⌝ }
+    pub fn operation(self, z: Sizes) -> Op
+        requires { ⌜ (1 ≤ z .n) × (z .n ≤ 64) × (1 ≤ z .m) × (z .m ≤ 64) × (z .s < 3) ⌝ }
+        ensures { λ r. ⌜ r ≡ opOf z (operationAt z (self .at)) ⌝ }
     {
         let at = self.at;
+        let n = z.n;
+        let m = z.m;
         let turn = m + 1;
         let half = n * turn;
         let page = at % turn;
@@ -43,7 +44,7 @@ impl Place {
                     backward: false,
                     block,
                     page,
-                    mark: letter_after(s, 1),
+                    mark: letter_after(z, 1),
                 };
             }
             return Op::Erase { block: block + 1 };
@@ -55,7 +56,7 @@ impl Place {
                     backward: true,
                     block,
                     page,
-                    mark: letter_after(s, 2),
+                    mark: letter_after(z, 2),
                 };
             }
             return Op::Erase { block: block - 1 };
@@ -74,7 +75,7 @@ impl Place {
 // The place after the last step.
 pub fn last_place(z: Sizes) -> usize
     requires { ⌜ (z .n ≤ 64) × (z .m ≤ 64) ⌝ }
-    ensures { λ r. ⌜ r ≡ lastPlace (sizesOf z) ⌝ }
+    ensures { λ r. ⌜ r ≡ lastPlace z ⌝ }
 {
     2 * z.n * (z.m + 1)
 }

@@ -5,24 +5,24 @@ ghost use mathlib.Core.List.{List};
 ghost use Prim.Native.Nat.{ℕ, _+_, _*_, _≤_, _<_};
 ghost use lib.Dec.{eqb, ltb};
 ghost use lib.ListN.{length};
+ghost use Rattle.method.specs.Move.{moveOf};
 ghost use Rattle.flash.specs.Lists.{range, any, isSame};
 ghost use Rattle.flash.specs.Chip.{erased, markAt, isBlank};
 ghost use Rattle.method.specs.Place as method;
 ghost use Rattle.method.specs.Place.{lastPlace, marksOf};
 ghost use Rattle.method.specs.Answers.{isElsewhere};
-ghost use Rattle.walk.specs.Moving.{sizesOf, moveOf};
-ghost use Rattle.places.specs.Stands.{Within, MarksDue, blockStands};
+ghost use Rattle.places.specs.inner.Stands.{Within, MarksDue, blockStands};
 use crate::place::last_place;
 use flash::ERASED;
 use flash::block::is_full;
 use flash::page::is_blank;
-use walk::letters::letter_after;
-use walk::sizes::Sizes;
+use flash::sizes::Sizes;
+use flash::sizes::letter_after;
 
 // The block that is being filled at a place.
 fn filling(z: Sizes, place: usize) -> usize
-    requires { ⌜ Within (sizesOf z) × (place ≤ lastPlace (sizesOf z)) ⌝ }
-    ensures { λ r. ⌜ r ≡ method.filling (sizesOf z) place ⌝ }
+    requires { ⌜ Within z × (place ≤ lastPlace z) ⌝ }
+    ensures { λ r. ⌜ r ≡ method.filling z place ⌝ }
 {
     let turn = z.m + 1;
     let half = z.n * turn;
@@ -40,38 +40,38 @@ struct Due {
 }
 
 fn marks_due(z: Sizes, place: usize, block: usize) -> Due
-    requires { ⌜ Within (sizesOf z) × (place ≤ lastPlace (sizesOf z)) ⌝ }
-    ensures { λ r. ⌜ MarksDue (sizesOf z) place block (r .letter) (r .written) ⌝ }
+    requires { ⌜ Within z × (place ≤ lastPlace z) ⌝ }
+    ensures { λ r. ⌜ MarksDue z place block (r .letter) (r .written) ⌝ }
 {
     let m = z.m;
     let b = filling(z, place);
     let filled = place % (m + 1);
     if block < b {
         return Due {
-            letter: letter_after(z.s, 1),
+            letter: letter_after(z, 1),
             written: m,
         };
     }
     if place < z.n * (m + 1) {
         if b < block {
             return Due {
-                letter: letter_after(z.s, 0),
+                letter: letter_after(z, 0),
                 written: m,
             };
         }
         return Due {
-            letter: letter_after(z.s, 1),
+            letter: letter_after(z, 1),
             written: filled,
         };
     }
     if b < block {
         return Due {
-            letter: letter_after(z.s, 2),
+            letter: letter_after(z, 2),
             written: m,
         };
     }
     Due {
-        letter: letter_after(z.s, 2),
+        letter: letter_after(z, 2),
         written: filled,
     }
 }
@@ -85,8 +85,8 @@ fn mark_due(letter: u8, written: usize, page: usize) -> u8
 
 // Whether a block has the marks that it has at a place. All blocks but one are full of a letter, which is tested faster.
 fn block_stands(z: Sizes, marks: &[u8], place: usize, block: usize) -> bool
-    requires { ⌜ Within (sizesOf z) × (place ≤ lastPlace (sizesOf z)) × (block * z .m + z .m ≤ length (now marks)) ⌝ }
-    ensures { λ r. ⌜ r ≡ blockStands (sizesOf z) (now (marks .entry)) place block ⌝ }
+    requires { ⌜ Within z × (place ≤ lastPlace z) × (block * z .m + z .m ≤ length (now marks)) ⌝ }
+    ensures { λ r. ⌜ r ≡ blockStands z (now (marks .entry)) place block ⌝ }
 {
     let m = z.m;
     let due = marks_due(z, place, block);
@@ -107,8 +107,8 @@ fn block_stands(z: Sizes, marks: &[u8], place: usize, block: usize) -> bool
 
 // Whether the marks are those that the place has.
 fn marks_stand(z: Sizes, marks: &[u8], place: usize) -> bool
-    requires { ⌜ Within (sizesOf z) × (place ≤ lastPlace (sizesOf z)) × (length (now marks) ≡ (z .n + 1) * z .m) ⌝ }
-    ensures { λ r. ⌜ r ≡ isSame (now (marks .entry)) (marksOf (sizesOf z) place) ⌝ }
+    requires { ⌜ Within z × (place ≤ lastPlace z) × (length (now marks) ≡ (z .n + 1) * z .m) ⌝ }
+    ensures { λ r. ⌜ r ≡ isSame (now (marks .entry)) (marksOf z place) ⌝ }
 {
     let mut block = 0;
     while block <= z.n {
@@ -123,7 +123,8 @@ fn marks_stand(z: Sizes, marks: &[u8], place: usize) -> bool
 // Whether a slot marked 255 is not blank.
 fn some_torn(p: usize, store: &[u8], marks: &[u8]) -> bool
     requires { ⌜ length (now store) ≡ length (now marks) * p ⌝ }
-    ensures { λ r. ⌜ r ≡ any (λ t. eqb (markAt (now (marks .entry)) t) erased && not (isBlank p (record { store = now (store .entry); marks = now (marks .entry) }) t)) (range 0 (length (now (marks .entry)))) ⌝ }
+    ensures { λ r. ⌜ r ≡ any (λ t. eqb (markAt (now (marks .entry)) t) erased && not
+        (isBlank p (record { store = now (store .entry); marks = now (marks .entry) }) t)) (range 0 (length (now (marks .entry)))) ⌝ }
 {
     let mut t = 0;
     while t < marks.len() {
@@ -139,8 +140,9 @@ fn some_torn(p: usize, store: &[u8], marks: &[u8]) -> bool
 
 // The three grounds of number 5.
 pub fn is_elsewhere(z: Sizes, store: &[u8], marks: &[u8], place: usize) -> bool
-    requires { ⌜ Within (sizesOf z) × (length (now marks) ≡ (z .n + 1) * z .m) × (length (now store) ≡ (z .n + 1) * z .m * z .p) ⌝ }
-    ensures { λ r. ⌜ ((list sets : List ℕ) → r ≡ isElsewhere (moveOf z list sets) (record { store = now (store .entry); marks = now (marks .entry) }) place) ⌝ }
+    requires { ⌜ Within z × (length (now marks) ≡ (z .n + 1) * z .m) × (length (now store) ≡ (z .n + 1) * z .m * z .p) ⌝ }
+    ensures { λ r. ⌜ ((list sets : List ℕ) → r
+        ≡ isElsewhere (moveOf z list sets) (record { store = now (store .entry); marks = now (marks .entry) }) place) ⌝ }
 {
     if last_place(z) < place {
         return true;

@@ -9,17 +9,17 @@ use native.Mathlib.Omega.{arith}
 use lib.Dec.{eqb, ltb}
 use lib.ListN.{length, getD}
 use borrow.Author.Tests.{eqb-true, eqb-false, ltb-true, ltb-false}
+use Rattle.flash.specs.Geometry.{letter}
 use Rattle.flash.specs.Lists.{range}
 use Rattle.flash.specs.Tables.{Row, firstFit}
-use Rattle.flash.specs.Geometry.{Sizes}
+use Rattle.flash.specs.declared.sizes.Sizes.{Sizes}
 use Rattle.flash.specs.Chip.{isMark, isFull, isUnfinished}
 use Rattle.flash.proofs.Bools.{bool-cases, never-both}
 use Rattle.flash.proofs.Searches.{all-fails}
 use Rattle.flash.proofs.Ranges.{all-is}
 use Rattle.flash.proofs.Blocks.{full-same, full-finished}
-use Rattle.method.specs.Move.{letter}
 use Rattle.method.specs.Mend.{Reading, fullFrom, forwardTorn, backwardTorn, forwardFull, backwardFull, lines, legalMarks, reading}
-use Rattle.method.proofs.MendLines.{full, Torn, Filled, Fit, torn-forth, torn-back, full-forth, full-back, finished, fit, agree}
+use Rattle.method.proofs.recovery.LinesAgree.{full, Torn, Filled, Fit, torn-forth, torn-back, full-forth, full-back, finished, fit, agree}
 
 -- the row that decides a table
 record Hit (rows : List (Row Reading)) : Type 0 where

@@ -9,20 +9,15 @@ use native.Mathlib.Omega.{arith}
 use lib.Dec.{eqb, ltb}
 use lib.ListN.{length, getD}
 use borrow.Author.Tests.{eqb-true, eqb-false, ltb-true, ltb-false, lt-ltb, not-true, not-false}
-use Rattle.flash.specs.Geometry.{Sizes, isLetter, slot}
+use Rattle.flash.specs.declared.sizes.Sizes.{Sizes}
+use Rattle.flash.specs.Geometry.{isLetter, slot, letter}
 use Rattle.flash.specs.Chip.{erased, isMark, markAt, isFull, isUnfinished}
 use Rattle.flash.proofs.Bools.{bool-cases, never-both, both, or-cases, or-false-left, or-false-right}
 use Rattle.flash.proofs.Searches.{all-of}
 use Rattle.flash.proofs.Blocks.{mark-is, first-mark, full-at, full-same, full-of, not-full, unfinished-first}
-use Rattle.method.specs.Move.{letter}
 use Rattle.method.specs.Mend.{legalMarks, reading}
-use Rattle.recovery.specs.Found.{pagesKnown}
+use Rattle.recovery.specs.inner.Gathered.{pagesKnown}
 use Rattle.recovery.proofs.Reading.{reads-none, torn-between, other-above}
-
--- the letters do not depend on the other sizes
-pub letter-same : (n m s i : ℕ) → letter (record { n = 0; m = 0; P = 0; s = s }) i ≡ letter (record { n = n; m = m; P = 0; s = s }) i
-unfolding letter
-letter-same n m s i = refl
 
 module _ (Z : Sizes) (marks : List ℕ) where
   open Sizes Z using (n, m)

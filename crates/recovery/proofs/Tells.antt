@@ -8,16 +8,17 @@ use Prim.Native.Nat.{ℕ, _+_, _-_, _*_, _≤_, _<_}
 use native.Mathlib.Omega.{arith}
 use lib.Dec.{eqb, ltb}
 use borrow.Author.Tests.{eqb-true, eqb-false, ne-eqb, ltb-true, ltb-false}
-use Rattle.flash.specs.Geometry.{Sizes}
+use Rattle.flash.specs.Geometry.{letter}
+use Rattle.flash.specs.declared.sizes.Sizes.{Sizes}
 use Rattle.flash.proofs.Bools.{bool-cases, or-cases, or-false-left, or-false-right}
-use Rattle.method.specs.Move.{letter}
 use Rattle.method.specs.Mend.{Reading, forwardTorn, backwardTorn, forwardFull, backwardFull, legalMarks, reading}
 use Rattle.method.specs.Answers.{MarksAnswer, marksAnswer}
-use Rattle.method.proofs.MendLines as lines
-use Rattle.method.proofs.MendLines.{Filled}
+use Rattle.method.proofs.recovery.LinesAgree as lines
+use Rattle.method.proofs.recovery.LinesAgree.{Filled}
 use Rattle.recovery.specs.declared.marks.Found.{Found}
 use Rattle.recovery.specs.declared.marks.Found.the-variants.{Nothing, Full, Torn}
-use Rattle.recovery.specs.Found.{answerOf, readingOf, foundAt}
+use Rattle.recovery.specs.Found.{answerOf, readingOf}
+use Rattle.recovery.specs.inner.Gathered.{foundAt}
 use Rattle.recovery.proofs.Reading.{reads-forward-torn, reads-backward-torn, reads-forward-full, reads-backward-full, reads-none, torn-between, under-below, other-above}
 use Rattle.recovery.proofs.Search.{Upto, change-in}
 

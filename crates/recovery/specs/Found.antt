@@ -1,11 +1,5 @@
--- How the search's answer is read as what document 01 says of the marks.
-use mathlib.Core.Bool.{Bool, cond, _&&_, _||_, not}
-use mathlib.Core.List.{List}
+-- What each case of the code's enum stands for: document 01's number and values.
 use mathlib.Core.Option.{Option, none, some}
-use Prim.Native.Nat.{ℕ, _+_, _-_, _*_}
-use lib.Dec.{eqb, ltb}
-use Rattle.flash.specs.Geometry.{isLetter}
-use Rattle.flash.specs.Chip.{isFull}
 use Rattle.method.specs.Mend.{Reading}
 use Rattle.method.specs.Answers.{MarksAnswer}
 use Rattle.recovery.specs.declared.marks.Found.{Found}
@@ -19,15 +13,3 @@ answerOf (Torn place block) = record { number = 0; told = some (record { place =
 
 abbrev pub readingOf : Found → Option Reading
 readingOf found = answerOf found .told
-
--- how many pages of a block are known at once to bear a letter: all, if it is full of this letter
-unfoldable pub pagesKnown : (m : ℕ) → (marks : List ℕ) → (block letter : ℕ) → ℕ
-pagesKnown m marks block letter = cond (isLetter letter && isFull m marks block letter) m 0
-
--- What `found_at` makes of the gathered numbers: the four lines of document 01, "The cut". `turn` counts the forward turns and
--- then the backward ones, each of m writes and an erase.
-unfoldable pub foundAt : (n m : ℕ) (forward : Bool) (unfinished torn change : ℕ) → Found
-foundAt n m forward unfinished torn change =
-    cond (eqb unfinished 0)
-    (cond (eqb change 0 || ltb n change) Nothing (let turn = cond forward (change - 1) (2 * n - change) in Full (turn * (m + 1) + m)))
-    (cond (eqb unfinished 2 || not (eqb (torn + 1) change)) Nothing (let turn = cond forward torn (2 * n - torn) in Torn (turn * (m + 1)) torn))

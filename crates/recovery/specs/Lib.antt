@@ -1,2 +1,3 @@
 pub mod Found
-pub mod MendIs
+pub mod Answered
+pub mod inner

@@ -3,14 +3,17 @@
 ghost use mathlib.Core.Path.{_≡_};
 ghost use Prim.Native.Nat.{_+_, _*_, _≤_, _<_};
 ghost use lib.ListN.{length};
+ghost use Rattle.flash.specs.Geometry.{slotCount};
 ghost use Rattle.flash.specs.Chip.{isMark};
 ghost use Rattle.method.specs.Mend.{reading};
 ghost use Rattle.method.specs.Answers.{marksAnswer, fitsNone};
-ghost use Rattle.recovery.specs.Found.{answerOf, pagesKnown, foundAt};
+ghost use Rattle.recovery.specs.Found.{answerOf};
+ghost use Rattle.recovery.specs.inner.Gathered.{pagesKnown, foundAt};
 use flash::ERASED;
-use flash::block::NO_LETTER;
+use flash::LETTERS;
 use flash::block::is_full;
-use walk::letters::letter_after;
+use flash::sizes::Sizes;
+use flash::sizes::letter_after;
 
 // What the marks tell; `answerOf` in specs/ lists the number and the values of each case.
 pub enum Found {
@@ -26,7 +29,7 @@ pub enum Found {
 pub fn is_mark(mark: u8) -> bool
     ensures { λ r. ⌜ r ≡ isMark mark ⌝ }
 {
-    (mark < NO_LETTER) | (mark == ERASED)
+    (mark < LETTERS) | (mark == ERASED)
 }
 
 // How many pages of a block need not be looked at one by one: all, if it is full of this letter.
@@ -34,7 +37,7 @@ fn pages_known(marks: &[u8], m: usize, block: usize, letter: u8) -> usize
     requires { ⌜ block * m + m ≤ length (now marks) ⌝ }
     ensures { λ r. ⌜ r ≡ pagesKnown m (now (marks .entry)) block letter ⌝ }
 {
-    if letter < NO_LETTER {
+    if letter < LETTERS {
         if is_full(marks, m, block, letter) {
             return m;
         }
@@ -75,15 +78,17 @@ pub fn found_at(
 
 // Reads the marks. Blocks that are full bear s + 1 below block `change`, and one other letter, `top`, from there on. The search
 // ends at the second unfinished block, and at anything else that fits no moment of the move.
-pub fn read_marks(n: usize, m: usize, s: usize, marks: &[u8]) -> Found
-    requires { ⌜ (n ≤ 64) × (0 < m) × (m ≤ 64) × (s < 3) ⌝ }
-    requires { ⌜ length (now marks) ≡ (n + 1) * m ⌝ }
-    ensures { λ r. ⌜ answerOf r ≡ marksAnswer (reading (record { n = n; m = m; P = 0; s = s }) (now (marks .entry))) ⌝ }
+pub fn read_marks(z: Sizes, marks: &[u8]) -> Found
+    requires { ⌜ (z .n ≤ 64) × (0 < z .m) × (z .m ≤ 64) × (z .s < 3) ⌝ }
+    requires { ⌜ length (now marks) ≡ slotCount z ⌝ }
+    ensures { λ r. ⌜ answerOf r ≡ marksAnswer (reading z (now (marks .entry))) ⌝ }
 {
+    let n = z.n;
+    let m = z.m;
     let blocks = n + 1;
     let mut unfinished: usize = 0;
     let mut torn = 0;
-    let mut top = letter_after(s, 1);
+    let mut top = letter_after(z, 1);
     let mut change = blocks;
     'search: for block in 0..blocks {
         let first = block * m;
@@ -112,16 +117,16 @@ pub fn read_marks(n: usize, m: usize, s: usize, marks: &[u8]) -> Found
             change = block;
         }
     }
-    found_at(n, m, top == letter_after(s, 0), unfinished, torn, change)
+    found_at(n, m, top == letter_after(z, 0), unfinished, torn, change)
 }
 
 // Whether the marks fit no moment of the move: number 6.
-pub fn fits_none(n: usize, m: usize, s: usize, marks: &[u8]) -> bool
-    requires { ⌜ (n ≤ 64) × (0 < m) × (m ≤ 64) × (s < 3) ⌝ }
-    requires { ⌜ length (now marks) ≡ (n + 1) * m ⌝ }
-    ensures { λ r. ⌜ r ≡ fitsNone (reading (record { n = n; m = m; P = 0; s = s }) (now (marks .entry))) ⌝ }
+pub fn fits_none(z: Sizes, marks: &[u8]) -> bool
+    requires { ⌜ (z .n ≤ 64) × (0 < z .m) × (z .m ≤ 64) × (z .s < 3) ⌝ }
+    requires { ⌜ length (now marks) ≡ slotCount z ⌝ }
+    ensures { λ r. ⌜ r ≡ fitsNone (reading z (now (marks .entry))) ⌝ }
 {
-    match read_marks(n, m, s, marks) {
+    match read_marks(z, marks) {
         Found::Nothing => true,
         Found::Full { place: _ } => false,
         Found::Torn { place: _, block: _ } => false,

@@ -1,10 +1,12 @@
 // Mend: the recovery after a cut.
 
 ghost use mathlib.Core.Path.{_≡_};
-ghost use Rattle.recovery.specs.MendIs.{MendIs};
+ghost use Rattle.method.specs.Answers.{mendAnswer};
+ghost use Rattle.recovery.specs.Answered.{answered};
 use crate::marks::Found;
 use crate::marks::read_marks;
 use flash::block::erase_block;
+use flash::sizes::Sizes;
 use flash::sizes::in_range;
 use flash::sizes::slot_count;
 use flash::sizes::store_length;
@@ -28,16 +30,17 @@ fn refused(number: usize) -> Mended
 
 // Reads the marks and erases the unfinished block, if there is one. The refusals are looked for in the table's order, so that
 // no length is computed from sizes out of range.
-pub fn mend(n: usize, m: usize, p: usize, s: usize, store: &mut [u8], marks: &mut [u8]) -> Mended
-    ensures { λ r. ⌜ MendIs (record { n = n; m = m; P = p; s = s }) (record { store = now (store .entry); marks = now (marks .entry) }) r (now (store .exit)) (now (marks .exit)) ⌝ }
+pub fn mend(z: Sizes, store: &mut [u8], marks: &mut [u8]) -> Mended
+    ensures { λ r. ⌜ answered r (now (store .exit)) (now (marks .exit))
+        ≡ mendAnswer z (record { store = now (store .entry); marks = now (marks .entry) }) ⌝ }
 {
-    if !in_range(n, m, p, s) {
+    if !in_range(z) {
         return refused(1);
     }
-    if (store.len() != store_length(n, m, p)) | (marks.len() != slot_count(n, m)) {
+    if (store.len() != store_length(z)) | (marks.len() != slot_count(z)) {
         return refused(2);
     }
-    match read_marks(n, m, s, marks) {
+    match read_marks(z, marks) {
         Found::Nothing => refused(6),
         Found::Full { place } => Mended {
             number: 0,
@@ -45,7 +48,7 @@ pub fn mend(n: usize, m: usize, p: usize, s: usize, store: &mut [u8], marks: &mu
             erases: 0,
         },
         Found::Torn { place, block } => {
-            erase_block(store, marks, m, p, block);
+            erase_block(store, marks, z.m, z.p, block);
             Mended {
                 number: 0,
                 place,

@@ -1,5 +1,5 @@
 -- The refusals of the split call, row by row.
-use mathlib.Core.Path.{_≡_, sym, _∙_}
+use mathlib.Core.Path.{_≡_}
 use mathlib.Core.Logic.{_≢_}
 use mathlib.Core.Bool.{true, false, not, _||_}
 use mathlib.Core.List.{List}
@@ -9,11 +9,12 @@ use lib.Dec.{eqb}
 use lib.ListN.{length}
 use borrow.Author.Tests.{eqb-true, eq-eqb, ne-eqb, not-true, not-false}
 use Rattle.flash.specs.Tables.{firstFit, numberOr0, refusal}
-use Rattle.flash.specs.Geometry.{Sizes, inRange, originalCount}
+use Rattle.flash.specs.declared.sizes.Sizes.{Sizes}
+use Rattle.flash.specs.Geometry.{inRange, originalCount}
 use Rattle.split.specs.OneToOne.{badList, isOneToOne}
 use Rattle.split.specs.Rule.{splitByRule}
-use Rattle.split.specs.Answer.{splitRows, splitAnswer, SplitAnswered}
-use Rattle.split.specs.Accepted.{Accepted}
+use Rattle.split.specs.Answer.{splitRows, splitAnswer}
+use Rattle.split.specs.inner.Accepted.{Accepted}
 use Rattle.flash.proofs.Bools.{or-false-left, or-false-right}
 use Rattle.flash.proofs.Bounds.{in-range, product-le}
 use Rattle.flash.proofs.Tables.{refusal-zero}
@@ -111,16 +112,11 @@ module _ (Z : Sizes) (list sets : List ℕ) where
 
   pub answered-0 : (number : ℕ) (sets′ : List ℕ) → number ≡ refusal (splitRows Z list sets) → number ≡ 0
       → sets′ ≡ splitByRule (Z .n) (Z .m) list
-      → SplitAnswered Z list sets number sets′
+      → record { number = number; sets = sets′ } ≡ splitAnswer Z list sets
   unfolding splitAnswer
-  answered-0 number sets′ e z s = record { number-is = e; sets-are = s ∙ sym filled }
-    where
-      filled : splitAnswer Z list sets .sets ≡ splitByRule (Z .n) (Z .m) list
-      filled = rw (eq-eqb (refusal (splitRows Z list sets)) 0 (sym e ∙ z))
+  answered-0 number sets′ e z s = rw (← e, eq-eqb number 0 z, s)
 
-  pub answered-refused : (number : ℕ) → number ≡ refusal (splitRows Z list sets) → number ≢ 0 → SplitAnswered Z list sets number sets
+  pub answered-refused : (number : ℕ) → number ≡ refusal (splitRows Z list sets) → number ≢ 0
+      → record { number = number; sets = sets } ≡ splitAnswer Z list sets
   unfolding splitAnswer
-  answered-refused number e ne = record { number-is = e; sets-are = sym kept }
-    where
-      kept : splitAnswer Z list sets .sets ≡ sets
-      kept = rw (ne-eqb (refusal (splitRows Z list sets)) 0 (λ z. ne (e ∙ z)))
+  answered-refused number e ne = rw (← e, ne-eqb number 0 ne)

@@ -10,8 +10,8 @@ use lib.Dec.{eqb, ltb}
 use lib.ListN.{length, getD, replicate}
 use borrow.Author.Tests.{eq-eqb, ne-eqb, ltb-true, lt-ltb, not-true}
 use Rattle.split.specs.OneToOne.{isOneToOne}
-use Rattle.split.specs.Window.{isGood, differWithin}
-use Rattle.split.specs.Mask.{bitAt, FlippedAt}
+use Rattle.split.specs.inner.Window.{isGood, differWithin}
+use Rattle.split.specs.inner.Mask.{bitAt, FlippedAt}
 use Rattle.flash.proofs.Bools.{never-both, fails, and-left, and-right}
 use Rattle.flash.proofs.Ranges.{all-in, all-is, all-not, none-in, none-is}
 use Rattle.flash.proofs.Comparisons.{lt-cases, eq-cases, ne-lt}

@@ -14,10 +14,10 @@ use Rattle.flash.specs.Lists.{range, count}
 use Rattle.split.specs.Split.{setOf}
 use Rattle.split.specs.Rule.{End, source, destination, blockAt, isPageOf, isUsed, lowestUnused, pagesMet, exchange, giveNext, setsGiven, splitByRule}
 use Rattle.split.specs.Claims.{walkOf}
-use Rattle.split.specs.Mask.{bitAt, lowestZero, FlippedAt}
-use Rattle.split.specs.Accepted.{Accepted}
-use Rattle.split.specs.Ends.{Masks}
-use Rattle.split.specs.Work.{Working, Blocked, Exchanged}
+use Rattle.split.specs.inner.Mask.{bitAt, lowestZero, FlippedAt}
+use Rattle.split.specs.inner.Accepted.{Accepted}
+use Rattle.split.specs.inner.Ends.{Masks}
+use Rattle.split.specs.inner.Work.{Working, Blocked, Exchanged}
 use Rattle.flash.proofs.Bools.{bool-cases}
 use Rattle.flash.proofs.Ranges.{First, first-is}
 use Rattle.split.proofs.SplitLaws.{Proper}

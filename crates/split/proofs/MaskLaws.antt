@@ -14,7 +14,7 @@ use lib.Count.{trailingZeros, under}
 use lib.Pow.{pow-pos, pow-lt, pow-add, shr-shr, shl-shr}
 use lib.Bits.{bitXor, xor-step, xor-shr, differ}
 use Rattle.flash.specs.Lists.{range, first}
-use Rattle.split.specs.Mask.{bitAt, Flipped, FlippedAt, FlippedBoth}
+use Rattle.split.specs.inner.Mask.{bitAt, Flipped, FlippedAt, FlippedBoth}
 use Rattle.flash.proofs.Bools.{bool-cases}
 use Rattle.flash.proofs.Comparisons.{lt-cases, eq-cases}
 

@@ -13,8 +13,8 @@ use borrow.Author.Tests.{eqb-true, eq-eqb}
 use Rattle.flash.specs.Lists.{range, count}
 use Rattle.split.specs.Split.{setOf}
 use Rattle.split.specs.Rule.{End, blockAt, isPageOf}
-use Rattle.split.specs.Mask.{bitAt, FlippedAt, FlippedBoth}
-use Rattle.split.specs.Ends.{Masks}
+use Rattle.split.specs.inner.Mask.{bitAt, FlippedAt, FlippedBoth}
+use Rattle.split.specs.inner.Ends.{Masks}
 use Rattle.flash.proofs.Bools.{bool-cases, never-both, and-left, and-right, fails, and-both}
 use Rattle.flash.proofs.Searches.{count-none}
 use Rattle.flash.proofs.Ranges.{none-is, count-more, one-counted}

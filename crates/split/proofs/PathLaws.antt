@@ -16,11 +16,11 @@ use Rattle.flash.proofs.Bools.{never-both}
 use Rattle.flash.proofs.Comparisons.{lt-cases, eq-cases}
 use Rattle.split.specs.Split.{setOf, sourceBlock}
 use Rattle.split.specs.Rule.{End, source, blockAt, isPageOf}
-use Rattle.split.specs.Mask.{bitAt}
-use Rattle.split.specs.Accepted.{Accepted}
-use Rattle.split.specs.Ends.{endOf, Masks}
-use Rattle.split.specs.Hints.{hintOf, pageOf, soughtPage}
-use Rattle.split.specs.Work.{Found, Sought}
+use Rattle.split.specs.inner.Mask.{bitAt}
+use Rattle.split.specs.inner.Accepted.{Accepted}
+use Rattle.split.specs.inner.Ends.{endOf, Masks}
+use Rattle.split.specs.inner.Hints.{hintOf, pageOf, soughtPage}
+use Rattle.split.specs.inner.Work.{Found, Sought}
 use Rattle.split.proofs.RuleLaws.{blocks}
 use Rattle.split.proofs.MaskedLaws.{is-page, page-is, alone-bit}
 

@@ -1,22 +1,23 @@
 -- The check of set bytes: pages with different sets at each block, so far; and what is answered for any input.
 use mathlib.Core.Path.{_≡_, refl, sym, ap, _∙_, subst}
 use mathlib.Core.Logic.{_⊎_, inl, inr, _≢_, ⊎-elim}
-use mathlib.Core.Bool.{Bool, true, false, _&&_, _||_, not, and-true, and-false}
+use mathlib.Core.Bool.{Bool, true, false, _&&_, _||_, not, and-false}
 use mathlib.Core.List.{List}
 use Prim.Native.Nat.{ℕ, _+_, _-_, _*_, _/_, _≤_, _<_}
 use native.Mathlib.Nat.{not-suc-le-zero, suc-mul, div-lt-iff-lt-mul}
 use native.Mathlib.Omega.{arith}
-use lib.Dec.{eqb, leb}
+use lib.Dec.{eqb}
 use lib.ListN.{length, getD, set, replicate, length-set}
 use lib.Seq.{getD-set-same}
 use borrow.Author.Tests.{eqb-true, eqb-false}
-use Rattle.flash.specs.Geometry.{Sizes, isLetter, inRange, blockOf}
+use Rattle.flash.specs.declared.sizes.Sizes.{Sizes}
+use Rattle.flash.specs.Geometry.{inRange, blockOf, originalCount}
 use Rattle.split.specs.OneToOne.{isOneToOne}
 use Rattle.split.specs.Split.{sourceBlock, setOf, isSplit, isCorrectSplit}
 use Rattle.split.specs.Rule.{End, source, destination, blockAt}
-use Rattle.split.specs.Mask.{bitAt, Flipped, FlippedAt}
-use Rattle.split.specs.Accepted.{Accepted}
-use Rattle.split.specs.Ends.{Masks}
+use Rattle.split.specs.inner.Mask.{bitAt, Flipped, FlippedAt}
+use Rattle.split.specs.inner.Accepted.{Accepted}
+use Rattle.split.specs.inner.Ends.{Masks}
 use Rattle.flash.proofs.Bools.{fails}
 use Rattle.flash.proofs.Comparisons.{lt-cases}
 use Rattle.split.proofs.SplitLaws.{Proper, place-block, set-lt, same-from, same-to, split-of}
@@ -222,10 +223,6 @@ module _ (n m : ℕ) (list sets : List ℕ) (A : Accepted n m list) (len : lengt
       }
 
 -- ---- any input
--- sizes that have these blocks and pages, and are in range if these are
-abbrev pub sizes : (n m : ℕ) → Sizes
-sizes n m = record { n = n; m = m; P = 1; s = 0 }
-
 -- the tests in the order of the code
 in-turn : (a b c d e : Bool) → (a && b && c && d && e) ≡ (a && (not (not b || not c) && (d && e)))
 in-turn false b c d e = refl
@@ -233,23 +230,22 @@ in-turn true false c d e = refl
 in-turn true true false d e = refl
 in-turn true true true d e = refl
 
-module _ (n m : ℕ) (list sets : List ℕ) where
+module _ (Z : Sizes) (list sets : List ℕ) where
   abbrev off-length : Bool
-  off-length = not (eqb (length list) (n * m)) || not (eqb (length sets) (n * m))
+  off-length = not (eqb (length list) (originalCount Z)) || not (eqb (length sets) (originalCount Z))
 
-  correct-is : isCorrectSplit n m list sets ≡ (inRange (sizes n m) && (not off-length && (isOneToOne (n * m) list && isSplit n m list sets)))
-  unfolding isCorrectSplit inRange isLetter
+  correct-is : isCorrectSplit Z list sets ≡ (inRange Z && (not off-length && (isOneToOne (originalCount Z) list && isSplit (Z .n) (Z .m) list sets)))
+  unfolding isCorrectSplit
   correct-is =
-      rw (and-true, and-true, and-true)
-      (in-turn (leb 1 n && leb n 64 && leb 1 m && leb m 64) (eqb (length list) (n * m)) (eqb (length sets) (n * m)) (isOneToOne (n * m) list) (isSplit n m list sets))
+      in-turn (inRange Z) (eqb (length list) (originalCount Z)) (eqb (length sets) (originalCount Z)) (isOneToOne (originalCount Z) list) (isSplit (Z .n) (Z .m) list sets)
 
-  pub wrong-sizes : inRange (sizes n m) ≡ false → isCorrectSplit n m list sets ≡ false
+  pub wrong-sizes : inRange Z ≡ false → isCorrectSplit Z list sets ≡ false
   wrong-sizes e = rw (correct-is, e)
 
-  pub wrong-lengths : off-length ≡ true → isCorrectSplit n m list sets ≡ false
+  pub wrong-lengths : off-length ≡ true → isCorrectSplit Z list sets ≡ false
   wrong-lengths e = rw (correct-is, e, and-false)
 
   -- with these as they should be, the list and its sets decide
-  pub left-to-sets : inRange (sizes n m) ≡ true → off-length ≡ false
-      → isCorrectSplit n m list sets ≡ (isOneToOne (n * m) list && isSplit n m list sets)
+  pub left-to-sets : inRange Z ≡ true → off-length ≡ false
+      → isCorrectSplit Z list sets ≡ (isOneToOne (originalCount Z) list && isSplit (Z .n) (Z .m) list sets)
   left-to-sets e f = rw (correct-is, e, f)

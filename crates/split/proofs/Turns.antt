@@ -12,7 +12,7 @@ use borrow.Author.Tests.{eqb-true, eq-eqb, ne-eqb}
 use Rattle.flash.specs.Lists.{any}
 use Rattle.split.specs.Split.{setOf}
 use Rattle.split.specs.Rule.{End, source, destination, otherEnd, swapped, blockAt, exchange}
-use Rattle.split.specs.Work.{Found}
+use Rattle.split.specs.inner.Work.{Found}
 use Rattle.flash.proofs.Bools.{bool-cases, fails}
 use Rattle.flash.proofs.Comparisons.{lt-cases, eq-cases}
 use Rattle.flash.proofs.Searches.{any-find}

@@ -13,9 +13,9 @@ use Rattle.flash.specs.Lists.{range, count}
 use Rattle.split.specs.Split.{setOf}
 use Rattle.split.specs.Rule.{End, source, destination, otherEnd, blockAt, lowestUnused, pagesMet, exchange, setsGiven}
 use Rattle.split.specs.Claims.{walkOf}
-use Rattle.split.specs.Mask.{FlippedBoth}
-use Rattle.split.specs.Ends.{endOf, Masks}
-use Rattle.split.specs.Work.{Found, Sought, Working, Blocked, Exchanged}
+use Rattle.split.specs.inner.Mask.{FlippedBoth}
+use Rattle.split.specs.inner.Ends.{endOf, Masks}
+use Rattle.split.specs.inner.Work.{Found, Sought, Working, Blocked, Exchanged}
 use Rattle.split.proofs.RuleLaws.{given, used-page, lowest-none, lowest-lt}
 use Rattle.split.proofs.Walk.{Coloured, PageAt, metAs}
 use Rattle.split.proofs.Turns.{Turn, first-turn, page-now, page-as, alone, next-turn, turns-done}

@@ -1,12 +1,12 @@
 -- The split call: its refusals and its whole answer.
-use mathlib.Core.Path.{_≡_}
 use mathlib.Core.Bool.{cond, _||_, not}
 use mathlib.Core.List.{List, [], _∷_}
 use Prim.Native.Nat.{ℕ}
 use lib.Dec.{eqb}
 use lib.ListN.{length}
 use Rattle.flash.specs.Tables.{Row, refusal}
-use Rattle.flash.specs.Geometry.{Sizes, inRange, originalCount, listLength, setsLength}
+use Rattle.flash.specs.declared.sizes.Sizes.{Sizes}
+use Rattle.flash.specs.Geometry.{inRange, originalCount, listLength, setsLength}
 use Rattle.split.specs.OneToOne.{badList}
 use Rattle.split.specs.Rule.{splitByRule}
 
@@ -31,8 +31,3 @@ splitAnswer Z list sets =
     let number = refusal (splitRows Z list sets) in
     -- "With a refusal .. each lent byte stays."
     record { number = number; sets = cond (eqb number 0) (splitByRule (Z .n) (Z .m) list) sets }
-
--- the contract of the split call: the number that it returns and the set bytes that it leaves are the answer's
-pub record SplitAnswered (Z : Sizes) (list sets : List ℕ) (number : ℕ) (sets′ : List ℕ) : Type 0 where
-  pub number-is : number ≡ splitAnswer Z list sets .number
-  pub sets-are : sets′ ≡ splitAnswer Z list sets .sets

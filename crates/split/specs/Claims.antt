@@ -4,7 +4,8 @@ use mathlib.Core.Bool.{true, false}
 use mathlib.Core.List.{List, [], _∷_}
 use Prim.Native.Nat.{ℕ, _+_, _-_, _*_, _≤_, _<_}
 use lib.ListN.{length}
-use Rattle.flash.specs.Geometry.{Sizes, originalCount, setsLength}
+use Rattle.flash.specs.declared.sizes.Sizes.{Sizes}
+use Rattle.flash.specs.Geometry.{originalCount, setsLength}
 use Rattle.split.specs.OneToOne.{badList, isOneToOne}
 use Rattle.split.specs.Split.{isSplit}
 use Rattle.split.specs.Rule.{source, destination, blockAt, lowestUnused, pagesMet, setsGiven, splitByRule}

@@ -1,11 +1,6 @@
 pub mod OneToOne
-pub mod Window
-pub mod Accepted
 pub mod Split
 pub mod Rule
 pub mod Answer
 pub mod Claims
-pub mod Mask
-pub mod Ends
-pub mod Hints
-pub mod Work
+pub mod inner

@@ -1,19 +1,21 @@
 // The split call: its refusals in the table's order, then the rule.
 ghost use mathlib.Core.Path.{_≡_};
 ghost use Rattle.flash.specs.Tables.{refusal};
-ghost use Rattle.split.specs.Answer.{splitRows, SplitAnswered};
+ghost use Rattle.split.specs.Answer.{splitRows, splitAnswer};
 use crate::list::check;
 use crate::rule::fill;
+use flash::sizes::Sizes;
 use flash::sizes::in_range;
+use flash::sizes::original_count;
 
 // The number of the first row of the table that fits, or 0. Nothing is multiplied before the sizes are in range.
-fn refusal(n: usize, m: usize, p: usize, s: usize, list: &[u16], sets: &[u8]) -> u32
-    ensures { λ r. ⌜ r ≡ refusal (splitRows (record { n = n; m = m; P = p; s = s }) (now (list .entry)) (now (sets .entry))) ⌝ }
+fn refusal(z: Sizes, list: &[u16], sets: &[u8]) -> u32
+    ensures { λ r. ⌜ r ≡ refusal (splitRows z (now (list .entry)) (now (sets .entry))) ⌝ }
 {
-    if !in_range(n, m, p, s) {
+    if !in_range(z) {
         return 1;
     }
-    let originals = n * m;
+    let originals = original_count(z);
     if list.len() != originals {
         return 2;
     }
@@ -27,12 +29,12 @@ fn refusal(n: usize, m: usize, p: usize, s: usize, list: &[u16], sets: &[u8]) ->
 }
 
 // Fills the set bytes by document 01's rule, or refuses and leaves them.
-pub fn split(n: usize, m: usize, p: usize, s: usize, list: &[u16], sets: &mut [u8]) -> u32
-    ensures { λ r. ⌜ SplitAnswered (record { n = n; m = m; P = p; s = s }) (now (list .entry)) (now (sets .entry)) r (now (sets .exit)) ⌝ }
+pub fn split(z: Sizes, list: &[u16], sets: &mut [u8]) -> u32
+    ensures { λ r. ⌜ record { number = r; sets = now (sets .exit) } ≡ splitAnswer z (now (list .entry)) (now (sets .entry)) ⌝ }
 {
-    let number = refusal(n, m, p, s, list, sets);
+    let number = refusal(z, list, sets);
     if number == 0 {
-        fill(n, m, list, sets);
+        fill(z.n, z.m, list, sets);
     }
     number
 }

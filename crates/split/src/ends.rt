@@ -2,9 +2,9 @@
 ghost use mathlib.Core.Path.{_≡_};
 ghost use Prim.Native.Nat.{_≤_, _<_};
 ghost use lib.ListN.{length};
-ghost use Rattle.flash.specs.Reciprocal.{reciprocal};
+ghost use Rattle.flash.specs.inner.Reciprocal.{reciprocal};
 ghost use Rattle.split.specs.Rule.{blockAt};
-ghost use Rattle.split.specs.Ends.{endOf};
+ghost use Rattle.split.specs.inner.Ends.{endOf};
 use flash::quotient::quotient;
 use flash::wide::entry;
 

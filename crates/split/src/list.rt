@@ -1,7 +1,7 @@
 // The check of a list of destinations.
 ghost use mathlib.Core.Path.{_≡_};
 ghost use Rattle.split.specs.OneToOne.{isOneToOne};
-ghost use Rattle.split.specs.Window.{differWithin};
+ghost use Rattle.split.specs.inner.Window.{differWithin};
 use crate::mask::flip;
 use flash::wide::entry;
 

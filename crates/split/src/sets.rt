@@ -3,13 +3,14 @@ ghost use mathlib.Core.Path.{_≡_};
 ghost use Prim.Native.Nat.{_*_};
 ghost use lib.ListN.{length};
 ghost use Rattle.split.specs.Split.{isSplit, isCorrectSplit};
-ghost use Rattle.split.specs.Accepted.{Accepted};
+ghost use Rattle.split.specs.inner.Accepted.{Accepted};
 use crate::ends::block_by;
 use crate::list::check;
 use crate::mask::flip;
 use crate::mask::flipped;
 use crate::mask::has;
 use flash::quotient::reciprocal;
+use flash::sizes::Sizes;
 use flash::sizes::in_range;
 use flash::sizes::original_count;
 use flash::wide::wide;
@@ -47,19 +48,18 @@ fn sets_differ(n: usize, m: usize, list: &[u16], sets: &[u8]) -> bool
 }
 
 // Whether the set bytes are a split of the list.
-pub fn is_split(n: usize, m: usize, list: &[u16], sets: &[u8]) -> bool
-    ensures { λ r. ⌜ r ≡ isCorrectSplit n m (now (list .entry)) (now (sets .entry)) ⌝ }
+pub fn is_split(z: Sizes, list: &[u16], sets: &[u8]) -> bool
+    ensures { λ r. ⌜ r ≡ isCorrectSplit z (now (list .entry)) (now (sets .entry)) ⌝ }
 {
-    // a page size and a letter that are in range: a split does not depend on them
-    if !in_range(n, m, 1, 0) {
+    if !in_range(z) {
         return false;
     }
-    let originals = original_count(n, m);
+    let originals = original_count(z);
     if (list.len() != originals) | (sets.len() != originals) {
         return false;
     }
     if !check(list, originals) {
         return false;
     }
-    sets_differ(n, m, list, sets)
+    sets_differ(z.n, z.m, list, sets)
 }

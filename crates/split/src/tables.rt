@@ -2,7 +2,7 @@
 // the destination blocks. It holds hints: what it says is tested where it is used, so that callers claim nothing of it.
 ghost use mathlib.Core.Path.{_≡_};
 ghost use Prim.Native.Nat.{_-_, _*_, _≤_, _<_};
-ghost use Rattle.split.specs.Hints.{homeOf, hintOf, noted};
+ghost use Rattle.split.specs.inner.Hints.{homeOf, hintOf, noted};
 use flash::wide::wide;
 
 // The source block, from 0, of the page that had the set last at a block.

@@ -10,34 +10,34 @@ use lib.Dec.{eqb, leb}
 use lib.ListN.{length, take, drop, length-drop}
 use lib.Seq.{take-take, take-add, drop-at, length-take-le}
 use Rattle.flash.specs.Lists.{all}
-use Rattle.flash.specs.Geometry.{Sizes, originalCount}
+use Rattle.flash.specs.declared.sizes.Sizes.{Sizes}
+use Rattle.flash.specs.Geometry.{originalCount}
 use Rattle.flash.proofs.Bools.{bool-cases, and-left, and-right}
 use Rattle.flash.proofs.Bounds.{product-le}
 use Rattle.listing.specs.Area.{Written}
 use Rattle.listing.specs.Numbers.{numbersIn, Taken, taken}
 use Rattle.listing.specs.Request.{Reading, unreadable, refused, request, isAllowed, sizesOf, numbersDue, exactly, requested, afterSizes, reading, withinLimit}
-use Rattle.listing.specs.Found.{requestIn, askedAs}
+use Rattle.listing.specs.inner.Found.{requestIn, askedAs}
 use Rattle.listing.specs.declared.request.Request.{Request}
 use Rattle.listing.proofs.AreaLaws.{over-room}
 use Rattle.listing.proofs.RequestLaws.{bounded, few-originals}
-use Rattle.steplist.specs.Output.{answered, output}
-use Rattle.steplist.specs.Given.{Asked, Readable, Counts}
+use Rattle.steplist.specs.Output.{answered, output, Counts}
+use Rattle.steplist.specs.inner.Given.{Asked, Readable}
 
 drop-take : (a b : ℕ) (xs : List ℕ) → a ≤ b → a ≤ length xs → drop a (take b xs) ≡ take (b - a) (drop a xs)
 drop-take a b xs h l =
     let e : b ≡ a + (b - a) = omega arith in
     ap (λ (k : ℕ). drop a (take k xs)) e ∙ ap (drop a) (take-add a (b - a) xs) ∙ drop-at (take a xs) (take (b - a) (drop a xs)) a (length-take-le a xs l)
 
-module _ (n m P s count due : ℕ) (numbers : List ℕ) (count-is : count ≡ n * m) (due-is : due ≡ count + count * P) (A : Asked (record { n = n; m = m; P = P; s = s }) numbers) (most : 4160 ≤ length numbers) where
-  abbrev Z : Sizes
-  Z = record { n = n; m = m; P = P; s = s }
+module _ (Z : Sizes) (count due : ℕ) (numbers : List ℕ) (count-is : count ≡ originalCount Z) (due-is : due ≡ count + count * Z .p) (A : Asked Z numbers) (most : 4160 ≤ length numbers) where
+  open Sizes Z using (n, m, p as P)
 
   all-due : due ≡ n * m + n * m * P
   all-due = due-is ∙ rw count-is
 
   pub room : due ≤ length numbers
   room =
-      let l = bounded n m P s (A .allowed) in
+      let l = bounded Z (A .allowed) in
       let few = few-originals n m (l .few-blocks) (l .few-pages) in
       omega (arith, all-due, product-le (n * m) P {c = 64} {d = 64} few (l .short-pages))
 
@@ -91,10 +91,9 @@ sizes-sound (some sizes) =
     (λ (e : isAllowed Z ≡ false). rw e)
     (bool-cases (isAllowed Z))
 
-pub asked : (n m P s : ℕ) (text numbers : List ℕ) → requestIn numbers (record { n = n; m = m; P = P; s = s }) ≡ reading text → Asked (record { n = n; m = m; P = P; s = s }) numbers
+pub asked : (Z : Sizes) (text numbers : List ℕ) → requestIn numbers Z ≡ reading text → Asked Z numbers
 unfolding reading
-asked n m P s text numbers e =
-    let Z : Sizes = record { n = n; m = m; P = P; s = s } in
+asked Z text numbers e =
     let bytes = all (λ byte. leb byte 255) (drop (originalCount Z) (take (numbersDue Z) numbers)) in
     let sound : (isAllowed Z && bytes) ≡ true = ap isSound e ∙ sizes-sound (taken [] 4 (numbersIn text)) in
     let allowed = and-left (isAllowed Z) bytes sound in

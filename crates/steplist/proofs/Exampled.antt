@@ -1,6 +1,6 @@
 -- The examples: the output computes to what is due.
 use mathlib.Core.Path.{refl}
-use Rattle.method.proofs.Open.{all-open}
+use Rattle.method.proofs.basics.Open.{all-open}
 use Rattle.listing.specs.Numbers.{isSeparator, isDigit, ended, wordsFrom, spelled, numberOf, numbersIn, taken}
 use Rattle.listing.specs.Request.{isAllowed, exactly, requested, afterSizes, reading, withinLimit}
 use Rattle.listing.specs.Digits.{digitOf, digits, placesUpTo, places, decimal, hex}

@@ -9,18 +9,19 @@ use lib.Dec.{leb}
 use lib.ListN.{length}
 use borrow.Author.Tests.{eq-eqb, leb-false, le-leb}
 use Rattle.flash.specs.Lists.{any, all}
-use Rattle.flash.specs.Geometry.{Sizes, inRange}
+use Rattle.flash.specs.declared.sizes.Sizes.{Sizes}
+use Rattle.flash.specs.Geometry.{inRange}
 use Rattle.flash.proofs.Bools.{bool-cases}
 use Rattle.flash.proofs.Tables.{refusal-skip, refusal-nil}
 use Rattle.flash.proofs.Bounds.{range-in}
 use Rattle.split.specs.OneToOne.{badList}
-use Rattle.split.specs.Answer.{splitRows, splitAnswer, SplitAnswered}
+use Rattle.split.specs.Answer.{splitRows, SplitAnswer, splitAnswer}
 use Rattle.split.proofs.Answers.{passed}
 use Rattle.listing.specs.Lines.{refusedLine}
 use Rattle.listing.specs.Request.{isAllowed, request}
 use Rattle.listing.proofs.RequestLaws.{bounded, few-originals}
 use Rattle.steplist.specs.Output.{listed, answered}
-use Rattle.steplist.specs.Given.{Readable, Accepted}
+use Rattle.steplist.specs.inner.Given.{Readable, Accepted}
 use Rattle.steplist.proofs.StartLaws.{in-bounds}
 
 -- "A number such as 65536 is judged before anything is cut to 16 bits": it is at or above n × m
@@ -37,25 +38,30 @@ large-entry originals (entry ∷ list) h e =
     or-true true = refl
     or-true false = refl
 
-module _ (n m P s : ℕ) (allowed : isAllowed (record { n = n; m = m; P = P; s = s }) ≡ true) (list bytes : List ℕ) where
-  abbrev Z : Sizes
-  Z = record { n = n; m = m; P = P; s = s }
+module _ (Z : Sizes) (allowed : isAllowed Z ≡ true) (list bytes : List ℕ) where
+  open Sizes Z using (n, m)
 
   pub too-large : all (λ number. leb number 65535) list ≡ false → answered (request Z list bytes) ≡ refusedLine 3
   unfolding answered badList
   too-large e =
-      let l = bounded n m P s allowed in
+      let l = bounded Z allowed in
       rw (large-entry (n * m) list (omega (arith, few-originals n m (l .few-blocks) (l .few-pages))) e)
 
   in-range : inRange Z ≡ true
-  in-range = range-in Z (in-bounds n m P s allowed)
+  in-range = range-in Z (in-bounds Z allowed)
 
-  module _ (old sets : List ℕ) (number : ℕ) (list-length : length list ≡ n * m) (sets-length : length old ≡ n * m) (S : SplitAnswered Z list old number sets) where
+  module _ (old sets : List ℕ) (number : ℕ) (list-length : length list ≡ n * m) (sets-length : length old ≡ n * m) (S : record { number = number; sets = sets } ≡ splitAnswer Z list old) where
+    number-is : number ≡ splitAnswer Z list old .number
+    number-is = ap (λ (a : SplitAnswer). a .number) S
+
+    sets-are : sets ≡ splitAnswer Z list old .sets
+    sets-are = ap (λ (a : SplitAnswer). a .sets) S
+
     -- only row 3 can fit
     good-split : badList (n * m) list ≡ false → number ≡ 0
     unfolding splitAnswer splitRows
     good-split e =
-        S .number-is
+        number-is
         ∙ refusal-skip _ _ (ap not in-range) (refusal-skip _ _ (rw (eq-eqb _ _ list-length, eq-eqb _ _ sets-length)) (refusal-skip _ _ e refusal-nil))
 
     pub not-split : number ≢ 0 → answered (request Z list bytes) ≡ refusedLine 3
@@ -69,11 +75,11 @@ module _ (n m P s : ℕ) (allowed : isAllowed (record { n = n; m = m; P = P; s =
     module _ (e : number ≡ 0) where
       good : badList (n * m) list ≡ false
       unfolding splitAnswer
-      good = passed Z list old (sym (S .number-is) ∙ e) .good
+      good = passed Z list old (sym (number-is) ∙ e) .good
 
       pub is-split : Readable Z list bytes → Accepted Z list sets bytes
       unfolding splitAnswer
-      is-split R = record { readable = R; good = good; sets-is = S .sets-are ∙ rw (eq-eqb _ 0 (sym (S .number-is) ∙ e)) }
+      is-split R = record { readable = R; good = good; sets-is = sets-are ∙ rw (eq-eqb _ 0 (sym (number-is) ∙ e)) }
 
       pub is-listed : answered (request Z list bytes) ≡ listed Z list bytes
       unfolding answered

@@ -8,10 +8,10 @@ use native.Mathlib.Omega.{arith}
 use native.Mathlib.Nat.{mul-le-mul}
 use lib.Dec.{ltb}
 use lib.ListN.{length, length-append}
-use Rattle.flash.specs.Geometry.{Sizes}
+use Rattle.flash.specs.declared.sizes.Sizes.{Sizes}
 use Rattle.flash.proofs.Bools.{bool-cases}
 use Rattle.method.specs.Place.{Pass, forward, backward, operationAt, passAt, filling, filled, lastPlace}
-use Rattle.method.proofs.Places.{nextBlock, page-cases, filling-in, operation-writes, operation-erases}
+use Rattle.method.proofs.places.StepsAtPlaces.{nextBlock, page-cases, filling-in, operation-writes, operation-erases}
 use Rattle.listing.specs.Digits.{placesUpTo, places, decimal}
 use Rattle.listing.specs.Lines.{writeLine, eraseLine, endLine, refusedLine}
 use Rattle.listing.proofs.DigitLaws.{length-digits, one-place}

@@ -2,12 +2,12 @@
 use mathlib.Core.Path.{_≡_, refl, sym, ap, _∙_}
 use mathlib.Core.List.{List, []}
 use Prim.Native.Nat.{ℕ}
-use Rattle.flash.specs.Geometry.{Sizes}
+use Rattle.flash.specs.declared.sizes.Sizes.{Sizes}
 use Rattle.method.specs.Place.{Operation, write, erase, done}
 use Rattle.listing.specs.Lines.{writeLine, eraseLine}
 use Rattle.places.specs.declared.place.Op.{Op}
 use Rattle.places.specs.declared.place.Op.the-variants.{Write, Erase, Done}
-use Rattle.places.specs.Place.{opOf}
+use Rattle.places.specs.inner.Place.{opOf}
 use Rattle.steplist.specs.Output.{stepLine}
 
 abbrev pub opLine : (place : ℕ) → (work : List ℕ) → Op → List ℕ

@@ -10,17 +10,17 @@ use Rattle.method.specs.Move.{Move}
 use Rattle.method.specs.Place.{operations, operationAt, lastPlace}
 use Rattle.method.specs.Step.{Running, step, steps, tally, operationsFrom}
 use Rattle.method.specs.Claims.{StepsCounted}
-use Rattle.method.proofs.Steps.{steps-counted}
-use Rattle.method.proofs.Runs.{steps-add}
-use Rattle.method.proofs.Tallies.{tally-split, tally-total, steps-tallied}
-use Rattle.method.proofs.Accepting.{run-taken, taken-run}
-use Rattle.method.proofs.RunClaims.{still-taken}
+use Rattle.method.proofs.places.StepsCounted.{steps-counted}
+use Rattle.method.proofs.states.StepsAddUp.{steps-add}
+use Rattle.method.proofs.places.Tallies.{tally-split, tally-total, steps-tallied}
+use Rattle.method.proofs.basics.AcceptedCalls.{run-taken, taken-run}
+use Rattle.method.proofs.states.RunsAddUp.{still-taken}
 use Rattle.listing.specs.Area.{Written}
 use Rattle.listing.specs.Lines.{Printed, endLine}
 use Rattle.listing.proofs.PrintLaws.{over-printed}
 use Rattle.steplist.specs.declared.listed.Shown.{Shown}
 use Rattle.steplist.specs.Output.{stepLine, stepLines, moveLines}
-use Rattle.steplist.specs.Listing.{runningOf, Listable, Stepped, Shows}
+use Rattle.steplist.specs.inner.Listing.{runningOf, Listable, Stepped, Shows}
 
 -- the lines of some steps, and then of more
 lines-add : (M : Move) (a b place : ℕ) (run : Running) → stepLines M (a + b) place run ≡ stepLines M a place run ++ stepLines M b (place + a) (steps M a place run)

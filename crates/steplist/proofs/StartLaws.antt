@@ -8,7 +8,8 @@ use native.Mathlib.Omega.{arith}
 use lib.ListN.{length, drop, replicate, length-append, length-drop, length-replicate, getD-replicate, List·getD-append}
 use lib.Seq.{getD-append-add, take-append-le, drop-append-le}
 use Rattle.flash.specs.Lists.{range, all, part}
-use Rattle.flash.specs.Geometry.{Sizes, slot, originalCount, storeLength, marksLength}
+use Rattle.flash.specs.declared.sizes.Sizes.{Sizes}
+use Rattle.flash.specs.Geometry.{slot, originalCount, storeLength, marksLength}
 use Rattle.flash.specs.Chip.{Chip, pageAt, markAt, isBlank, isFull}
 use Rattle.flash.proofs.Bounds.{Bounds, slot-in-marks}
 use Rattle.flash.proofs.Ranges.{all-is}
@@ -17,18 +18,18 @@ use Rattle.flash.proofs.Blocks.{full-of}
 use Rattle.flash.proofs.Chips.{blank-of}
 use Rattle.split.specs.OneToOne.{isOneToOne}
 use Rattle.split.proofs.RuleLaws.{rule-split, rule-length}
-use Rattle.method.specs.Move.{Move}
+use Rattle.method.specs.Move.{Move, moveOf}
 use Rattle.method.specs.State.{isAtRest, atRest}
-use Rattle.method.proofs.Shape as shape
-use Rattle.method.proofs.Accepting.{taken-run}
-use Rattle.method.proofs.Rest.{rest-stands}
+use Rattle.method.proofs.basics.MoveShape as shape
+use Rattle.method.proofs.basics.AcceptedCalls.{taken-run}
+use Rattle.method.proofs.states.AtRest.{rest-stands}
 use Rattle.listing.specs.Request.{isAllowed}
 use Rattle.listing.proofs.RequestLaws.{Bounded, bounded}
-use Rattle.steplist.specs.Listing.{moveOf, runningOf, Listable}
-use Rattle.steplist.specs.Given.{Accepted}
+use Rattle.steplist.specs.inner.Listing.{runningOf, Listable}
+use Rattle.steplist.specs.inner.Given.{Accepted}
 
 module _ (Z : Sizes) (originals : List ℕ) where
-  open Sizes Z using (n, m, P, s)
+  open Sizes Z using (n, m, p as P, s)
 
   abbrev chip : Chip
   chip = atRest Z originals
@@ -77,29 +78,28 @@ module _ (Z : Sizes) (originals : List ℕ) where
   marks-size = length-append (replicate m 255) (replicate (n * m) s) ∙ omega (arith, length-replicate {A = ℕ} m 255, length-replicate {A = ℕ} (n * m) s, add-mul n 1 m)
 
 -- the program's limits are within the ranges
-pub in-bounds : (n m P s : ℕ) → isAllowed (record { n = n; m = m; P = P; s = s }) ≡ true → Bounds (record { n = n; m = m; P = P; s = s })
-in-bounds n m P s e =
-    let l = bounded n m P s e in
+pub in-bounds : (Z : Sizes) → isAllowed Z ≡ true → Bounds Z
+in-bounds Z e =
+    let l = bounded Z e in
     record {
       n-low = l .some-blocks;
       n-high = omega arith;
       m-low = l .some-pages;
       m-high = omega arith;
-      P-low = l .some-bytes;
-      P-high = omega arith;
+      p-low = l .some-bytes;
+      p-high = omega arith;
       s-high = l .letter;
     }
 
-module _ (n m P s : ℕ) (list sets bytes : List ℕ) where
-  abbrev Z : Sizes
-  Z = record { n = n; m = m; P = P; s = s }
+module _ (Z : Sizes) (list sets bytes : List ℕ) where
+  open Sizes Z using (n, m, p as P, s)
 
   abbrev M : Move
-  M = moveOf n m P s list sets
+  M = moveOf Z list sets
 
   module _ (A : Accepted Z list sets bytes) where
-    limits : Bounded n m P s
-    limits = bounded n m P s (A .readable .allowed)
+    limits : Bounded Z
+    limits = bounded Z (A .readable .allowed)
 
     one-to-one : isOneToOne (n * m) list ≡ true
     unfolding isOneToOne
@@ -108,7 +108,7 @@ module _ (n m P s : ℕ) (list sets bytes : List ℕ) where
     accepted : shape.Accepted M
     accepted =
         record {
-          ranges = in-bounds n m P s (A .readable .allowed);
+          ranges = in-bounds Z (A .readable .allowed);
           list-length = A .readable .list-length;
           sets-length = ap length (A .sets-is) ∙ rule-length n m list (A .readable .list-length) one-to-one;
           one-to-one = one-to-one;

@@ -1,26 +1,20 @@
 -- One step more: what it leaves, counts and prints.
-use mathlib.Core.Path.{_≡_, refl, ap, ap₂, _∙_}
+use mathlib.Core.Path.{_≡_, ap, _∙_}
 use mathlib.Core.List.{List}
 use Prim.Native.Nat.{ℕ, _≤_, _<_}
 use native.Mathlib.Omega.{arith}
 use lib.ListN.{length}
-use Rattle.flash.specs.Chip.{Chip}
 use Rattle.method.specs.Move.{Move}
-use Rattle.method.specs.Place.{writes, forwardTurn, backwardTurn, operations, operationAt, lastPlace}
+use Rattle.method.specs.Place.{operationAt, lastPlace}
 use Rattle.method.specs.Step.{Running, step, steps, tally, operationsFrom}
-use Rattle.method.specs.Answers.{stepsTaken, runAnswer}
-use Rattle.method.proofs.Accepting.{run-taken}
-use Rattle.method.proofs.RunClaims.{answerOf, run-answer, still-taken}
+use Rattle.method.specs.Answers.{stepsTaken, RunAnswer, runAnswer}
+use Rattle.method.proofs.basics.AcceptedCalls.{run-taken}
+use Rattle.method.proofs.states.RunsAddUp.{answerOf, run-answer, still-taken}
 use Rattle.mover.specs.declared.run.Ran.{Ran}
-use Rattle.mover.specs.Answers.{Answers}
+use Rattle.mover.specs.Answers.{ranAs}
 use Rattle.steplist.specs.Output.{stepLine}
-use Rattle.steplist.specs.Listing.{runningOf, Listable}
+use Rattle.steplist.specs.inner.Listing.{runningOf, Listable}
 use Rattle.steplist.proofs.LengthLaws.{line-short}
-
--- P and s are nothing to the operation of a place
-pub same-operation : (n m P s place : ℕ) → operationAt (record { n = n; m = m; P = 0; s = s }) place ≡ operationAt (record { n = n; m = m; P = P; s = s }) place
-unfolding operationAt operations forwardTurn backwardTurn writes
-same-operation n m P s place = refl
 
 -- what one step of a run that is not refused leaves and counts
 pub record OneStep (M : Move) (run : Running) (place : ℕ) (ran : Ran) (store marks work : List ℕ) : Type 0 where
@@ -34,17 +28,16 @@ module _ (M : Move) (run : Running) (place : ℕ) (L : Listable M run place) (h 
   unfolding stepsTaken
   one-left = omega arith
 
-  pub one-step : (ran : Ran) (store marks work : List ℕ) → Answers (runAnswer M (run .chip) (run .work) place 1) ran store marks work → OneStep M run place ran store marks work
+  pub one-step : (ran : Ran) (store marks work : List ℕ) → ranAs ran store marks work ≡ runAnswer M (run .chip) (run .work) place 1 → OneStep M run place ran store marks work
   unfolding answerOf steps
   one-step ran store marks work A =
       let e = run-answer M (run .chip) (run .work) place 1 (L .taken) ∙ ap (answerOf M (run .chip) (run .work) place) one-left in
-      let B = rw e at A in
+      let B = A ∙ e in
       let after = still-taken M (run .chip) (run .work) place 1 (omega arith) (run-taken M (run .chip) (run .work) place (L .taken)) in
-      let size : length work ≡ M .sizes .P = ap length (B .work-is) ∙ after .lent .work-length in
+      let size : length work ≡ M .sizes .p = ap (λ (a : RunAnswer). length (a .work)) B ∙ after .lent .work-length in
       record {
-        left = ap₂ {C = Running} (λ (c : Chip) (w : List ℕ). record { chip = c; work = w })
-            (ap₂ {C = Chip} (λ (s t : List ℕ). record { store = s; marks = t }) (B .store-is) (B .marks-is)) (B .work-is);
-        writes-is = B .writes-is;
-        erases-is = B .erases-is;
+        left = ap {B = Running} (λ (a : RunAnswer). record { chip = a .chip; work = a .work }) B;
+        writes-is = ap (λ (a : RunAnswer). a .writes) B;
+        erases-is = ap (λ (a : RunAnswer). a .erases) B;
         short = line-short (M .sizes) place work (L .few-blocks) (L .few-pages) (omega (arith, L .short-pages)) h;
       }

@@ -1,4 +1,3 @@
 pub mod Output
-pub mod Listing
-pub mod Given
 pub mod Example
+pub mod inner

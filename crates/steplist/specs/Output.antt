@@ -1,9 +1,11 @@
 -- Document 01, "The step program": the whole output of an input.
+use mathlib.Core.Path.{_≡_}
 use mathlib.Core.Bool.{cond}
 use mathlib.Core.List.{List, [], _++_}
-use Prim.Native.Nat.{ℕ, zero, suc}
-use lib.ListN.{replicate}
-use Rattle.flash.specs.Geometry.{Sizes, originalCount}
+use Prim.Native.Nat.{ℕ, zero, suc, _≤_}
+use lib.ListN.{length, take, replicate}
+use Rattle.flash.specs.declared.sizes.Sizes.{Sizes}
+use Rattle.flash.specs.Geometry.{originalCount}
 use Rattle.split.specs.OneToOne.{badList}
 use Rattle.split.specs.Rule.{splitByRule}
 use Rattle.method.specs.Move.{Move}
@@ -35,7 +37,7 @@ moveLines M start =
 -- "The spare is blank.": the move of a store at rest, by the split that the split call makes
 unfoldable pub listed : Sizes → (list bytes : List ℕ) → List ℕ
 listed Z list bytes =
-    moveLines (record { sizes = Z; list = list; sets = splitByRule (Z .n) (Z .m) list }) (record { chip = atRest Z bytes; work = replicate (Z .P) 0 })
+    moveLines (record { sizes = Z; list = list; sets = splitByRule (Z .n) (Z .m) list }) (record { chip = atRest Z bytes; work = replicate (Z .p) 0 })
 
 -- "A bad list gives `refused 3`." An entry above 16 bits is at or above n × m, as any other too large.
 unfoldable pub answered : Reading → List ℕ
@@ -45,3 +47,7 @@ answered (request Z list bytes) = cond (badList (originalCount Z) list) (refused
 
 unfoldable pub output : (input : List ℕ) → List ℕ
 output input = answered (reading (withinLimit input))
+
+-- A count of bytes at the front of a part. The second follows from the first; both are what lending the front asks for.
+abbrev pub Counts : (count : ℕ) → (out : List ℕ) → Type 0
+Counts count out = (count ≤ length out) × (count ≡ length (take count out))

@@ -1,17 +1,20 @@
 // The answer to an input.
 ghost use mathlib.Core.Path.{_≡_};
-ghost use Prim.Native.Nat.{_*_, _≤_};
+ghost use Prim.Native.Nat.{_≤_};
 ghost use lib.ListN.{length};
+ghost use Rattle.flash.specs.Geometry.{originalCount};
+ghost use Rattle.method.specs.Move.{moveOf};
 ghost use Rattle.method.specs.State.{atRest};
 ghost use Rattle.listing.specs.Area.{over, Written};
 ghost use Rattle.listing.specs.Request.{request, withinLimit};
-ghost use Rattle.listing.specs.Found.{requestIn};
-ghost use Rattle.steplist.specs.Output.{listed, answered, output};
-ghost use Rattle.steplist.specs.Listing.{moveOf, runningOf, moved, mostOutput};
-ghost use Rattle.steplist.specs.Given.{Asked, Readable, Accepted, judgedList, judgedSets, Empty, Counts};
+ghost use Rattle.listing.specs.inner.Found.{requestIn};
+ghost use Rattle.steplist.specs.Output.{listed, answered, output, Counts};
+ghost use Rattle.steplist.specs.inner.Listing.{runningOf, moved, mostOutput};
+ghost use Rattle.steplist.specs.inner.Given.{Asked, Readable, Accepted, judgedList, judgedSets, Empty};
 use crate::listed::put_listing;
 use crate::rest::put_marks;
 use crate::rest::put_store;
+use flash::sizes::Sizes;
 use flash::sizes::original_count;
 use flash::sizes::slot_count;
 use flash::sizes::store_length;
@@ -45,10 +48,7 @@ const MOST_STORE: usize = 4608;
 // Fills the store and the marks as they are at rest, and lists the move.
 fn put_from_rest(
     out: &mut [u8],
-    n: usize,
-    m: usize,
-    p: usize,
-    s: usize,
+    z: Sizes,
     list: &[u16],
     sets: &[u8],
     originals: &[u32],
@@ -56,90 +56,80 @@ fn put_from_rest(
     marks: &mut [u8],
     work: &mut [u8],
 ) -> usize
-    requires { ⌜ Accepted (record { n = n; m = m; P = p; s = s }) (now list) (now sets) (now originals) × Empty (record { n = n; m = m; P = p; s = s }) (now store) (now marks) (now work) × (mostOutput ≤ length (now out)) ⌝ }
-    ensures { λ r. ⌜ Written (listed (record { n = n; m = m; P = p; s = s }) (now (list .entry)) (now (originals .entry))) (now (out .entry)) (now (out .exit)) r ⌝ }
-    ensures { λ _. ⌜ runningOf (now (store .exit)) (now (marks .exit)) (now (work .exit)) ≡ moved (moveOf n m p s (now (list .entry)) (now (sets .entry))) (record { chip = atRest (record { n = n; m = m; P = p; s = s }) (now (originals .entry)); work = now (work .entry) }) ⌝ }
+    requires { ⌜ Accepted z (now list) (now sets) (now originals) × Empty z (now store) (now marks) (now work) × (mostOutput ≤ length (now out)) ⌝ }
+    ensures { λ r. ⌜ Written (listed z (now (list .entry)) (now (originals .entry))) (now (out .entry)) (now (out .exit)) r ⌝ }
+    ensures { λ _. ⌜ runningOf (now (store .exit)) (now (marks .exit)) (now (work .exit))
+        ≡ moved (moveOf z (now (list .entry)) (now (sets .entry)))
+        (record { chip = atRest z (now (originals .entry)); work = now (work .entry) }) ⌝ }
 {
+    let m = z.m;
+    let p = z.p;
+    let s = z.s;
     put_store(originals, m * p, store);
     put_marks(m, s as u8, marks);
-    put_listing(out, n, m, p, s, list, sets, store, marks, work)
+    put_listing(out, z, list, sets, store, marks, work)
 }
 
 // Lists the move of an accepted request.
-fn put_accepted(
-    out: &mut [u8],
-    n: usize,
-    m: usize,
-    p: usize,
-    s: usize,
-    list: &[u16],
-    sets: &[u8],
-    originals: &[u32],
-) -> usize
-    requires { ⌜ Accepted (record { n = n; m = m; P = p; s = s }) (now list) (now sets) (now originals) × (mostOutput ≤ length (now out)) ⌝ }
-    ensures { λ r. ⌜ Written (listed (record { n = n; m = m; P = p; s = s }) (now (list .entry)) (now (originals .entry))) (now (out .entry)) (now (out .exit)) r ⌝ }
+fn put_accepted(out: &mut [u8], z: Sizes, list: &[u16], sets: &[u8], originals: &[u32]) -> usize
+    requires { ⌜ Accepted z (now list) (now sets) (now originals) × (mostOutput ≤ length (now out)) ⌝ }
+    ensures { λ r. ⌜ Written (listed z (now (list .entry)) (now (originals .entry))) (now (out .entry)) (now (out .exit)) r ⌝ }
 {
     let mut store = [0u8; MOST_STORE];
     let mut marks = [0u8; MOST_SLOTS];
     let mut work = [0u8; MOST_PAGE];
-    let size = store_length(n, m, p);
-    let slots = slot_count(n, m);
+    let size = store_length(z);
+    let slots = slot_count(z);
+    let page = z.p;
     put_from_rest(
         out,
-        n,
-        m,
-        p,
-        s,
+        z,
         list,
         sets,
         originals,
         &mut store[..size],
         &mut marks[..slots],
-        &mut work[..p],
+        &mut work[..page],
     )
 }
 
 // Judges and splits the list of a request, and lists its move. A number is judged before it is cut to 16 bits.
 fn put_judged(
     out: &mut [u8],
-    n: usize,
-    m: usize,
-    p: usize,
-    s: usize,
+    z: Sizes,
     entries: &[u32],
     originals: &[u32],
     list: &mut [u16],
     sets: &mut [u8],
 ) -> usize
-    requires { ⌜ Readable (record { n = n; m = m; P = p; s = s }) (now entries) (now originals) × (length (now list) ≡ n * m) × (length (now sets) ≡ n * m) × (mostOutput ≤ length (now out)) ⌝ }
-    ensures { λ r. ⌜ Written (answered (request (record { n = n; m = m; P = p; s = s }) (now (entries .entry)) (now (originals .entry)))) (now (out .entry)) (now (out .exit)) r ⌝ }
-    ensures { λ _. ⌜ (now (list .exit) ≡ judgedList (now (entries .entry)) (now (list .entry))) × (now (sets .exit) ≡ judgedSets (record { n = n; m = m; P = p; s = s }) (now (entries .entry)) (now (sets .entry))) ⌝ }
+    requires { ⌜ Readable z (now entries) (now originals) × (length (now list) ≡ originalCount z) × (length (now sets) ≡ originalCount z)
+        × (mostOutput ≤ length (now out)) ⌝ }
+    ensures { λ r. ⌜ Written (answered (request z (now (entries .entry)) (now (originals .entry)))) (now (out .entry)) (now (out .exit)) r ⌝ }
+    ensures { λ _. ⌜ (now (list .exit) ≡ judgedList (now (entries .entry)) (now (list .entry)))
+        × (now (sets .exit) ≡ judgedSets z (now (entries .entry)) (now (sets .entry))) ⌝ }
 {
     if !fit(entries, MOST_ENTRY) {
         return put_refused(out, 0, 3);
     }
     put_entries(entries, list);
-    if split(n, m, p, s, list, sets) != 0 {
+    if split(z, list, sets) != 0 {
         return put_refused(out, 0, 3);
     }
-    put_accepted(out, n, m, p, s, list, sets, originals)
+    put_accepted(out, z, list, sets, originals)
 }
 
 // Answers a request whose numbers were read.
-fn put_move(out: &mut [u8], n: usize, m: usize, p: usize, s: usize, numbers: &[u32]) -> usize
-    requires { ⌜ Asked (record { n = n; m = m; P = p; s = s }) (now numbers) × (4160 ≤ length (now numbers)) × (mostOutput ≤ length (now out)) ⌝ }
-    ensures { λ r. ⌜ Written (answered (requestIn (now (numbers .entry)) (record { n = n; m = m; P = p; s = s }))) (now (out .entry)) (now (out .exit)) r ⌝ }
+fn put_move(out: &mut [u8], z: Sizes, numbers: &[u32]) -> usize
+    requires { ⌜ Asked z (now numbers) × (4160 ≤ length (now numbers)) × (mostOutput ≤ length (now out)) ⌝ }
+    ensures { λ r. ⌜ Written (answered (requestIn (now (numbers .entry)) z)) (now (out .entry)) (now (out .exit)) r ⌝ }
 {
     let mut list = [0u16; MOST_ORIGINALS];
     let mut sets = [0u8; MOST_ORIGINALS];
-    let count = original_count(n, m);
-    let due = numbers_due(count, p);
+    let count = original_count(z);
+    let due = numbers_due(count, z.p);
     put_judged(
         out,
-        n,
-        m,
-        p,
-        s,
+        z,
         &numbers[..count],
         &numbers[count..due],
         &mut list[..count],
@@ -148,18 +138,11 @@ fn put_move(out: &mut [u8], n: usize, m: usize, p: usize, s: usize, numbers: &[u
 }
 
 // The same, in an area and with room of fixed sizes.
-fn put_request(
-    out: &mut [u8; MOST_OUTPUT],
-    n: usize,
-    m: usize,
-    p: usize,
-    s: usize,
-    numbers: &[u32; MOST_NUMBERS],
-) -> usize
-    requires { ⌜ Asked (record { n = n; m = m; P = p; s = s }) (now numbers) ⌝ }
-    ensures { λ r. ⌜ Written (answered (requestIn (now (numbers .entry)) (record { n = n; m = m; P = p; s = s }))) (now (out .entry)) (now (out .exit)) r ⌝ }
+fn put_request(out: &mut [u8; MOST_OUTPUT], z: Sizes, numbers: &[u32; MOST_NUMBERS]) -> usize
+    requires { ⌜ Asked z (now numbers) ⌝ }
+    ensures { λ r. ⌜ Written (answered (requestIn (now (numbers .entry)) z)) (now (out .entry)) (now (out .exit)) r ⌝ }
 {
-    put_move(out, n, m, p, s, numbers)
+    put_move(out, z, numbers)
 }
 
 // Answers an input: the answer is written over the front of `out`, and its length is returned. The input's byte behind the limit, if it
@@ -174,6 +157,6 @@ pub fn answer(input: &mut [u8], out: &mut [u8; MOST_OUTPUT]) -> usize
     match read(&input[..end], &mut numbers) {
         Request::Unreadable => put_unreadable(out, 0),
         Request::Refused => put_refused(out, 0, 1),
-        Request::Move { n, m, p, s } => put_request(out, n, m, p, s, &numbers),
+        Request::Move { z } => put_request(out, z, &numbers),
     }
 }

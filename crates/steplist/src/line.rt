@@ -4,27 +4,20 @@ ghost use lib.ListN.{length};
 ghost use Rattle.method.specs.Place.{operationAt};
 ghost use Rattle.listing.specs.Lines.{Printed};
 ghost use Rattle.steplist.specs.Output.{stepLine};
+use flash::sizes::Sizes;
 use listing::lines::put_erase;
 use listing::lines::put_write;
 use places::place::Op;
 use places::place::Place;
 
 // Prints the line of the step at a place: after a write the work page is the page written. Answers the next position.
-pub fn put_line(
-    out: &mut [u8],
-    at: usize,
-    n: usize,
-    m: usize,
-    s: usize,
-    place: usize,
-    work: &[u8],
-) -> usize
-    requires { ⌜ (1 ≤ n) × (n ≤ 64) × (1 ≤ m) × (m ≤ 64) × (s < 3) ⌝ }
-    requires { ⌜ at + length (stepLine place (operationAt (record { n = n; m = m; P = 0; s = s }) place) (now work)) ≤ length (now out) ⌝ }
-    ensures { λ r. ⌜ Printed (stepLine place (operationAt (record { n = n; m = m; P = 0; s = s }) place) (now (work .entry))) (now (out .entry)) at (now (out .exit)) r ⌝ }
+pub fn put_line(out: &mut [u8], at: usize, z: Sizes, place: usize, work: &[u8]) -> usize
+    requires { ⌜ (1 ≤ z .n) × (z .n ≤ 64) × (1 ≤ z .m) × (z .m ≤ 64) × (z .s < 3) ⌝ }
+    requires { ⌜ at + length (stepLine place (operationAt z place) (now work)) ≤ length (now out) ⌝ }
+    ensures { λ r. ⌜ Printed (stepLine place (operationAt z place) (now (work .entry))) (now (out .entry)) at (now (out .exit)) r ⌝ }
 {
     let here = Place { at: place };
-    match here.operation(n, m, s) {
+    match here.operation(z) {
         Op::Write {
             backward: _,
             block,

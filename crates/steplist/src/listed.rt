@@ -2,16 +2,17 @@
 ghost use mathlib.Core.Path.{_≡_};
 ghost use Prim.Native.Nat.{_+_, _≤_, _<_};
 ghost use lib.ListN.{length};
+ghost use Rattle.method.specs.Move.{moveOf};
 ghost use Rattle.method.specs.Place.{lastPlace};
 ghost use Rattle.listing.specs.Area.{Written};
 ghost use Rattle.steplist.specs.Output.{moveLines};
-ghost use Rattle.steplist.specs.Listing.{moveOf, runningOf, Listable, moved, mostLine, mostOutput, Stepped, Shows};
+ghost use Rattle.steplist.specs.inner.Listing.{runningOf, Listable, moved, mostLine, mostOutput, Stepped, Shows};
 use crate::line::put_line;
+use flash::sizes::Sizes;
 use flash::wide::word;
 use listing::lines::put_end;
 use mover::run::run;
 use places::place::last_place;
-use walk::sizes::Sizes;
 
 // How far the listing has come: the next position, and what was counted.
 pub struct Shown {
@@ -24,10 +25,7 @@ pub struct Shown {
 fn put_step(
     out: &mut [u8],
     at: usize,
-    n: usize,
-    m: usize,
-    p: usize,
-    s: usize,
+    z: Sizes,
     list: &[u16],
     sets: &[u8],
     store: &mut [u8],
@@ -35,12 +33,14 @@ fn put_step(
     work: &mut [u8],
     place: usize,
 ) -> Shown
-    requires { ⌜ Listable (moveOf n m p s (now list) (now sets)) (runningOf (now store) (now marks) (now work)) place ⌝ }
-    requires { ⌜ (place < lastPlace (record { n = n; m = m; P = p; s = s })) × (at + mostLine ≤ length (now out)) ⌝ }
-    ensures { λ r. ⌜ Stepped (moveOf n m p s (now (list .entry)) (now (sets .entry))) place (runningOf (now (store .entry)) (now (marks .entry)) (now (work .entry))) (now (out .entry)) at r (now (out .exit)) (now (store .exit)) (now (marks .exit)) (now (work .exit)) ⌝ }
+    requires { ⌜ Listable (moveOf z (now list) (now sets)) (runningOf (now store) (now marks) (now work)) place ⌝ }
+    requires { ⌜ (place < lastPlace z) × (at + mostLine ≤ length (now out)) ⌝ }
+    ensures { λ r. ⌜ Stepped (moveOf z (now (list .entry)) (now (sets .entry))) place
+        (runningOf (now (store .entry)) (now (marks .entry)) (now (work .entry))) (now (out .entry)) at r (now (out .exit))
+        (now (store .exit)) (now (marks .exit)) (now (work .exit)) ⌝ }
 {
-    let ran = run(n, m, p, s, list, sets, store, marks, work, place, 1);
-    let next = put_line(out, at, n, m, s, place, work);
+    let ran = run(z, list, sets, store, marks, work, place, 1);
+    let next = put_line(out, at, z, place, work);
     Shown {
         at: next,
         writes: word(ran.writes),
@@ -51,26 +51,25 @@ fn put_step(
 // Takes all steps and prints their lines.
 fn put_steps(
     out: &mut [u8],
-    n: usize,
-    m: usize,
-    p: usize,
-    s: usize,
+    z: Sizes,
     list: &[u16],
     sets: &[u8],
     store: &mut [u8],
     marks: &mut [u8],
     work: &mut [u8],
 ) -> Shown
-    requires { ⌜ Listable (moveOf n m p s (now list) (now sets)) (runningOf (now store) (now marks) (now work)) 0 × (mostOutput ≤ length (now out)) ⌝ }
-    ensures { λ r. ⌜ Shows (moveOf n m p s (now (list .entry)) (now (sets .entry))) (runningOf (now (store .entry)) (now (marks .entry)) (now (work .entry))) (lastPlace (record { n = n; m = m; P = p; s = s })) (r .at) (r .writes) (r .erases) (now (out .entry)) (now (out .exit)) (now (store .exit)) (now (marks .exit)) (now (work .exit)) ⌝ }
+    requires { ⌜ Listable (moveOf z (now list) (now sets)) (runningOf (now store) (now marks) (now work)) 0 × (mostOutput ≤ length (now out)) ⌝ }
+    ensures { λ r. ⌜ Shows (moveOf z (now (list .entry)) (now (sets .entry)))
+        (runningOf (now (store .entry)) (now (marks .entry)) (now (work .entry))) (lastPlace z) (r .at) (r .writes) (r .erases)
+        (now (out .entry)) (now (out .exit)) (now (store .exit)) (now (marks .exit)) (now (work .exit)) ⌝ }
 {
-    let last = last_place(Sizes { n, m, p, s });
+    let last = last_place(z);
     let mut at = 0;
     let mut writes = 0;
     let mut erases = 0;
     let mut place = 0;
     while place < last {
-        let step = put_step(out, at, n, m, p, s, list, sets, store, marks, work, place);
+        let step = put_step(out, at, z, list, sets, store, marks, work, place);
         at = step.at;
         writes += step.writes;
         erases += step.erases;
@@ -82,20 +81,20 @@ fn put_steps(
 // Moves a store at rest step by step, and prints the lines of the steps and the end line. Answers how many bytes were printed.
 pub fn put_listing(
     out: &mut [u8],
-    n: usize,
-    m: usize,
-    p: usize,
-    s: usize,
+    z: Sizes,
     list: &[u16],
     sets: &[u8],
     store: &mut [u8],
     marks: &mut [u8],
     work: &mut [u8],
 ) -> usize
-    requires { ⌜ Listable (moveOf n m p s (now list) (now sets)) (runningOf (now store) (now marks) (now work)) 0 × (mostOutput ≤ length (now out)) ⌝ }
-    ensures { λ r. ⌜ Written (moveLines (moveOf n m p s (now (list .entry)) (now (sets .entry))) (runningOf (now (store .entry)) (now (marks .entry)) (now (work .entry)))) (now (out .entry)) (now (out .exit)) r ⌝ }
-    ensures { λ _. ⌜ runningOf (now (store .exit)) (now (marks .exit)) (now (work .exit)) ≡ moved (moveOf n m p s (now (list .entry)) (now (sets .entry))) (runningOf (now (store .entry)) (now (marks .entry)) (now (work .entry))) ⌝ }
+    requires { ⌜ Listable (moveOf z (now list) (now sets)) (runningOf (now store) (now marks) (now work)) 0 × (mostOutput ≤ length (now out)) ⌝ }
+    ensures { λ r. ⌜ Written (moveLines (moveOf z (now (list .entry)) (now (sets .entry)))
+        (runningOf (now (store .entry)) (now (marks .entry)) (now (work .entry)))) (now (out .entry)) (now (out .exit)) r ⌝ }
+    ensures { λ _. ⌜ runningOf (now (store .exit)) (now (marks .exit)) (now (work .exit))
+        ≡ moved (moveOf z (now (list .entry)) (now (sets .entry)))
+        (runningOf (now (store .entry)) (now (marks .entry)) (now (work .entry))) ⌝ }
 {
-    let shown = put_steps(out, n, m, p, s, list, sets, store, marks, work);
+    let shown = put_steps(out, z, list, sets, store, marks, work);
     put_end(out, shown.at, shown.writes, shown.erases)
 }

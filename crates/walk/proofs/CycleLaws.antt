@@ -8,18 +8,19 @@ use native.Mathlib.Numerals.{add-one}
 use native.Mathlib.Omega.{arith}
 use lib.ListN.{length, getD, set}
 use lib.Seq.{getD-set-same, getD-set-other}
-use Rattle.flash.specs.Geometry.{Sizes, blockOf, numberAt}
+use Rattle.flash.specs.declared.sizes.Sizes.{Sizes}
+use Rattle.flash.specs.Geometry.{blockOf, numberAt}
 use Rattle.flash.proofs.Bounds.{product-le}
 use Rattle.flash.proofs.Comparisons.{lt-cases}
 use Rattle.split.specs.Split.{sourceBlock, destBlock, setOf}
 use Rattle.split.proofs.SplitLaws.{same-from, same-to, place-block}
 use Rattle.method.specs.Move.{Move}
 use Rattle.method.specs.Cycle.{D, dest, pred, sentTo}
-use Rattle.method.proofs.Indexes.{slot-div, slot-mod, slot-lt}
-use Rattle.method.proofs.Orbit.{DataBlock}
-use Rattle.method.proofs.Shape.{Accepted}
-use Rattle.method.proofs.Cycles.{set-in, entry-in, block-in, D-page, D-is, dest-is, pred-in, dest-pred, pred-dest, sent-in, entry-sent, sent-entry}
-use Rattle.walk.specs.Moving.{Given, entryOf, Tables, Leads}
+use Rattle.method.proofs.basics.Indexes.{slot-div, slot-mod, slot-lt}
+use Rattle.method.proofs.cycles.Orbits.{DataBlock}
+use Rattle.method.proofs.basics.MoveShape.{Accepted}
+use Rattle.method.proofs.cycles.SetCycles.{set-in, entry-in, block-in, D-page, D-is, dest-is, pred-in, dest-pred, pred-dest, sent-in, entry-sent, sent-entry}
+use Rattle.walk.specs.inner.Moving.{Given, entryOf, Tables, Leads}
 
 -- what was given is an accepted move
 pub accepted : (M : Move) → Given M → Accepted M
@@ -29,8 +30,8 @@ accepted M G = record {
     n-high = G .n-high;
     m-low = G .m-low;
     m-high = G .m-high;
-    P-low = G .P-low;
-    P-high = G .P-high;
+    p-low = G .p-low;
+    p-high = G .p-high;
     s-high = G .s-high;
   };
   list-length = G .list-length;

@@ -8,16 +8,17 @@ use native.Mathlib.Omega.{arith}
 use lib.ListN.{length, getD, take}
 use lib.Seq.{getD-take, length-take-le}
 use Rattle.flash.specs.Lists.{range, any}
-use Rattle.flash.specs.Geometry.{Sizes, blockOf, slotCount}
+use Rattle.flash.specs.declared.sizes.Sizes.{Sizes}
+use Rattle.flash.specs.Geometry.{blockOf, slotCount}
 use Rattle.flash.proofs.Bounds.{slot-in-marks}
 use Rattle.split.specs.Split.{setOf}
 use Rattle.method.specs.Move.{Move}
 use Rattle.method.specs.Cycle.{D, dest, pred, top, isTop}
 use Rattle.method.specs.Read.{fullOf, codedSlot, plainSlot, finalSlot, goBack, goOn, readSlots}
-use Rattle.method.proofs.Each.{Each, each-cons, each-one}
-use Rattle.method.proofs.Orbit.{DataBlock}
-use Rattle.method.proofs.Cycles.{entry-in, set-in, block-in, D-page, dest-in, pred-in}
-use Rattle.walk.specs.Moving.{Given}
+use Rattle.method.proofs.basics.EachNumber.{Each, each-cons, each-one}
+use Rattle.method.proofs.cycles.Orbits.{DataBlock}
+use Rattle.method.proofs.cycles.SetCycles.{entry-in, set-in, block-in, D-page, dest-in, pred-in}
+use Rattle.walk.specs.inner.Moving.{Given}
 use Rattle.walk.proofs.CycleLaws.{accepted}
 
 module _ (Q : ℕ → Type 0) where

@@ -8,15 +8,15 @@ use native.Mathlib.Numerals.{add-one}
 use native.Mathlib.Omega.{arith}
 use lib.ListN.{length, getD}
 use Rattle.flash.specs.Lists.{iterates}
-use Rattle.flash.specs.Geometry.{Sizes}
+use Rattle.flash.specs.declared.sizes.Sizes.{Sizes}
 use Rattle.flash.proofs.Comparisons.{lt-cases}
 use Rattle.method.specs.Move.{Move}
 use Rattle.method.specs.Cycle.{highest, pred, top}
-use Rattle.method.proofs.Orbit.{DataBlock, iterate, iterate-last, length-iterates, iterates-at}
-use Rattle.method.proofs.Shape.{Accepted}
-use Rattle.method.proofs.Cycles.{pred-in}
-use Rattle.method.proofs.Tops.{highest-ge, highest-is, top-ge-self, top-pred, top-behind}
-use Rattle.walk.specs.Moving.{entryOf, Tables}
+use Rattle.method.proofs.cycles.Orbits.{DataBlock, iterate, iterate-last, length-iterates, iterates-at}
+use Rattle.method.proofs.basics.MoveShape.{Accepted}
+use Rattle.method.proofs.cycles.SetCycles.{pred-in}
+use Rattle.method.proofs.cycles.Tops.{highest-ge, highest-is, top-ge-self, top-pred, top-behind}
+use Rattle.walk.specs.inner.Moving.{entryOf, Tables}
 use Rattle.walk.proofs.CycleLaws.{accepted}
 
 -- ---- a way that comes back to its start meets nothing new after that

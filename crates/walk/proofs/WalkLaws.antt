@@ -12,31 +12,25 @@ use lib.ListN.{length, getD, set, take, length-set}
 use lib.Seq.{getD-take, length-take-le, take-suc, take-suc-set, take-all}
 use borrow.Author.Tests.{eq-eqb, ne-eqb, lt-ltb, le-ltb}
 use Rattle.flash.specs.Lists.{range, any}
-use Rattle.flash.specs.Geometry.{Sizes, slot, blockOf, slotOf}
+use Rattle.flash.specs.declared.sizes.Sizes.{Sizes}
+use Rattle.flash.specs.Geometry.{slot, blockOf, slotOf, letter}
 use Rattle.flash.specs.PageSum.{_⊕_, sum, oneOrBoth}
 use Rattle.flash.specs.Chip.{isFull}
 use Rattle.flash.proofs.Bounds.{product-le}
-use Rattle.flash.proofs.Ranges.{any-more}
 use Rattle.flash.proofs.Sums.{⊕-assoc, sum-more}
 use Rattle.split.specs.Split.{destBlock, setOf}
-use Rattle.method.specs.Move.{Move, letter}
+use Rattle.method.specs.Move.{Move}
 use Rattle.method.specs.Cycle.{D, dest, pred, top, isTop}
 use Rattle.method.specs.Read.{fullOf, codedSlot, plainSlot, finalSlot, goBack, goOn, readSlots}
-use Rattle.method.proofs.Orbit.{DataBlock}
-use Rattle.method.proofs.Cycles.{set-in, block-in, D-page, D-is, dest-in, pred-in}
-use Rattle.method.proofs.Tops.{top-in, top-pred}
-use Rattle.walk.specs.Moving.{Given, Tables}
+use Rattle.method.proofs.cycles.Orbits.{DataBlock}
+use Rattle.method.proofs.cycles.SetCycles.{set-in, block-in, D-page, D-is, dest-in, pred-in}
+use Rattle.method.proofs.cycles.Tops.{top-in, top-pred}
+use Rattle.walk.specs.inner.Moving.{Given, Tables}
 use Rattle.walk.proofs.CycleLaws.{accepted}
 
 -- the slot of a page number
 pub home-is : (m k : ℕ) → k + m ≡ slotOf m k
 home-is m k = omega (arith, suc-mul (k / m) m, div-add-mod' k m, add-one (k / m))
-
--- one block more that is not full
-pub none-full : (test : ℕ → Bool) (block : ℕ) → any test (range 0 block) ≡ false → test block ≡ false → any test (range 0 (block + 1)) ≡ false
-none-full test block none this =
-    let at : 0 + block ≡ block = omega arith in
-    any-more test 0 block ∙ rw (none, at, this)
 
 -- one page more is added
 pub sum-turn : (page : ℕ → List ℕ) (slots : List ℕ) (i : ℕ) → i < length slots → sum page (take (i + 1) slots) ≡ sum page (take i slots) ⊕ page (getD slots i 0)

@@ -1,2 +1,1 @@
-pub mod Moving
-pub mod Slots
+pub mod inner

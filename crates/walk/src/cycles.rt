@@ -3,14 +3,15 @@ ghost use mathlib.Core.Path.{_≡_};
 ghost use mathlib.Core.List.{List};
 ghost use Prim.Native.Nat.{ℕ, _≤_, _<_};
 ghost use lib.ListN.{length};
+ghost use Rattle.method.specs.Move.{moveOf};
 ghost use Rattle.flash.specs.Geometry.{numberAt};
 ghost use Rattle.split.specs.Split.{destBlock};
 ghost use Rattle.method.specs.Cycle as method;
 ghost use Rattle.method.specs.Cycle.{D, isTop, sentTo};
-ghost use Rattle.walk.specs.Moving.{moveOf, Given, entryOf, Tables, Leads};
-use crate::sizes::Sizes;
+ghost use Rattle.walk.specs.inner.Moving.{Given, entryOf, Tables, Leads};
 use flash::quotient::quotient;
 use flash::quotient::reciprocal;
+use flash::sizes::Sizes;
 use flash::wide::entry;
 use flash::wide::narrow;
 use flash::wide::wide;
@@ -86,7 +87,8 @@ pub fn sent_to(
 // The top of block v's cycle: the highest block that is met on the way back to v.
 pub fn top_of(z: Sizes, from: &[u8; 4096], set: usize, v: usize) -> usize
     requires { ⌜ (z .n ≤ 64) × (z .m ≤ 64) × (set < z .m) × (1 ≤ v) × (v ≤ z .n) × Leads (z .n) (z .m) (now from) set ⌝ }
-    ensures { λ r. ⌜ ((list sets pages : List ℕ) → Tables (moveOf z list sets) pages (now (from .entry)) → r ≡ method.top (moveOf z list sets) set v) ⌝ }
+    ensures { λ r. ⌜ ((list sets pages : List ℕ) → Tables (moveOf z list sets) pages (now (from .entry)) → r
+        ≡ method.top (moveOf z list sets) set v) ⌝ }
 {
     let m = z.m;
     let mut top = v;

@@ -2,7 +2,5 @@
 // A function here may have a `requires`: only the crates above call it, and their proofs show it.
 
 pub mod cycles;
-pub mod letters;
 pub mod pages;
-pub mod sizes;
 pub mod walk;

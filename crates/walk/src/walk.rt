@@ -5,30 +5,30 @@ ghost use mathlib.Core.Path.{_≡_};
 ghost use mathlib.Core.Bool.{cond, _||_};
 ghost use Prim.Native.Nat.{_+_, _-_, _*_, _≤_, _<_};
 ghost use lib.ListN.{length, getD};
+ghost use Rattle.method.specs.Move.{moveOf};
 ghost use Rattle.flash.specs.Lists.{range, any};
-ghost use Rattle.flash.specs.Geometry.{slotOf};
+ghost use Rattle.flash.specs.Geometry.{slotOf, letter};
 ghost use Rattle.flash.specs.Chip.{isFull};
-ghost use Rattle.method.specs.Move.{letter};
 ghost use Rattle.method.specs.Cycle as method;
 ghost use Rattle.method.specs.Read.{goBack, goOn, readSlots};
-ghost use Rattle.walk.specs.Moving.{sizesOf, moveOf, Tables};
-ghost use Rattle.walk.specs.Slots.{Appends};
+ghost use Rattle.walk.specs.inner.Moving.{Tables};
+ghost use Rattle.walk.specs.inner.Slots.{Appends};
 use crate::cycles::goes_to;
 use crate::cycles::page_of;
 use crate::cycles::top_of;
-use crate::letters::letter_after;
-use crate::sizes::Sizes;
 use flash::block::is_full;
+use flash::sizes::Sizes;
+use flash::sizes::letter_after;
 use flash::wide::entry;
 use flash::wide::wide;
 
 // Whether the block is full of the letter that comes i after s. Its first mark tells most blocks that are not.
 pub fn full_of(z: Sizes, marks: &[u8], i: usize, block: usize) -> bool
     requires { ⌜ (1 ≤ z .m) × (z .s < 3) × (i < 3) × (block * z .m + z .m ≤ length (now marks)) ⌝ }
-    ensures { λ r. ⌜ r ≡ isFull (z .m) (now (marks .entry)) block (letter (sizesOf z) i) ⌝ }
+    ensures { λ r. ⌜ r ≡ isFull (z .m) (now (marks .entry)) block (letter z i) ⌝ }
 {
     let m = z.m;
-    let letter = letter_after(z.s, i);
+    let letter = letter_after(z, i);
     if marks[block * m] == letter {
         is_full(marks, m, block, letter)
     } else {
@@ -47,7 +47,8 @@ fn home(list: &[u16], m: usize, k: usize, after: bool) -> usize
 // Rule 2's test: c(top) lies in a block full of s + 1, or blocks full of s exist.
 fn goes_back(z: Sizes, marks: &[u8], top: usize) -> bool
     requires { ⌜ (1 ≤ z .m) × (z .n ≤ 64) × (z .s < 3) × (1 ≤ top) × (top ≤ z .n) × (length (now marks) ≡ (z .n + 1) * z .m) ⌝ }
-    ensures { λ r. ⌜ r ≡ (isFull (z .m) (now (marks .entry)) (top - 1) (letter (sizesOf z) 1) || any (λ block. isFull (z .m) (now (marks .entry)) block (letter (sizesOf z) 0)) (range 0 (z .n + 1))) ⌝ }
+    ensures { λ r. ⌜ r ≡ (isFull (z .m) (now (marks .entry)) (top - 1) (letter z 1) || any
+        (λ block. isFull (z .m) (now (marks .entry)) block (letter z 0)) (range 0 (z .n + 1))) ⌝ }
 {
     if full_of(z, marks, 1, top - 1) {
         return true;
@@ -79,7 +80,8 @@ fn go_back(
     requires { ⌜ Tables (moveOf z (now list) (now sets)) (now pages) (now from) ⌝ }
     requires { ⌜ (length (now marks) ≡ (z .n + 1) * z .m) × (set < z .m) × (1 ≤ start) × (start ≤ z .n) ⌝ }
     requires { ⌜ (method.top (moveOf z (now list) (now sets)) set start ≡ top) × (length (now slots) ≡ 130) × (at ≤ 65) ⌝ }
-    ensures { λ r. ⌜ Appends (now (slots .entry)) at (goBack (moveOf z (now (list .entry)) (now (sets .entry))) (now (marks .entry)) set (z .n) start) (now (slots .exit)) r ⌝ }
+    ensures { λ r. ⌜ Appends (now (slots .entry)) at
+        (goBack (moveOf z (now (list .entry)) (now (sets .entry))) (now (marks .entry)) set (z .n) start) (now (slots .exit)) r ⌝ }
 {
     let m = z.m;
     let mut v = start;
@@ -118,7 +120,8 @@ fn go_on(
     requires { ⌜ Tables (moveOf z (now list) (now sets)) (now pages) (now from) ⌝ }
     requires { ⌜ (length (now marks) ≡ (z .n + 1) * z .m) × (set < z .m) × (1 ≤ start) × (start ≤ z .n) ⌝ }
     requires { ⌜ (length (now slots) ≡ 130) × (at ≤ 65) ⌝ }
-    ensures { λ r. ⌜ Appends (now (slots .entry)) at (goOn (moveOf z (now (list .entry)) (now (sets .entry))) (now (marks .entry)) set (z .n) start) (now (slots .exit)) r ⌝ }
+    ensures { λ r. ⌜ Appends (now (slots .entry)) at
+        (goOn (moveOf z (now (list .entry)) (now (sets .entry))) (now (marks .entry)) set (z .n) start) (now (slots .exit)) r ⌝ }
 {
     let m = z.m;
     let mut v = start;
@@ -154,7 +157,8 @@ pub fn read_slots(
 ) -> usize
     requires { ⌜ Tables (moveOf z (now list) (now sets)) (now pages) (now from) ⌝ }
     requires { ⌜ (length (now marks) ≡ (z .n + 1) * z .m) × (k < z .n * z .m) × (length (now slots) ≡ 130) × (at ≤ 65) ⌝ }
-    ensures { λ r. ⌜ Appends (now (slots .entry)) at (readSlots (moveOf z (now (list .entry)) (now (sets .entry))) (now (marks .entry)) k) (now (slots .exit)) r ⌝ }
+    ensures { λ r. ⌜ Appends (now (slots .entry)) at (readSlots (moveOf z (now (list .entry)) (now (sets .entry))) (now (marks .entry)) k)
+        (now (slots .exit)) r ⌝ }
 {
     let m = z.m;
     let v = k / m + 1;

@@ -1,17 +1,17 @@
-use Rattle.method.proofs.Cases.{cases-hold}
-use Rattle.method.proofs.Steps.{steps-counted}
-use Rattle.method.proofs.PlacesDiffer.{places-differ}
-use Rattle.method.proofs.ErasesCounted.{erases-counted}
-use Rattle.method.proofs.PagesRise.{pages-rise}
-use Rattle.method.proofs.WalksEnd.{top-is-highest, walks-end}
-use Rattle.method.proofs.MendLines.{lines-agree}
-use Rattle.method.proofs.MendNext.{erases-next}
-use Rattle.method.proofs.Refusals.{lowest-returned}
-use Rattle.method.proofs.RunClaims.{runs-add-up, states-reached}
-use Rattle.method.proofs.Demand.{demand-3}
-use Rattle.method.proofs.Example.{example-holds}
-use Rattle.method.proofs.BoundsMet.{bounds-met}
-use Rattle.method.proofs.TwoPages.{two-pages-hold}
+use Rattle.method.proofs.examples.Cases.{cases-hold}
+use Rattle.method.proofs.places.StepsCounted.{steps-counted}
+use Rattle.method.proofs.places.PlacesDiffer.{places-differ}
+use Rattle.method.proofs.places.ErasesCounted.{erases-counted}
+use Rattle.method.proofs.places.PagesRise.{pages-rise}
+use Rattle.method.proofs.walks.WalksEnd.{top-is-highest, walks-end}
+use Rattle.method.proofs.recovery.LinesAgree.{lines-agree}
+use Rattle.method.proofs.recovery.ErasesNext.{erases-next}
+use Rattle.method.proofs.refusals.LowestReturned.{lowest-returned}
+use Rattle.method.proofs.states.RunsAddUp.{runs-add-up, states-reached}
+use Rattle.method.proofs.demand.EveryEvent.{demand-3}
+use Rattle.method.proofs.examples.Example.{example-holds}
+use Rattle.method.proofs.examples.BoundsMet.{bounds-met}
+use Rattle.method.proofs.examples.TwoPages.{two-pages-hold}
 use Rattle.method.proofs.claims.Statement.{statement}
 use Rattle.method.proofs.claims.Tie as tie
 

@@ -2,7 +2,7 @@ use mathlib.Core.Path.{_≡_, ap, _∙_}
 use Prim.Native.Nat.{ℕ, _+_, _*_, _/_, _%_, _≤_, _<_}
 use native.Mathlib.Nat.{div-add-mod', mod-lt, div-le-self, le-div-iff-mul-le, mul-le-mul, mul-le-mul-left, mul-le-mul-right}
 use native.Mathlib.Omega.{arith}
-use Rattle.flash.specs.Reciprocal.{reciprocal}
+use Rattle.flash.specs.inner.Reciprocal.{reciprocal}
 use Rattle.flash.proofs.quotient.quotient.Statement.{statement}
 use Rattle.flash.proofs.quotient.quotient.Tie as tie
 

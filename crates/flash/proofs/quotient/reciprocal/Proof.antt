@@ -2,7 +2,7 @@ use mathlib.Core.Path.{refl}
 use native.Mathlib.Nat.{div-le-self}
 use native.Mathlib.Omega.{arith}
 use borrow.Author.Needs.{needs}
-use Rattle.flash.specs.Reciprocal.{reciprocal}
+use Rattle.flash.specs.inner.Reciprocal.{reciprocal}
 use Rattle.flash.proofs.quotient.reciprocal.Statement.{statement}
 use Rattle.flash.proofs.quotient.reciprocal.Tie as tie
 

@@ -10,12 +10,12 @@ slot-count-requires c κs = omega arith
 
 mul-result : tie.Need-mul-result
 mul-result c =
-    let a = c .before .args in
-    let slots : c .slot-count .result ≤ 65 * 64 = omega (arith, product-le (a .n + 1) (a .m) {c = 65} {d = 64} (omega arith) (omega arith)) in
-    omega (arith, product-le (c .slot-count .result) (a .p) {c = 65 * 64} {d = 4096} slots (omega arith))
+    let a = c .before .before .args in
+    let slots : c .before .slot-count .result ≤ 65 * 64 = omega (arith, product-le (a .z .n + 1) (a .z .m) {c = 65} {d = 64} (omega arith) (omega arith)) in
+    omega (arith, product-le (c .before .slot-count .result) (a .z .p) {c = 65 * 64} {d = 4096} slots (omega arith))
 
 returns : tie.Need-returns
-returns c = ap (λ (slots : ℕ). slots * c .before .args .p) (c .slot-count .ensures)
+returns c = ap (λ (slots : ℕ). slots * c .before .before .args .z .p) (c .before .slot-count .ensures)
 
 pub store-length-spec : {M : Type 1} → statement M
 store-length-spec = tie.close (tie.spec slot-count-requires mul-result returns)

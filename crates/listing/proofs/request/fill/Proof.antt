@@ -6,7 +6,7 @@ use native.Mathlib.Numerals.{add-one}
 use lib.ListN.{length, take, drop, length-set}
 use lib.Seq.{take-suc-set, take-length}
 use Rattle.listing.specs.Numbers.{numbersIn, taken, numbersMet}
-use Rattle.listing.specs.Found.{toldAs}
+use Rattle.listing.specs.inner.Found.{toldAs}
 use Rattle.listing.proofs.TakeLaws.{went-on, stopped, taken-more, met-stopped, met-more, met-all}
 use Rattle.flash.proofs.Loops.{rest-more}
 use borrow.Author.Needs.{needs}

@@ -2,7 +2,7 @@ use mathlib.Core.Path.{sym, ap, _∙_}
 use lib.ListN.{drop}
 use Rattle.listing.specs.declared.number.Found.{Found}
 use Rattle.listing.specs.Numbers.{numbersIn}
-use Rattle.listing.specs.Found.{toldAs}
+use Rattle.listing.specs.inner.Found.{toldAs}
 use Rattle.listing.proofs.TakeLaws.{isEnd, none-left}
 use borrow.Author.Needs.{needs}
 use Rattle.listing.proofs.request.is_end.Statement.{statement}

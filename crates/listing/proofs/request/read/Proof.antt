@@ -2,7 +2,7 @@ use native.Mathlib.Omega.{arith}
 use mathlib.Core.Path.{sym, ap, _∙_}
 use mathlib.Core.Bool.{true, false}
 use borrow.Author.Tests.{not-true, not-false}
-use Rattle.listing.specs.Found.{sizesAs}
+use Rattle.listing.specs.inner.Found.{sizesAs}
 use Rattle.listing.proofs.RequestLaws.{bounded, few-originals, no-sizes, not-allowed, as-asked, none-put, none-put-refused, all-put}
 use borrow.Author.Needs.{needs}
 use Rattle.listing.proofs.request.read.Statement.{statement}
@@ -37,12 +37,12 @@ returns-2 c =
 
 original-count-requires : tie.Need-original-count-requires
 original-count-requires c κs =
-    let l = bounded _ _ _ _ (sym (c .before .is-allowed .ensures) ∙ not-false _ (c .if1 .left)) in
+    let l = bounded _ (sym (c .before .is-allowed .ensures) ∙ not-false _ (c .if1 .left)) in
     omega arith
 
 read-numbers-requires : tie.Need-read-numbers-requires
 read-numbers-requires c κs =
-    let l = bounded _ _ _ _ (sym (c .before .before .before .is-allowed .ensures) ∙ not-false _ (c .before .before .if1 .left)) in
+    let l = bounded _ (sym (c .before .before .before .is-allowed .ensures) ∙ not-false _ (c .before .before .if1 .left)) in
     omega (arith, few-originals _ _ (l .few-blocks) (l .few-pages))
 
 returns-3 : tie.Need-returns-3

@@ -8,7 +8,7 @@ use lib.Seq.{length-take-le}
 use Rattle.flash.specs.Lists.{all}
 use Rattle.listing.specs.Numbers.{numbersIn, numbersMet}
 use Rattle.listing.specs.Area.{over}
-use Rattle.listing.specs.Found.{filledAs}
+use Rattle.listing.specs.inner.Found.{filledAs}
 use Rattle.listing.proofs.RequestLaws.{none-found, bytes-are, all-found, too-large, due-put}
 use borrow.Author.Needs.{needs}
 use Rattle.listing.proofs.request.read_numbers.Statement.{statement}

@@ -1,5 +1,5 @@
 use mathlib.Core.Path.{sym, ap, _∙_}
-use Rattle.listing.specs.Found.{filledAs}
+use Rattle.listing.specs.inner.Found.{filledAs}
 use Rattle.listing.proofs.TakeLaws.{four-are}
 use borrow.Author.Needs.{needs}
 use Rattle.listing.proofs.request.read_sizes.Statement.{statement}

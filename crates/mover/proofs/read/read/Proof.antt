@@ -3,10 +3,8 @@ use native.Mathlib.Omega.{arith}
 use borrow.Author.Needs.{needs}
 use lib.Dec.{leb}
 use borrow.Author.Tests.{leb-false}
+use Rattle.method.specs.Move.{moveOf}
 use Rattle.flash.specs.Chip.{Chip}
-use Rattle.method.specs.Answers.{fitsNone}
-use Rattle.walk.specs.Moving.{moveOf}
-use Rattle.recovery.proofs.Answer.{same-reading}
 use Rattle.mover.proofs.RefusalLaws.{given}
 use Rattle.mover.proofs.ReadLaws.{refused-by-move, refused-6, refused-7, rebuilt}
 use Rattle.mover.proofs.read.read.Statement.{statement}
@@ -24,7 +22,7 @@ same-length c = search needs
 returns : tie.Need-returns
 returns c =
     let a = c .before .before .before .before .before .before .before .before .before .args in
-    let M = moveOf (record { n = a .n; m = a .m; p = a .p; s = a .s }) (a .list .now) (a .sets .now) in
+    let M = moveOf (a .z) (a .list .now) (a .sets .now) in
     let chip : Chip = record { store = a .store .now; marks = a .marks .now } in
     let r = c .before .before .move-refusal in
     refused-by-move M chip (a .work .now) (a .k) (r .result) (c .refused .result) (r .ensures) (c .before .if1 .taken) (c .refused .ensures)
@@ -32,7 +30,7 @@ returns c =
 fits-none-requires : tie.Need-fits-none-requires
 fits-none-requires c κs =
     let a = c .before .before .before .before .before .before .before .before .args in
-    let M = moveOf (record { n = a .n; m = a .m; p = a .p; s = a .s }) (a .list .now) (a .sets .now) in
+    let M = moveOf (a .z) (a .list .now) (a .sets .now) in
     let chip : Chip = record { store = a .store .now; marks = a .marks .now } in
     let g = given M chip (a .work .now) (sym (sym (c .if1 .left) ∙ c .before .move-refusal .ensures)) in
     let G = g .0 in
@@ -41,7 +39,7 @@ fits-none-requires c κs =
 original-count-requires : tie.Need-original-count-requires
 original-count-requires c κs =
     let a = c .before .before .before .before .before .before .before .before .before .args in
-    let M = moveOf (record { n = a .n; m = a .m; p = a .p; s = a .s }) (a .list .now) (a .sets .now) in
+    let M = moveOf (a .z) (a .list .now) (a .sets .now) in
     let chip : Chip = record { store = a .store .now; marks = a .marks .now } in
     let G = given M chip (a .work .now) (sym (sym (c .before .if1 .left) ∙ c .before .before .move-refusal .ensures)) .0 in
     (G .n-high, G .m-high)
@@ -55,9 +53,9 @@ same-length-2 c = search needs
 returns-2 : tie.Need-returns-2
 returns-2 c =
     let a = c .before .before .before .before .before .before .before .before .before .before .before .before .args in
-    let M = moveOf (record { n = a .n; m = a .m; p = a .p; s = a .s }) (a .list .now) (a .sets .now) in
+    let M = moveOf (a .z) (a .list .now) (a .sets .now) in
     let chip : Chip = record { store = a .store .now; marks = a .marks .now } in
-    refused-6 M chip (a .work .now) (a .k) (sym (c .before .before .before .before .if1 .left) ∙ c .before .before .before .before .before .move-refusal .ensures) _ (c .refused2 .result) (sym (c .before .if2 .taken) ∙ c .before .before .before .fits-none .ensures ∙ ap fitsNone (same-reading (a .n) (a .m) (a .p) (a .s) (a .marks .now))) (ap (λ x. leb x (a .k)) (c .before .before .original-count .ensures)) (c .refused2 .ensures)
+    refused-6 M chip (a .work .now) (a .k) (sym (c .before .before .before .before .if1 .left) ∙ c .before .before .before .before .before .move-refusal .ensures) _ (c .refused2 .result) (sym (c .before .if2 .taken) ∙ c .before .before .before .fits-none .ensures) (ap (λ x. leb x (a .k)) (c .before .before .original-count .ensures)) (c .refused2 .ensures)
 
 refused-requires-3 : tie.Need-refused-requires-3
 refused-requires-3 c κs = search needs
@@ -68,21 +66,21 @@ same-length-3 c = search needs
 returns-3 : tie.Need-returns-3
 returns-3 c =
     let a = c .before .before .before .before .before .before .before .before .before .before .before .before .before .args in
-    let M = moveOf (record { n = a .n; m = a .m; p = a .p; s = a .s }) (a .list .now) (a .sets .now) in
+    let M = moveOf (a .z) (a .list .now) (a .sets .now) in
     let chip : Chip = record { store = a .store .now; marks = a .marks .now } in
-    refused-7 M chip (a .work .now) (a .k) (sym (c .before .before .before .before .before .if1 .left) ∙ c .before .before .before .before .before .before .move-refusal .ensures) (c .refused3 .result) (sym (c .before .before .if2 .left) ∙ c .before .before .before .before .fits-none .ensures ∙ ap fitsNone (same-reading (a .n) (a .m) (a .p) (a .s) (a .marks .now)))
+    refused-7 M chip (a .work .now) (a .k) (sym (c .before .before .before .before .before .if1 .left) ∙ c .before .before .before .before .before .before .move-refusal .ensures) (c .refused3 .result) (sym (c .before .before .if2 .left) ∙ c .before .before .before .before .fits-none .ensures)
     (sym (c .before .if3 .taken) ∙ ap (λ x. leb x (a .k)) (c .before .before .before .original-count .ensures)) (c .refused3 .ensures)
 
 rebuild-requires : tie.Need-rebuild-requires
 rebuild-requires c κs =
     let a = c .before .before .before .before .before .before .before .before .before .before .before .before .before .args in
-    let M = moveOf (record { n = a .n; m = a .m; p = a .p; s = a .s }) (a .list .now) (a .sets .now) in
+    let M = moveOf (a .z) (a .list .now) (a .sets .now) in
     let chip : Chip = record { store = a .store .now; marks = a .marks .now } in
     let g = given M chip (a .work .now) (sym (sym (c .before .before .before .before .before .if1 .left) ∙ c .before .before .before .before .before .before .move-refusal .ensures)) in
     (g .0, g .1, omega (arith, leb-false (c .before .before .before .original-count .result) (a .k) (c .before .if3 .left), c .before .before .before .original-count .ensures))
 
-cast-t22 : tie.Need-cast-t22
-cast-t22 c = search needs
+cast-count : tie.Need-cast-count
+cast-count c = search needs
 
 same-length-4 : tie.Need-same-length-4
 same-length-4 c = search needs
@@ -90,10 +88,10 @@ same-length-4 c = search needs
 returns-4 : tie.Need-returns-4
 returns-4 c =
     let a = c .before .before .before .before .before .before .before .before .before .before .before .before .before .before .before .before .args in
-    let M = moveOf (record { n = a .n; m = a .m; p = a .p; s = a .s }) (a .list .now) (a .sets .now) in
+    let M = moveOf (a .z) (a .list .now) (a .sets .now) in
     let chip : Chip = record { store = a .store .now; marks = a .marks .now } in
     let b = c .before .before .rebuild .ensures in
-    rebuilt M chip (a .work .now) (a .k) (sym (c .before .before .before .before .before .before .before .before .if1 .left) ∙ c .before .before .before .before .before .before .before .before .before .move-refusal .ensures) _ _ (sym (c .before .before .before .before .before .if2 .left) ∙ c .before .before .before .before .before .before .before .fits-none .ensures ∙ ap fitsNone (same-reading (a .n) (a .m) (a .p) (a .s) (a .marks .now)))
+    rebuilt M chip (a .work .now) (a .k) (sym (c .before .before .before .before .before .before .before .before .if1 .left) ∙ c .before .before .before .before .before .before .before .before .before .move-refusal .ensures) _ _ (sym (c .before .before .before .before .before .if2 .left) ∙ c .before .before .before .before .before .before .before .fits-none .ensures)
     (sym (c .before .before .before .before .if3 .left) ∙ ap (λ x. leb x (a .k)) (c .before .before .before .before .before .before .original-count .ensures)) (b .0 .0) (b .1)
 
 pub read-spec : {M : Type 1} → statement M
@@ -113,6 +111,6 @@ read-spec =
     same-length-3
     returns-3
     rebuild-requires
-    cast-t22
+    cast-count
     same-length-4
     returns-4)

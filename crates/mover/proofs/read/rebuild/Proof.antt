@@ -4,13 +4,13 @@ use native.Mathlib.Omega.{arith}
 use borrow.Author.Needs.{needs}
 use lib.ListN.{length}
 use lib.Seq.{length-take-le}
+use Rattle.method.specs.Move.{moveOf}
 use Rattle.flash.specs.Lists.{part}
 use Rattle.flash.specs.Geometry.{slotCount}
 use Rattle.flash.specs.PageSum.{sum}
 use Rattle.flash.specs.Chip.{pageAt}
 use Rattle.flash.proofs.Bounds.{slot-in-store}
 use Rattle.method.specs.Read.{readPage}
-use Rattle.walk.specs.Moving.{sizesOf, moveOf}
 use Rattle.walk.proofs.SlotLaws.{read-in, among}
 use Rattle.mover.proofs.read.rebuild.Statement.{statement}
 use Rattle.mover.proofs.read.rebuild.Tie as tie
@@ -43,8 +43,8 @@ sum-pages-requires c κs =
     let pre = start .pre in
     let M = moveOf (a .z) (a .list .now) (a .sets .now) in
     let r = c .before .before .before .read-slots in
-    let inside = among (λ t. t < slotCount (sizesOf (a .z))) _ _ (r .result) (omega (arith, r .ensures .few)) (r .ensures .slots-are) (read-in M (pre .0) (a .marks .now) (a .k) (pre .2)) in
-    ((r .ensures .some, omega (arith, r .ensures .few), pre .1 .work-length), (λ j h. rw (pre .1 .store-length) (slot-in-store (sizesOf (a .z)) _ (inside j h))))
+    let inside = among (λ t. t < slotCount (a .z)) _ _ (r .result) (omega (arith, r .ensures .few)) (r .ensures .slots-are) (read-in M (pre .0) (a .marks .now) (a .k) (pre .2)) in
+    ((r .ensures .some, omega (arith, r .ensures .few), pre .1 .work-length), (λ j h. rw (pre .1 .store-length) (slot-in-store (a .z) _ (inside j h))))
 
 same-length : tie.Need-same-length
 same-length c = search needs

@@ -1,7 +1,7 @@
 use Prim.Native.Nat.{_+_, _≤_}
 use native.Mathlib.Omega.{arith}
 use borrow.Author.Needs.{needs}
-use Rattle.walk.specs.Moving.{moveOf}
+use Rattle.method.specs.Move.{moveOf}
 use Rattle.mover.proofs.RunLaws.{last-small, carried}
 use Rattle.mover.proofs.run.carry_out.Statement.{statement}
 use Rattle.mover.proofs.run.carry_out.Tie as tie

@@ -2,10 +2,10 @@ use mathlib.Core.Path.{_≡_, _∙_}
 use Prim.Native.Nat.{_+_, _-_, _≤_, _<_}
 use native.Mathlib.Omega.{arith}
 use borrow.Author.Needs.{needs}
+use Rattle.method.specs.Move.{moveOf}
 use Rattle.method.specs.Step.{steps, tally, operationsFrom}
 use Rattle.method.specs.Place.{operationAt, lastPlace}
-use Rattle.walk.specs.Moving.{sizesOf, moveOf}
-use Rattle.mover.specs.Steps.{Lent, runningOf, Leaves, Counted}
+use Rattle.mover.specs.inner.Steps.{Lent, runningOf, Leaves, Counted}
 use Rattle.mover.proofs.RunLaws.{none-taken, none-counted, one-taken, one-counted, at-most-one, last-small}
 use Rattle.mover.proofs.run.take_steps.Statement.{statement}
 use Rattle.mover.proofs.run.take_steps.Tie as tie
@@ -33,7 +33,7 @@ step-requires c κs = (c .before .before .before .before .before .before .before
 small : (c : tie.In-loop Inv-loop μ-loop)
     → (let a = c .before .before .before .before .before .before .before .args in
     let l = c .before .loop in
-    (a .place + l .i < lastPlace (sizesOf (a .z))) × (lastPlace (sizesOf (a .z)) ≤ 8320) × (l .at .at ≡ a .place + l .i) × (l .i < a .taken)
+    (a .place + l .i < lastPlace (a .z)) × (lastPlace (a .z) ≤ 8320) × (l .at .at ≡ a .place + l .i) × (l .i < a .taken)
     × (l .steps ≤ l .i) × (l .writes ≤ l .i) × (l .erases ≤ l .i))
 small c =
     let start = c .before .before .before .before .before .before .before in
@@ -43,7 +43,7 @@ small c =
 
 -- the step counts at most one of each
 ones : (c : tie.After-step Inv-loop μ-loop) → (let r = c .step .result in (r .steps ≤ 1) × (r .writes ≤ 1) × (r .erases ≤ 1))
-ones c = at-most-one (operationAt (sizesOf (c .before .before .before .before .before .before .before .before .before .before .before .args .z)) (c .before .before .before .before .before .loop .at .at)) _ _ _ (c .step .ensures .1)
+ones c = at-most-one (operationAt ((c .before .before .before .before .before .before .before .before .before .before .before .args .z)) (c .before .before .before .before .before .loop .at .at)) _ _ _ (c .step .ensures .1)
 
 add-steps : tie.Need-add-steps Inv-loop μ-loop
 add-steps c = omega (arith, small (c .before .before .before .before .before .before .before .before .before .before .before), ones (c .before .before .before .before .before .before .before))

@@ -1,10 +1,10 @@
 use mathlib.Core.Path.{sym, _∙_}
 use borrow.Author.Needs.{needs}
+use Rattle.method.specs.Move.{moveOf}
 use Rattle.flash.proofs.Bounds.{block-in-marks, block-in-store}
 use Rattle.method.specs.Place.{write, erase, done, operationAt}
-use Rattle.walk.specs.Moving.{sizesOf, moveOf}
-use Rattle.places.specs.Place.{passOf}
-use Rattle.places.proofs.StepTold.{op-any, IsWrite, is-write, IsErase, is-erase, told-done}
+use Rattle.places.specs.inner.Place.{passOf}
+use Rattle.places.proofs.StepTold.{IsWrite, is-write, IsErase, is-erase, told-done}
 use Rattle.mover.proofs.StepLaws.{stepped, counted, one-write, one-erase, no-step, erased, nothing}
 use Rattle.mover.proofs.step.step.Statement.{statement}
 use Rattle.mover.proofs.step.step.Tie as tie
@@ -19,10 +19,10 @@ enum-known-backward c = search needs
 writes : (c : tie.After-write-arg3)
     → (let a = c .before .before .before .before .before .before .before .before .before .before .before .before .args in
     let v = c .before .before .before .before .backward .given .0 in
-    IsWrite (sizesOf (a .z)) (a .place .at) (v .0) (v .1 .0) (v .1 .1 .0) (v .1 .1 .1 .0))
+    IsWrite (a .z) (a .place .at) (v .0) (v .1 .0) (v .1 .1 .0) (v .1 .1 .1 .0))
 writes c =
     let a = c .before .before .before .before .before .before .before .before .before .before .before .before .args in
-    is-write (sizesOf (a .z)) (a .place .at) _ _ _ _ (sym (c .before .before .before .before .backward .given .1) ∙ c .before .before .before .before .before .before .operation .ensures ∙ op-any (a .z .n) (a .z .m) 0 (a .z .p) (a .z .s) (a .place .at))
+    is-write (a .z) (a .place .at) _ _ _ _ (sym (c .before .before .before .before .backward .given .1) ∙ c .before .before .before .before .before .before .operation .ensures)
 
 write-requires : tie.Need-write-requires
 write-requires c κs =
@@ -38,15 +38,15 @@ enum-known-block c = search needs
 -- the step at the place is this erase
 erases : (c : tie.After-erase-block-arg2)
     → (let a = c .before .before .before .before .before .before .before .before .before .before .before .args in
-    IsErase (sizesOf (a .z)) (a .place .at) (c .before .before .before .block .given .0 .0))
+    IsErase (a .z) (a .place .at) (c .before .before .before .block .given .0 .0))
 erases c =
     let a = c .before .before .before .before .before .before .before .before .before .before .before .args in
-    is-erase (sizesOf (a .z)) (a .place .at) _ (sym (c .before .before .before .block .given .1) ∙ c .before .before .before .before .before .operation .ensures ∙ op-any (a .z .n) (a .z .m) 0 (a .z .p) (a .z .s) (a .place .at))
+    is-erase (a .z) (a .place .at) _ (sym (c .before .before .before .block .given .1) ∙ c .before .before .before .before .before .operation .ensures)
 
 erase-block-requires : tie.Need-erase-block-requires
 erase-block-requires c κs =
     let start = c .before .before .before .before .before .before .before .before .before .before .before in
-    let Z = sizesOf (start .args .z) in
+    let Z = (start .args .z) in
     let E = erases c in
     (rw (start .pre .1 .store-length) (block-in-store Z (c .before .before .before .block .given .0 .0) (E .block-in)), rw (start .pre .1 .marks-length) (block-in-marks Z (c .before .before .before .block .given .0 .0) (E .block-in)))
 
@@ -98,8 +98,8 @@ returns-3 c =
     let d = c .before in
     let a = d .before .before .before .before .before .before .before .before .args in
     let M = moveOf (a .z) (a .list .now) (a .sets .now) in
-    let Z = sizesOf (a .z) in
-    let is = told-done Z (operationAt Z (a .place .at)) (sym (d .enum-told .given .1) ∙ d .before .before .operation .ensures ∙ op-any (a .z .n) (a .z .m) 0 (a .z .p) (a .z .s) (a .place .at)) in
+    let Z = (a .z) in
+    let is = told-done Z (operationAt Z (a .place .at)) (sym (d .enum-told .given .1) ∙ d .before .before .operation .ensures) in
     (stepped M (a .place .at) done is _ _ _ _ (nothing M (a .store .now) (a .marks .now) (a .work .now)), rw (c .counted3 .ensures) (counted M (a .place .at) done is 0 0 0 no-step))
 
 pub step-spec : {M : Type 1} → statement M

@@ -1,10 +1,10 @@
 use Prim.Native.Nat.{_+_, _*_, _<_}
 use native.Mathlib.Omega.{arith}
 use borrow.Author.Needs.{needs}
+use Rattle.method.specs.Move.{moveOf}
 use Rattle.flash.specs.Geometry.{slotCount}
 use Rattle.flash.proofs.Bounds.{slot-in-marks, slot-in-store, product-le}
-use Rattle.walk.specs.Moving.{sizesOf, moveOf}
-use Rattle.places.specs.Place.{passOf}
+use Rattle.places.specs.inner.Place.{passOf}
 use Rattle.walk.proofs.SlotLaws.{among}
 use Rattle.mover.proofs.WriteSlots.{write-in}
 use Rattle.mover.proofs.StepLaws.{written-is, wrote}
@@ -34,15 +34,15 @@ sum-pages-requires c κs =
     let R = start .pre .0 .0 in
     let L = start .pre .0 .1 in
     let w = c .before .before .before .before .write-slots in
-    let inside = among (λ t. t < slotCount (sizesOf (a .z))) _ _ (w .result) (omega (arith, w .kept .1 .1 .1 .1 .1 .1 .1 .1 .1 .0, w .ensures .2)) (w .ensures .0)
+    let inside = among (λ t. t < slotCount (a .z)) _ _ (w .result) (omega (arith, w .kept .1 .1 .1 .1 .1 .1 .1 .1 .1 .0, w .ensures .2)) (w .ensures .0)
     (write-in M (R .given) (a .marks .now) (a .block) (a .page) (omega arith) (a .backward) (start .pre .1 .2) (start .pre .1 .3) (omega arith)) in
-    ((w .ensures .1, omega (arith, w .kept .1 .1 .1 .1 .1 .1 .1 .1 .1 .0, w .ensures .2), L .work-length), (λ j h. rw (L .store-length) (slot-in-store (sizesOf (a .z)) _ (inside j h))))
+    ((w .ensures .1, omega (arith, w .kept .1 .1 .1 .1 .1 .1 .1 .1 .1 .0, w .ensures .2), L .work-length), (λ j h. rw (L .store-length) (slot-in-store (a .z) _ (inside j h))))
 
 -- the slot is one of the store
 inside : (c : tie.Start) → c .args .block * c .args .z .m + c .args .page < 4225
 inside c =
     let a = c .args in
-    omega (arith, slot-in-marks (sizesOf (a .z)) (a .block) (a .page) (omega arith) (omega arith), product-le (a .z .n + 1) (a .z .m) {c = 65} {d = 64} (omega arith) (omega arith))
+    omega (arith, slot-in-marks (a .z) (a .block) (a .page) (omega arith) (omega arith), product-le (a .z .n + 1) (a .z .m) {c = 65} {d = 64} (omega arith) (omega arith))
 
 mul-write-page : tie.Need-mul-write-page
 mul-write-page c = omega (arith, inside (c .before .before .before .before .before .before .before .before .before .before .before .before .before .before .before .before .before .before))
@@ -57,8 +57,8 @@ write-page-requires c κs =
     let M = moveOf (a .z) (a .list .now) (a .sets .now) in
     let R = start .pre .0 .0 in
     let L = start .pre .0 .1 in
-    let i = slot-in-marks (sizesOf (a .z)) (a .block) (a .page) (omega arith) (omega arith) in
-    (rw (L .store-length) (slot-in-store (sizesOf (a .z)) _ i), (rw (L .marks-length) i, omega (arith, c .before .before .before .before .before .before .sum-pages .kept .1 .1 .1 .1 .0, L .work-length)))
+    let i = slot-in-marks (a .z) (a .block) (a .page) (omega arith) (omega arith) in
+    (rw (L .store-length) (slot-in-store (a .z) _ i), (rw (L .marks-length) i, omega (arith, c .before .before .before .before .before .before .sum-pages .kept .1 .1 .1 .1 .0, L .work-length)))
 
 same-length : tie.Need-same-length
 same-length c = search needs

@@ -2,8 +2,8 @@ use mathlib.Core.Path.{_≡_, sym, _∙_}
 use Prim.Native.Nat.{_+_, _-_, _*_, _<_}
 use native.Mathlib.Omega.{arith}
 use borrow.Author.Needs.{needs}
+use Rattle.method.specs.Move.{moveOf}
 use Rattle.method.specs.Cycle.{D, pred, isTop}
-use Rattle.walk.specs.Moving.{moveOf}
 use Rattle.walk.proofs.CycleLaws.{table-fits, leads, page-lt}
 use Rattle.walk.proofs.WalkLaws.{Next, back-next, page-in}
 use Rattle.mover.proofs.StepLaws.{appends-twice, rest-twice, sent-lt, final-slots, top-slots, code-slots}

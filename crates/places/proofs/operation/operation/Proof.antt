@@ -1,22 +1,18 @@
 use mathlib.Core.Path.{_≡_, sym, _∙_}
 use mathlib.Core.Bool.{true, false}
-use Prim.Native.Nat.{ℕ}
 use native.Mathlib.Omega.{arith}
 use borrow.Author.Needs.{needs}
 use borrow.Author.Tests.{not-true, not-false, lt-ltb, le-ltb}
 use lib.Dec.{ltb}
-use Rattle.flash.specs.Geometry.{Sizes, inRange}
+use Rattle.flash.specs.Geometry.{inRange}
 use Rattle.flash.proofs.Bounds.{in-range}
 use Rattle.method.specs.Place.{write, erase, done, lastPlace}
-use Rattle.places.specs.Place.{passOf}
+use Rattle.places.specs.inner.Place.{passOf}
 use Rattle.places.specs.Operation.{toldOf}
-use Rattle.places.proofs.StepTold.{op-any, IsWrite, is-write, IsErase, is-erase, told-done}
+use Rattle.places.proofs.StepTold.{IsWrite, is-write, IsErase, is-erase, told-done}
 use Rattle.places.proofs.ToldLaws.{refused-1, refused-5, told}
 use Rattle.places.proofs.operation.operation.Statement.{statement}
 use Rattle.places.proofs.operation.operation.Tie as tie
-
-abbrev Z : (n m s : ℕ) → Sizes
-Z n m s = record { n = n; m = m; P = 1; s = s }
 
 in-range-requires : tie.Need-in-range-requires
 in-range-requires c κs = search needs
@@ -27,10 +23,10 @@ refused-requires c κs = search needs
 returns : tie.Need-returns
 returns c =
     let a = c .before .before .before .args in
-    c .refused .ensures ∙ sym (refused-1 (Z (a .n) (a .m) (a .s)) (a .place) (sym (c .before .before .in-range .ensures) ∙ not-true _ (c .before .if1 .taken)))
+    c .refused .ensures ∙ sym (refused-1 (a .z) (a .place) (sym (c .before .before .in-range .ensures) ∙ not-true _ (c .before .if1 .taken)))
 
 -- the sizes are in range
-sizes : (c : tie.Else1) → (let a = c .before .before .args in inRange (Z (a .n) (a .m) (a .s))) ≡ true
+sizes : (c : tie.Else1) → (let a = c .before .before .args in inRange (a .z)) ≡ true
 sizes c = sym (c .before .in-range .ensures) ∙ not-false _ (c .if1 .left)
 
 last-place-requires : tie.Need-last-place-requires
@@ -42,11 +38,11 @@ refused-requires-2 c κs = search needs
 returns-2 : tie.Need-returns-2
 returns-2 c =
     let a = c .before .before .before .before .before .args in
-    c .refused2 .ensures ∙ sym (refused-5 (Z (a .n) (a .m) (a .s)) (a .place) (sizes (c .before .before .before)) (lt-ltb (lastPlace (Z (a .n) (a .m) (a .s))) (a .place) (omega (arith, c .before .before .last-place .ensures, c .before .if2 .taken))))
+    c .refused2 .ensures ∙ sym (refused-5 (a .z) (a .place) (sizes (c .before .before .before)) (lt-ltb (lastPlace (a .z)) (a .place) (omega (arith, c .before .before .last-place .ensures, c .before .if2 .taken))))
 
 -- and the place is one of the move
-inside : (c : tie.Else2) → (let a = c .before .before .before .before .args in ltb (lastPlace (Z (a .n) (a .m) (a .s))) (a .place)) ≡ false
-inside c = let a = c .before .before .before .before .args in le-ltb (lastPlace (Z (a .n) (a .m) (a .s))) (a .place) (omega (arith, c .before .last-place .ensures, c .if2 .left))
+inside : (c : tie.Else2) → (let a = c .before .before .before .before .args in ltb (lastPlace (a .z)) (a .place)) ≡ false
+inside c = let a = c .before .before .before .before .args in le-ltb (lastPlace (a .z)) (a .place) (omega (arith, c .before .last-place .ensures, c .if2 .left))
 
 operation-requires : tie.Need-operation-requires
 operation-requires c κs = let B = in-range _ (sizes (c .before .before)) in (B .n-low, B .n-high, B .m-low, B .m-high, B .s-high)
@@ -55,31 +51,31 @@ enum-known-block : tie.Need-enum-known-block
 enum-known-block c = search needs
 
 -- the step at the place is this write
-writes : (c : tie.After-block) → (let a = c .before .before .before .before .before .before .before .args in let v = c .block .given .0 in IsWrite (Z (a .n) (a .m) (a .s)) (a .place) (v .0) (v .1 .0) (v .1 .1 .0) (v .1 .1 .1 .0))
+writes : (c : tie.After-block) → (let a = c .before .before .before .before .before .before .before .args in let v = c .block .given .0 in IsWrite (a .z) (a .place) (v .0) (v .1 .0) (v .1 .1 .0) (v .1 .1 .1 .0))
 writes c =
     let a = c .before .before .before .before .before .before .before .args in
-    is-write (Z (a .n) (a .m) (a .s)) (a .place) _ _ _ _ (sym (c .block .given .1) ∙ c .before .before .operation .ensures ∙ op-any (a .n) (a .m) 0 1 (a .s) (a .place))
+    is-write (a .z) (a .place) _ _ _ _ (sym (c .block .given .1) ∙ c .before .before .operation .ensures)
 
-cast-t16 : tie.Need-cast-t16
-cast-t16 c = let W = writes (c .before) in omega (arith, W .block-in, in-range _ (sizes (c .before .before .before .before .before .before)) .n-high)
+cast-t13 : tie.Need-cast-t13
+cast-t13 c = let W = writes (c .before) in omega (arith, W .block-in, in-range _ (sizes (c .before .before .before .before .before .before)) .n-high)
 
-cast-t17 : tie.Need-cast-t17
-cast-t17 c = let W = writes (c .before) in omega (arith, W .page-in, in-range _ (sizes (c .before .before .before .before .before .before)) .m-high)
+cast-t14 : tie.Need-cast-t14
+cast-t14 c = let W = writes (c .before) in omega (arith, W .page-in, in-range _ (sizes (c .before .before .before .before .before .before)) .m-high)
 
-cast-t18 : tie.Need-cast-t18
-cast-t18 c = search needs
+cast-t15 : tie.Need-cast-t15
+cast-t15 c = search needs
 
 enum-known-block-2 : tie.Need-enum-known-block-2
 enum-known-block-2 c = search needs
 
 -- the step at the place is this erase
-erases : (c : tie.After-block2) → (let a = c .before .before .before .before .before .before .before .args in IsErase (Z (a .n) (a .m) (a .s)) (a .place) (c .block2 .given .0 .0))
+erases : (c : tie.After-block2) → (let a = c .before .before .before .before .before .before .before .args in IsErase (a .z) (a .place) (c .block2 .given .0 .0))
 erases c =
     let a = c .before .before .before .before .before .before .before .args in
-    is-erase (Z (a .n) (a .m) (a .s)) (a .place) _ (sym (c .block2 .given .1) ∙ c .before .before .operation .ensures ∙ op-any (a .n) (a .m) 0 1 (a .s) (a .place))
+    is-erase (a .z) (a .place) _ (sym (c .block2 .given .1) ∙ c .before .before .operation .ensures)
 
-cast-t19 : tie.Need-cast-t19
-cast-t19 c = let E = erases (c .before) in omega (arith, E .block-in, in-range _ (sizes (c .before .before .before .before .before .before)) .n-high)
+cast-t16 : tie.Need-cast-t16
+cast-t16 c = let E = erases (c .before) in omega (arith, E .block-in, in-range _ (sizes (c .before .before .before .before .before .before)) .n-high)
 
 enum-told : tie.Need-enum-told
 enum-told c = search needs
@@ -90,21 +86,21 @@ returns-3 c =
     let a = c .before .before .before .before .before .before .before .before .args in
     let W = writes (c .before) in
     let v = c .before .block .given .0 in
-    rw (W .mark-is) (sym (told (Z (a .n) (a .m) (a .s)) (a .place) (sizes (c .before .before .before .before .before .before)) (inside (c .before .before .before .before)) (write (passOf (v .0)) (v .1 .0) (v .1 .1 .0)) (W .is)))
+    rw (W .mark-is) (sym (told (a .z) (a .place) (sizes (c .before .before .before .before .before .before)) (inside (c .before .before .before .before)) (write (passOf (v .0)) (v .1 .0) (v .1 .1 .0)) (W .is)))
 
 returns-4 : tie.Need-returns-4
 unfolding toldOf
 returns-4 c =
     let a = c .before .before .before .before .before .before .before .before .args in
     let E = erases (c .before) in
-    sym (told (Z (a .n) (a .m) (a .s)) (a .place) (sizes (c .before .before .before .before .before .before)) (inside (c .before .before .before .before)) (erase (c .before .block2 .given .0 .0)) (E .is))
+    sym (told (a .z) (a .place) (sizes (c .before .before .before .before .before .before)) (inside (c .before .before .before .before)) (erase (c .before .block2 .given .0 .0)) (E .is))
 
 returns-5 : tie.Need-returns-5
 unfolding toldOf
 returns-5 c =
     let a = c .before .before .before .before .before .before .before .args in
-    let z = Z (a .n) (a .m) (a .s) in
-    sym (told z (a .place) (sizes (c .before .before .before .before .before)) (inside (c .before .before .before)) done (told-done z _ (sym (c .enum-told .given .1) ∙ c .before .before .operation .ensures ∙ op-any (a .n) (a .m) 0 1 (a .s) (a .place))))
+    let z = a .z in
+    sym (told z (a .place) (sizes (c .before .before .before .before .before)) (inside (c .before .before .before)) done (told-done z _ (sym (c .enum-told .given .1) ∙ c .before .before .operation .ensures)))
 
 pub operation-spec : {M : Type 1} → statement M
 operation-spec =
@@ -118,11 +114,11 @@ operation-spec =
     returns-2
     operation-requires
     enum-known-block
-    cast-t16
-    cast-t17
-    cast-t18
+    cast-t13
+    cast-t14
+    cast-t15
     enum-known-block-2
-    cast-t19
+    cast-t16
     enum-told
     returns-3
     returns-4

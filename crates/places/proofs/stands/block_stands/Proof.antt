@@ -8,7 +8,6 @@ use lib.Dec.{ltb}
 use Rattle.flash.specs.Geometry.{slot}
 use Rattle.flash.specs.Chip.{erased, markAt}
 use Rattle.flash.proofs.Blocks.{mark-is}
-use Rattle.walk.specs.Moving.{sizesOf}
 use Rattle.places.proofs.StandLaws.{stands-full, stands-all, stands-not}
 use Rattle.places.proofs.stands.block_stands.Statement.{statement}
 use Rattle.places.proofs.stands.block_stands.Tie as tie
@@ -29,7 +28,7 @@ returns : tie.Need-returns Inv-loop μ-loop
 returns c =
     let a = c .before .before .before .before .args in
     let d = c .before .before .marks-due in
-    c .is-full .ensures ∙ stands-full (sizesOf (a .z)) (a .place) (a .block) (d .result .letter) (d .result .written) (d .ensures) (a .marks .now) (c .before .if1 .taken)
+    c .is-full .ensures ∙ stands-full (a .z) (a .place) (a .block) (d .result .letter) (d .result .written) (d .ensures) (a .marks .now) (c .before .if1 .taken)
 
 loop-holds : tie.Need-loop-holds Inv-loop μ-loop
 loop-holds c = search needs
@@ -51,7 +50,7 @@ returns-2 c =
     let a = c .before .before .before .before .before .before .before .before .args in
     let d = c .before .before .before .before .before .before .marks-due in
     let l = c .before .before .before .before .loop in
-    stands-not (sizesOf (a .z)) (a .place) (a .block) (d .result .letter) (d .result .written) (d .ensures) (a .marks .now) (l .page) (omega arith)
+    stands-not (a .z) (a .place) (a .block) (d .result .letter) (d .result .written) (d .ensures) (a .marks .now) (l .page) (omega arith)
     (λ e. c .if2 .taken (sym (mark-is (a .marks .now) (a .block * a .z .m + l .page) (omega arith)) ∙ e ∙ sym (c .before .mark-due .ensures)))
 
 add-page : tie.Need-add-page Inv-loop μ-loop
@@ -70,7 +69,7 @@ returns-3 : tie.Need-returns-3 Inv-loop μ-loop
 returns-3 c =
     let a = c .before .before .before .before .before .args in
     let d = c .before .before .before .marks-due in
-    stands-all (sizesOf (a .z)) (a .place) (a .block) (d .result .letter) (d .result .written) (d .ensures) (a .marks .now) (λ j h. c .before .loop .inv .1 j (omega arith))
+    stands-all (a .z) (a .place) (a .block) (d .result .letter) (d .result .written) (d .ensures) (a .marks .now) (λ j h. c .before .loop .inv .1 j (omega arith))
 
 pub block-stands-spec : {M : Type 1} → statement M
 block-stands-spec =

@@ -3,7 +3,6 @@ use Prim.Native.Nat.{_+_}
 use native.Mathlib.Omega.{arith}
 use borrow.Author.Needs.{needs}
 use Rattle.flash.proofs.Bounds.{product-le}
-use Rattle.walk.specs.Moving.{sizesOf}
 use Rattle.places.proofs.OperationLaws.{forward-filling, backward-filling}
 use Rattle.places.proofs.StandLaws.{turns-in}
 use Rattle.places.proofs.stands.filling.Statement.{statement}
@@ -22,13 +21,13 @@ div-result-2 : tie.Need-div-result-2
 div-result-2 c = search needs
 
 sub-result : tie.Need-sub-result
-sub-result c = turns-in (sizesOf (c .before .before .before .before .args .z)) (c .before .before .before .before .args .place) (c .before .before .before .before .pre .1)
+sub-result c = turns-in ((c .before .before .before .before .args .z)) (c .before .before .before .before .args .place) (c .before .before .before .before .pre .1)
 
 returns : tie.Need-returns
-returns c = sym (forward-filling (sizesOf (c .before .before .before .args .z)) (c .before .before .before .args .place) (c .if1 .taken))
+returns c = sym (forward-filling ((c .before .before .before .args .z)) (c .before .before .before .args .place) (c .if1 .taken))
 
 returns-2 : tie.Need-returns-2
-returns-2 c = sym (backward-filling (sizesOf (c .before .before .before .before .args .z)) (c .before .before .before .before .args .place) (c .before .if1 .left))
+returns-2 c = sym (backward-filling ((c .before .before .before .before .args .z)) (c .before .before .before .before .args .place) (c .before .if1 .left))
 
 pub filling-spec : {M : Type 1} → statement M
 filling-spec =

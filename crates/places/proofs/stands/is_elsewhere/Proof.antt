@@ -4,8 +4,7 @@ use Prim.Native.Nat.{ℕ}
 use native.Mathlib.Omega.{arith}
 use borrow.Author.Tests.{not-true, not-false}
 use Rattle.flash.specs.Chip.{Chip}
-use Rattle.method.specs.Move.{Move}
-use Rattle.walk.specs.Moving.{moveOf}
+use Rattle.method.specs.Move.{Move, moveOf}
 use Rattle.places.proofs.StandLaws.{too-far, other-marks, else-torn}
 use Rattle.places.proofs.stands.is_elsewhere.Statement.{statement}
 use Rattle.places.proofs.stands.is_elsewhere.Tie as tie

@@ -1,9 +1,8 @@
 use Prim.Native.Nat.{_+_}
 use native.Mathlib.Omega.{arith}
 use borrow.Author.Needs.{needs}
+use Rattle.flash.specs.Geometry.{letter}
 use Rattle.flash.proofs.Bounds.{product-le}
-use Rattle.method.specs.Move.{letter}
-use Rattle.walk.specs.Moving.{sizesOf}
 use Rattle.places.proofs.StandLaws.{due-below, due-plain, due-code, due-final, due-finals}
 use Rattle.places.proofs.stands.marks_due.Statement.{statement}
 use Rattle.places.proofs.stands.marks_due.Tie as tie
@@ -24,7 +23,7 @@ returns : tie.Need-returns
 unfolding letter
 returns c =
     let a = c .before .before .before .args in
-    due-below (sizesOf (a .z)) (a .place) (a .block) (c .before .before .filling .result) _ (c .before .before .filling .ensures) (c .before .if1 .taken) (c .letter-after .ensures)
+    due-below (a .z) (a .place) (a .block) (c .before .before .filling .result) _ (c .before .before .filling .ensures) (c .before .if1 .taken) (c .letter-after .ensures)
 
 add-if2 : tie.Need-add-if2
 add-if2 c = search needs
@@ -39,7 +38,7 @@ returns-2 : tie.Need-returns-2
 unfolding letter
 returns-2 c =
     let a = c .before .before .before .before .before .before .args in
-    due-plain (sizesOf (a .z)) (a .place) (a .block) (c .before .before .before .before .before .filling .result) _ (c .before .before .before .before .before .filling .ensures) (c .before .before .if2 .taken) (c .before .if3 .taken) (c .letter-after2 .ensures)
+    due-plain (a .z) (a .place) (a .block) (c .before .before .before .before .before .filling .result) _ (c .before .before .before .before .before .filling .ensures) (c .before .before .if2 .taken) (c .before .if3 .taken) (c .letter-after2 .ensures)
 
 letter-after-requires-3 : tie.Need-letter-after-requires-3
 letter-after-requires-3 c κs = search needs
@@ -48,7 +47,7 @@ returns-3 : tie.Need-returns-3
 unfolding letter
 returns-3 c =
     let a = c .before .before .before .before .before .before .args in
-    due-code (sizesOf (a .z)) (a .place) (a .block) (c .before .before .before .before .before .filling .result) _ (c .before .before .before .before .before .filling .ensures) (c .before .before .if2 .taken) (c .before .before .before .before .if1 .left) (c .before .if3 .left) (c .letter-after3 .ensures)
+    due-code (a .z) (a .place) (a .block) (c .before .before .before .before .before .filling .result) _ (c .before .before .before .before .before .filling .ensures) (c .before .before .if2 .taken) (c .before .before .before .before .if1 .left) (c .before .if3 .left) (c .letter-after3 .ensures)
 
 letter-after-requires-4 : tie.Need-letter-after-requires-4
 letter-after-requires-4 c κs = search needs
@@ -57,7 +56,7 @@ returns-4 : tie.Need-returns-4
 unfolding letter
 returns-4 c =
     let a = c .before .before .before .before .before .before .args in
-    due-final (sizesOf (a .z)) (a .place) (a .block) (c .before .before .before .before .before .filling .result) _ (c .before .before .before .before .before .filling .ensures) (c .before .before .if2 .left) (c .before .if4 .taken) (c .letter-after4 .ensures)
+    due-final (a .z) (a .place) (a .block) (c .before .before .before .before .before .filling .result) _ (c .before .before .before .before .before .filling .ensures) (c .before .before .if2 .left) (c .before .if4 .taken) (c .letter-after4 .ensures)
 
 letter-after-requires-5 : tie.Need-letter-after-requires-5
 letter-after-requires-5 c κs = search needs
@@ -66,7 +65,7 @@ returns-5 : tie.Need-returns-5
 unfolding letter
 returns-5 c =
     let a = c .before .before .before .before .before .before .args in
-    due-finals (sizesOf (a .z)) (a .place) (a .block) (c .before .before .before .before .before .filling .result) _ (c .before .before .before .before .before .filling .ensures) (c .before .before .if2 .left) (c .before .before .before .before .if1 .left) (c .before .if4 .left) (c .letter-after5 .ensures)
+    due-finals (a .z) (a .place) (a .block) (c .before .before .before .before .before .filling .result) _ (c .before .before .before .before .before .filling .ensures) (c .before .before .if2 .left) (c .before .before .before .before .if1 .left) (c .before .if4 .left) (c .letter-after5 .ensures)
 
 pub marks-due-spec : {M : Type 1} → statement M
 marks-due-spec =

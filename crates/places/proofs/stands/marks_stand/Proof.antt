@@ -6,14 +6,13 @@ use borrow.Author.Count.{below-more}
 use borrow.Author.Needs.{needs}
 use borrow.Author.Tests.{not-true, not-false}
 use Rattle.flash.proofs.Bounds.{block-in-marks}
-use Rattle.walk.specs.Moving.{sizesOf}
-use Rattle.places.specs.Stands.{blockStands}
+use Rattle.places.specs.inner.Stands.{blockStands}
 use Rattle.places.proofs.StandLaws.{all-stand, one-falls}
 use Rattle.places.proofs.stands.marks_stand.Statement.{statement}
 use Rattle.places.proofs.stands.marks_stand.Tie as tie
 
 abbrev Inv-loop : tie.InvT-loop
-Inv-loop z marks place block₀ block = (block ≤ z .n + 1) × ((b : ℕ) → b < block → blockStands (sizesOf z) marks place b ≡ true)
+Inv-loop z marks place block₀ block = (block ≤ z .n + 1) × ((b : ℕ) → b < block → blockStands z marks place b ≡ true)
 
 abbrev μ-loop : tie.MeasureT-loop
 μ-loop z marks place block₀ block = z .n + 1 - block
@@ -24,12 +23,12 @@ loop-holds c = (omega arith, λ b h. absurd (omega arith))
 block-stands-requires : tie.Need-block-stands-requires Inv-loop μ-loop
 block-stands-requires c κs =
     let start = c .before .before .before .before in
-    (start .pre .0, start .pre .1, omega (arith, block-in-marks (sizesOf (start .args .z)) (c .before .before .loop .block) (omega arith)))
+    (start .pre .0, start .pre .1, omega (arith, block-in-marks ((start .args .z)) (c .before .before .loop .block) (omega arith)))
 
 returns : tie.Need-returns Inv-loop μ-loop
 returns c =
     let a = c .before .before .before .before .before .before .args in
-    one-falls (sizesOf (a .z)) (a .marks .now) (a .place) (c .before .before .before .before .loop .block) (omega arith) (sym (c .before .block-stands .ensures) ∙ not-true _ (c .if2 .taken))
+    one-falls (a .z) (a .marks .now) (a .place) (c .before .before .before .before .loop .block) (omega arith) (sym (c .before .block-stands .ensures) ∙ not-true _ (c .if2 .taken))
 
 add-block : tie.Need-add-block Inv-loop μ-loop
 add-block c = search needs
@@ -45,7 +44,7 @@ loop-again c =
 returns-2 : tie.Need-returns-2 Inv-loop μ-loop
 returns-2 c =
     let a = c .before .before .before .before .args in
-    all-stand (sizesOf (a .z)) (a .marks .now) (a .place) (omega arith) (c .before .before .before .before .pre .2) (λ b h. c .before .before .loop .inv .1 b (omega arith))
+    all-stand (a .z) (a .marks .now) (a .place) (omega arith) (c .before .before .before .before .pre .2) (λ b h. c .before .before .loop .inv .1 b (omega arith))
 
 pub marks-stand-spec : {M : Type 1} → statement M
 marks-stand-spec =

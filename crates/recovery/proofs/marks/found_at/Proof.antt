@@ -9,7 +9,7 @@ use borrow.Author.Tests.{eq-eqb, ne-eqb, eqb-false, ltb-false}
 use Rattle.flash.proofs.Bools.{or-false-left, or-false-right}
 use Rattle.flash.proofs.Bounds.{product-le}
 use Rattle.recovery.specs.declared.marks.Found.the-variants.{Full, Torn}
-use Rattle.recovery.specs.Found.{foundAt}
+use Rattle.recovery.specs.inner.Gathered.{foundAt}
 use Rattle.recovery.proofs.marks.found_at.Statement.{statement}
 use Rattle.recovery.proofs.marks.found_at.Tie as tie
 

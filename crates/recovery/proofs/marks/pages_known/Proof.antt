@@ -4,7 +4,7 @@ use native.Mathlib.Omega.{arith}
 use borrow.Author.Tests.{lt-ltb, le-ltb}
 use Rattle.flash.specs.Geometry.{isLetter}
 use Rattle.flash.specs.Chip.{isFull}
-use Rattle.recovery.specs.Found.{pagesKnown}
+use Rattle.recovery.specs.inner.Gathered.{pagesKnown}
 use Rattle.recovery.proofs.marks.pages_known.Statement.{statement}
 use Rattle.recovery.proofs.marks.pages_known.Tie as tie
 

@@ -2,38 +2,34 @@ use borrow.Author.Needs.{needs}
 use mathlib.Core.Path.{_≡_, sym, ap, _∙_}
 use mathlib.Core.Logic.{⊎-elim}
 use mathlib.Core.Bool.{true, false}
-use Prim.Native.Nat.{ℕ, _+_, _-_, _*_, _≤_, _<_}
+use Prim.Native.Nat.{_+_, _-_, _*_, _≤_, _<_}
 use native.Mathlib.Omega.{arith}
 use lib.Dec.{eqb}
 use lib.ListN.{length, getD}
 use borrow.Author.Tests.{eqb-true, eqb-false, not-true, not-false}
-use Rattle.flash.specs.Geometry.{Sizes}
+use Rattle.flash.specs.Geometry.{letter}
 use Rattle.flash.specs.Chip.{isMark}
 use Rattle.flash.proofs.Bounds.{block-in-marks}
-use Rattle.method.specs.Move.{letter}
 use Rattle.recovery.specs.Found.{readingOf}
 use Rattle.recovery.proofs.Reading.{reads-illegal}
-use Rattle.recovery.proofs.Search.{Upto, Block, LegalBelow, letter-same, legal-more, legal-all, change-in, torn-in, upto-none, known-in, block-known, legal-known, page-same, page-opens, page-first, page-second, block-changes, block-astray, block-kept}
+use Rattle.recovery.proofs.Search.{Upto, Block, LegalBelow, legal-more, legal-all, change-in, torn-in, upto-none, known-in, block-known, legal-known, page-same, page-opens, page-first, page-second, block-changes, block-astray, block-kept}
 use Rattle.recovery.proofs.Tells.{reads-nothing, answered, found-second, tells}
 use Rattle.recovery.proofs.marks.read_marks.Statement.{statement}
 use Rattle.recovery.proofs.marks.read_marks.Tie as tie
 
-abbrev Z : (n m s : ℕ) → Sizes
-Z n m s = record { n = n; m = m; P = 0; s = s }
-
 abbrev Inv-loop : tie.InvT-loop
-Inv-loop n m s marks blocks unfinished₀ torn₀ top change block first letter known whole₀ page₀ unfinished torn whole page =
-    (page ≤ m) × Block (Z n m s) marks block page letter unfinished₀ torn₀ unfinished torn whole × LegalBelow (Z n m s) marks (block * m + page)
+Inv-loop z marks n m blocks unfinished₀ torn₀ top change block first letter known whole₀ page₀ unfinished torn whole page =
+    (page ≤ m) × Block z marks block page letter unfinished₀ torn₀ unfinished torn whole × LegalBelow z marks (block * m + page)
 
 abbrev μ-loop : tie.MeasureT-loop
-μ-loop n m s marks blocks unfinished₀ torn₀ top change block first letter known whole₀ page₀ unfinished torn whole page = m - page
+μ-loop z marks n m blocks unfinished₀ torn₀ top change block first letter known whole₀ page₀ unfinished torn whole page = m - page
 
 abbrev Inv-search : tie.InvT-search
-Inv-search n m s marks blocks unfinished₀ torn₀ top₀ change₀ block₀ unfinished torn top change block =
-    (block ≤ n + 1) × (torn ≤ n) × Upto (Z n m s) marks block unfinished torn top change × LegalBelow (Z n m s) marks (block * m)
+Inv-search z marks n m blocks unfinished₀ torn₀ top₀ change₀ block₀ unfinished torn top change block =
+    (block ≤ n + 1) × (torn ≤ n) × Upto z marks block unfinished torn top change × LegalBelow z marks (block * m)
 
 abbrev μ-search : tie.MeasureT-search
-μ-search n m s marks blocks unfinished₀ torn₀ top₀ change₀ block₀ unfinished torn top change block = n + 1 - block
+μ-search z marks n m blocks unfinished₀ torn₀ top₀ change₀ block₀ unfinished torn top change block = n + 1 - block
 
 add-blocks : tie.Need-add-blocks Inv-loop μ-loop Inv-search μ-search
 add-blocks c = search needs
@@ -44,15 +40,15 @@ letter-after-requires c κs = search needs
 search-holds : tie.Need-search-holds Inv-loop μ-loop Inv-search μ-search
 search-holds c =
     let a = c .before .before .args in
-    let z = Z (a .n) (a .m) (a .s) in
-    let top : c .letter-after .result ≡ letter z 1 = c .letter-after .ensures ∙ letter-same (a .n) (a .m) (a .s) 1 in
+    let z = a .z in
+    let top : c .letter-after .result ≡ letter z 1 = c .letter-after .ensures in
     (omega arith, omega arith, rw top (upto-none z (omega arith) (a .marks .now) 0), λ i h. absurd (omega arith))
 
 -- the block that is looked at lies within the marks
-room : (c : tie.In-search Inv-loop μ-loop Inv-search μ-search) → c .before .search .block * c .before .before .before .before .args .m + c .before .before .before .before .args .m ≤ length (c .before .before .before .before .args .marks .now)
+room : (c : tie.In-search Inv-loop μ-loop Inv-search μ-search) → c .before .search .block * c .before .before .before .before .args .z .m + c .before .before .before .before .args .z .m ≤ length (c .before .before .before .before .args .marks .now)
 room c =
     let a = c .before .before .before .before .args in
-    let z = Z (a .n) (a .m) (a .s) in
+    let z = a .z in
     rw (c .before .before .before .before .pre .1) (block-in-marks z (c .before .search .block) (omega arith))
 
 mul-first : tie.Need-mul-first Inv-loop μ-loop Inv-search μ-search
@@ -69,8 +65,8 @@ loop-holds c =
     let b = c .before .before in
     let o = b .before .search in
     let a = b .before .before .before .before .args in
-    let z = Z (a .n) (a .m) (a .s) in
-    let pages : 0 < a .m = omega arith in
+    let z = a .z in
+    let pages : 0 < a .z .m = omega arith in
     rw (c .pages-known .ensures)
     (known-in z pages (a .marks .now) (o .block) _, block-known z pages (a .marks .now) (o .block) _ _ _, legal-known z pages (a .marks .now) (o .block) _ (room b) (o .inv .3))
 
@@ -90,10 +86,10 @@ returns c =
     let b = p .before .before .before .before in
     let o = b .before .search in
     let a = b .before .before .before .before .args in
-    let z = Z (a .n) (a .m) (a .s) in
-    let pages : 0 < a .m = omega arith in
-    let illegal : isMark (getD (a .marks .now) (o .block * a .m + l .page) 0) ≡ false = sym (c .before .is-mark .ensures) ∙ not-true _ (c .if1 .taken) in
-    answered _ _ (reads-nothing ∙ sym (reads-illegal z pages (a .marks .now) (o .block * a .m + l .page) (omega (arith, room b)) illegal))
+    let z = a .z in
+    let pages : 0 < a .z .m = omega arith in
+    let illegal : isMark (getD (a .marks .now) (o .block * a .z .m + l .page) 0) ≡ false = sym (c .before .is-mark .ensures) ∙ not-true _ (c .if1 .taken) in
+    answered _ _ (reads-nothing ∙ sym (reads-illegal z pages (a .marks .now) (o .block * a .z .m + l .page) (omega (arith, room b)) illegal))
 
 add-unfinished : tie.Need-add-unfinished Inv-loop μ-loop Inv-search μ-search
 add-unfinished c =
@@ -102,8 +98,8 @@ add-unfinished c =
     let b = p .before .before .before .before in
     let o = b .before .search in
     let a = b .before .before .before .before .args in
-    let z = Z (a .n) (a .m) (a .s) in
-    let pages : 0 < a .m = omega arith in
+    let z = a .z in
+    let pages : 0 < a .z .m = omega arith in
     let e = page-opens z pages (a .marks .now) (o .block) (l .page) _ _ _ _ (l .whole) (room b) (p .loop-test .taken) (l .inv .1) (c .if2 .taken) in
     omega (arith, o .inv .2 .few)
 
@@ -120,10 +116,10 @@ loop-again c =
     let b = p .before .before .before .before in
     let o = b .before .search in
     let a = b .before .before .before .before .args in
-    let z = Z (a .n) (a .m) (a .s) in
-    let pages : 0 < a .m = omega arith in
-    let legal : isMark (getD (a .marks .now) (o .block * a .m + l .page) 0) ≡ true = sym (c .before .before .is-mark .ensures) ∙ not-false _ (c .before .if1 .left) in
-    let more = legal-more z (a .marks .now) (o .block * a .m) (l .page) (l .inv .2) legal in
+    let z = a .z in
+    let pages : 0 < a .z .m = omega arith in
+    let legal : isMark (getD (a .marks .now) (o .block * a .z .m + l .page) 0) ≡ true = sym (c .before .before .is-mark .ensures) ∙ not-false _ (c .before .if1 .left) in
+    let more = legal-more z (a .marks .now) (o .block * a .z .m) (l .page) (l .inv .2) legal in
     ⊎-elim
     (λ w. (omega arith, rw (w .2, w .3, w .4) (page-first z pages (a .marks .now) (o .block) (l .page) _ _ _ _ (l .whole) (room b) (p .loop-test .taken) (l .inv .1) (o .inv .2 .few) (w .1 .left) (w .0 .taken)), more))
     (λ w. (omega arith, rw (w .1, w .2, w .3) (page-same z pages (a .marks .now) (o .block) (l .page) _ _ _ _ (l .whole) (room b) (p .loop-test .taken) (l .inv .1) legal (w .0 .left)), more))
@@ -136,8 +132,8 @@ returns-2 c =
     let b = e .before .before .before .before in
     let o = b .before .search in
     let a = b .before .before .before .before .args in
-    let z = Z (a .n) (a .m) (a .s) in
-    let pages : 0 < a .m = omega arith in
+    let z = a .z in
+    let pages : 0 < a .z .m = omega arith in
     answered _ _
     (reads-nothing
     ∙ sym (block-astray z pages (a .marks .now) (o .block) (l .page) _ _ _ _ _ _ _ (l .whole) (omega arith) (e .loop-test .left) (o .inv .2) (l .inv .1) (omega arith) (c .before .if4 .taken)))
@@ -155,11 +151,11 @@ search-again c =
     let b = e .before .before .before .before in
     let o = b .before .search in
     let a = b .before .before .before .before .args in
-    let z = Z (a .n) (a .m) (a .s) in
-    let pages : 0 < a .m = omega arith in
-    let h : o .block ≤ a .n = omega arith in
+    let z = a .z in
+    let pages : 0 < a .z .m = omega arith in
+    let h : o .block ≤ a .z .n = omega arith in
     let torn = torn-in z (a .marks .now) (o .block) (l .page) _ _ _ _ _ (l .whole) (l .inv .1) h (o .inv .1) in
-    let legal : LegalBelow z (a .marks .now) ((o .block + 1) * a .m) = λ i k. l .inv .2 i (omega arith) in
+    let legal : LegalBelow z (a .marks .now) ((o .block + 1) * a .z .m) = λ i k. l .inv .2 i (omega arith) in
     ⊎-elim
     (λ w. (omega arith, torn, rw (w .2, w .3) (block-changes z pages (a .marks .now) (o .block) (l .page) _ _ _ _ _ _ _ (l .whole) h (e .loop-test .left) (o .inv .2) (l .inv .1) (omega arith) (w .0 .taken)), legal))
     (λ w. (omega arith, torn, rw (w .1, w .2) (block-kept z pages (a .marks .now) (o .block) (l .page) _ _ _ _ _ _ _ (l .whole) h (e .loop-test .left) (o .inv .2) (l .inv .1) (w .0 .left)), legal))
@@ -172,7 +168,7 @@ found-at-requires : tie.Need-found-at-requires Inv-loop μ-loop Inv-search μ-se
 found-at-requires c κs =
     let t = c .before .before in
     let a = t .before .before .before .args in
-    let z = Z (a .n) (a .m) (a .s) in
+    let z = a .z in
     let change = change-in z (a .marks .now) _ _ _ _ _ (t .search .inv .2) in
     ⊎-elim (λ w. (omega arith, omega arith, omega arith, change)) (λ w. (omega arith, omega arith, omega arith, change)) (c .before .search-test .came)
 
@@ -181,14 +177,14 @@ returns-3 c =
     let t = c .before .before .before in
     let o = t .search in
     let a = t .before .before .before .args in
-    let z = Z (a .n) (a .m) (a .s) in
-    let pages : 0 < a .m = omega arith in
-    let start : c .before .letter-after2 .result ≡ letter z 0 = c .before .letter-after2 .ensures ∙ letter-same (a .n) (a .m) (a .s) 0 in
+    let z = a .z in
+    let pages : 0 < a .z .m = omega arith in
+    let start : c .before .letter-after2 .result ≡ letter z 0 = c .before .letter-after2 .ensures in
     answered _ _ (rw (c .found-at .ensures)
     (⊎-elim
     (λ w.
-    let end : o .block ≡ a .n + 1 = omega arith in
-    let U : Upto z (a .marks .now) (a .n + 1) (o .unfinished) (o .torn) (o .top) (o .change) = rw end at (o .inv .2) in
+    let end : o .block ≡ a .z .n + 1 = omega arith in
+    let U : Upto z (a .marks .now) (a .z .n + 1) (o .unfinished) (o .torn) (o .top) (o .change) = rw end at (o .inv .2) in
     let legal = legal-all z (a .marks .now) (rw (c .before .before .before .before .before .before .pre .1, ← end) (o .inv .3)) in
     rw (w .1, w .2, start)
     (tells z pages (a .marks .now) _ _ _ _ U legal (eqb (o .top) (letter z 0)) (λ e. eqb-true _ _ e) (λ e. eqb-false _ _ e)))

@@ -8,20 +8,17 @@ use native.Mathlib.Omega.{arith}
 use lib.Dec.{eqb}
 use lib.ListN.{length}
 use borrow.Author.Tests.{not-true, not-false}
-use Rattle.flash.specs.Geometry.{Sizes, inRange}
-use Rattle.flash.specs.Chip.{Chip, eraseBlock}
+use Rattle.flash.specs.Geometry.{inRange}
+use Rattle.flash.specs.Chip.{Chip}
 use Rattle.flash.proofs.Bounds.{in-range, block-in-store, block-in-marks}
 use Rattle.method.specs.Mend.{reading}
 use Rattle.method.specs.Answers.{badChip}
 use Rattle.recovery.specs.Found.{answerOf, readingOf}
 use Rattle.recovery.proofs.Reading.{torn-inside}
-use Rattle.recovery.proofs.Answer.{same-reading, mend-is, chip-lengths, refused-1, refused-2, refused-6, mended-full, mended-torn}
+use Rattle.recovery.proofs.Answer.{chip-lengths, refused-1, refused-2, refused-6, mended-full, mended-torn}
 use Rattle.recovery.proofs.Tells.{what-is-told}
 use Rattle.recovery.proofs.mend.mend.Statement.{statement}
 use Rattle.recovery.proofs.mend.mend.Tie as tie
-
-abbrev Z : (n m P s : ℕ) → Sizes
-Z n m P s = record { n = n; m = m; P = P; s = s }
 
 abbrev chip : (store marks : List ℕ) → Chip
 chip store marks = record { store = store; marks = marks }
@@ -36,14 +33,14 @@ returns : tie.Need-returns
 returns c =
     let a = c .before .before .before .before .before .args in
     rw (c .refused .ensures)
-    (mend-is (Z (a .n) (a .m) (a .p) (a .s)) (chip (a .store .now) (a .marks .now)) 1 0 0 _ (refused-1 _ _ (sym (c .before .before .in-range .ensures) ∙ not-true _ (c .before .if1 .taken))))
+    (sym (refused-1 _ _ (sym (c .before .before .in-range .ensures) ∙ not-true _ (c .before .if1 .taken))))
 
 -- the sizes are in range
-sizes : (c : tie.Else1) → (let a = c .before .before .before .before .args in inRange (Z (a .n) (a .m) (a .p) (a .s))) ≡ true
+sizes : (c : tie.Else1) → (let a = c .before .before .before .before .args in inRange (a .z)) ≡ true
 sizes c = sym (c .before .in-range .ensures) ∙ not-false _ (c .if1 .left)
 
 store-length-requires : tie.Need-store-length-requires
-store-length-requires c κs = let B = in-range _ (sizes c) in (B .n-high, B .m-high, B .P-high)
+store-length-requires c κs = let B = in-range _ (sizes c) in (B .n-high, B .m-high, B .p-high)
 
 slot-count-requires : tie.Need-slot-count-requires
 slot-count-requires c κs = let B = in-range _ (sizes (c .before)) in (B .n-high, B .m-high)
@@ -52,7 +49,7 @@ refused-requires-2 : tie.Need-refused-requires-2
 refused-requires-2 c κs = search needs
 
 -- the test of the lengths is the table's
-lengths : (c : tie.After-slot-count) → (let a = c .before .before .before .before .before .before .args in (not (eqb (length (a .store .now)) (c .before .store-length .result)) || not (eqb (length (a .marks .now)) (c .slot-count .result))) ≡ badChip (Z (a .n) (a .m) (a .p) (a .s)) (chip (a .store .now) (a .marks .now)))
+lengths : (c : tie.After-slot-count) → (let a = c .before .before .before .before .before .before .args in (not (eqb (length (a .store .now)) (c .before .store-length .result)) || not (eqb (length (a .marks .now)) (c .slot-count .result))) ≡ badChip (a .z) (chip (a .store .now) (a .marks .now)))
 unfolding badChip
 lengths c = rw (c .before .store-length .ensures, c .slot-count .ensures)
 
@@ -60,12 +57,12 @@ returns-2 : tie.Need-returns-2
 returns-2 c =
     let a = c .before .before .before .before .before .before .before .before .args in
     let k = c .before .before in
-    let bad : badChip (Z (a .n) (a .m) (a .p) (a .s)) (chip (a .store .now) (a .marks .now)) ≡ true = sym (lengths k) ∙ c .before .if2 .taken in
+    let bad : badChip (a .z) (chip (a .store .now) (a .marks .now)) ≡ true = sym (lengths k) ∙ c .before .if2 .taken in
     rw (c .refused2 .ensures)
-    (mend-is (Z (a .n) (a .m) (a .p) (a .s)) (chip (a .store .now) (a .marks .now)) 2 0 0 _ (refused-2 _ _ (sizes (k .before .before)) bad))
+    (sym (refused-2 _ _ (sizes (k .before .before)) bad))
 
 -- the lengths are right
-good : (c : tie.Else2) → (let a = c .before .before .before .before .before .before .before .args in badChip (Z (a .n) (a .m) (a .p) (a .s)) (chip (a .store .now) (a .marks .now))) ≡ false
+good : (c : tie.Else2) → (let a = c .before .before .before .before .before .before .before .args in badChip (a .z) (chip (a .store .now) (a .marks .now))) ≡ false
 good c = sym (lengths (c .before)) ∙ c .if2 .left
 
 read-marks-requires : tie.Need-read-marks-requires
@@ -73,7 +70,7 @@ read-marks-requires c κs =
     let a = c .before .before .before .before .before .before .before .before .args in
     let k = c .before .before in
     let B = in-range _ (sizes (k .before .before)) in
-    ((B .n-high, B .m-low, B .m-high, B .s-high), chip-lengths (Z (a .n) (a .m) (a .p) (a .s)) (chip (a .store .now) (a .marks .now)) (good (c .before)) .1)
+    ((B .n-high, B .m-low, B .m-high, B .s-high), chip-lengths (a .z) (chip (a .store .now) (a .marks .now)) (good (c .before)) .1)
 
 enum-told : tie.Need-enum-told
 enum-told c = search needs
@@ -88,13 +85,11 @@ enum-known-place-2 : tie.Need-enum-known-place-2
 enum-known-place-2 c = search needs
 
 -- what the search tells
-told : (c : tie.After-read-marks) → (let a = c .before .before .before .before .before .before .before .before .before .args in readingOf (c .read-marks .result) ≡ reading (Z (a .n) (a .m) (a .p) (a .s)) (a .marks .now))
-told c =
-    let a = c .before .before .before .before .before .before .before .before .before .args in
-    what-is-told _ _ (c .read-marks .ensures) ∙ same-reading (a .n) (a .m) (a .p) (a .s) (a .marks .now)
+told : (c : tie.After-read-marks) → (let a = c .before .before .before .before .before .before .before .before .before .args in readingOf (c .read-marks .result) ≡ reading (a .z) (a .marks .now))
+told c = what-is-told _ _ (c .read-marks .ensures)
 
 -- and where a block is unfinished
-torn-told : (c : tie.After-place2) → (let a = c .before .before .before .before .before .before .before .before .before .before .before .args in reading (Z (a .n) (a .m) (a .p) (a .s)) (a .marks .now) ≡ some (record { place = c .place2 .given .0 .0; toErase = some (c .place2 .given .0 .1 .0) }))
+torn-told : (c : tie.After-place2) → (let a = c .before .before .before .before .before .before .before .before .before .before .before .args in reading (a .z) (a .marks .now) ≡ some (record { place = c .place2 .given .0 .0; toErase = some (c .place2 .given .0 .1 .0) }))
 unfolding answerOf
 torn-told c = sym (told (c .before .before)) ∙ ap readingOf (c .place2 .given .1)
 
@@ -103,7 +98,7 @@ erase-block-requires c κs =
     let t = c .before .before .before in
     let k = t .before .before .before .before in
     let a = k .before .before .before .before .before .before .before .args in
-    let z = Z (a .n) (a .m) (a .p) (a .s) in
+    let z = a .z in
     let B = in-range z (sizes (k .before .before .before)) in
     let L = chip-lengths z (chip (a .store .now) (a .marks .now)) (good k) in
     let h = torn-inside z (B .m-low) (a .marks .now) (t .place2 .given .0 .0) (t .place2 .given .0 .1 .0) (torn-told t) in
@@ -119,7 +114,7 @@ returns-3 c =
     let k = r .before .before in
     let a = k .before .before .before .before .before .before .before .args in
     rw (c .refused3 .ensures)
-    (mend-is (Z (a .n) (a .m) (a .p) (a .s)) (chip (a .store .now) (a .marks .now)) 6 0 0 _ (refused-6 _ _ (sizes (k .before .before .before)) (good k) (sym (told r) ∙ ap readingOf (c .before .enum-told .given .1))))
+    (sym (refused-6 _ _ (sizes (k .before .before .before)) (good k) (sym (told r) ∙ ap readingOf (c .before .enum-told .given .1))))
 
 same-length-2 : tie.Need-same-length-2
 same-length-2 c = search needs
@@ -130,7 +125,7 @@ returns-4 c =
     let r = c .before .before .before in
     let k = r .before .before in
     let a = k .before .before .before .before .before .before .before .args in
-    mend-is (Z (a .n) (a .m) (a .p) (a .s)) (chip (a .store .now) (a .marks .now)) 0 _ 0 _ (mended-full _ _ (sizes (k .before .before .before)) (good k) _ (sym (told r) ∙ ap readingOf (c .before .place .given .1)))
+    sym (mended-full _ _ (sizes (k .before .before .before)) (good k) _ (sym (told r) ∙ ap readingOf (c .before .place .given .1)))
 
 same-length-3 : tie.Need-same-length-3
 same-length-3 c = search needs
@@ -144,10 +139,10 @@ returns-5 c =
     let t = e .before .before .before .before in
     let k = t .before .before .before .before in
     let a = k .before .before .before .before .before .before .before .args in
-    let z = Z (a .n) (a .m) (a .p) (a .s) in
+    let z = a .z in
     let block = t .place2 .given .0 .1 .0 in
     rw (e .erase-block .ensures .store-is, e .erase-block .ensures .marks-is)
-    (mend-is z (chip (a .store .now) (a .marks .now)) 0 _ 1 (eraseBlock (a .m) (a .p) block (chip (a .store .now) (a .marks .now))) (mended-torn _ _ (sizes (k .before .before .before)) (good k) _ _ (torn-told t)))
+    (sym (mended-torn _ _ (sizes (k .before .before .before)) (good k) _ _ (torn-told t)))
 
 pub mend-spec : {M : Type 1} → statement M
 mend-spec =

@@ -1,9 +1,9 @@
 use mathlib.Core.Path.{_≡_, sym, _∙_}
 use mathlib.Core.Bool.{true}
-use native.Mathlib.Omega.{arith}
 use borrow.Author.Tests.{not-true, not-false}
 use Rattle.flash.specs.Geometry.{inRange}
-use Rattle.split.proofs.Answers.{small, gives-1, gives-2-list, gives-2-sets, gives-3, gives-0}
+use Rattle.flash.proofs.Bounds.{in-range}
+use Rattle.split.proofs.Answers.{gives-1, gives-2-list, gives-2-sets, gives-3, gives-0}
 use borrow.Author.Needs.{needs}
 use Rattle.split.proofs.call.refusal.Statement.{statement}
 use Rattle.split.proofs.call.refusal.Tie as tie
@@ -16,17 +16,19 @@ returns c = sym (gives-1 _ _ _ (sym (c .before .in-range .ensures) ∙ not-true 
 
 -- the sizes are in range
 ranged : (c : tie.Else1)
-    → (let a = c .before .before .before .before .args in inRange (record { n = a .n; m = a .m; P = a .p; s = a .s }) ≡ true)
+    → (let a = c .before .before .before .before .args in inRange (a .z) ≡ true)
 ranged c = sym (c .before .in-range .ensures) ∙ not-false (c .before .in-range .result) (c .if1 .left)
 
-mul-originals : tie.Need-mul-originals
-mul-originals c = record { fits = omega (arith, small _ (ranged c)) }
+original-count-requires : tie.Need-original-count-requires
+original-count-requires c κs = let B = in-range _ (ranged c) in (B .n-high, B .m-high)
 
 returns-2 : tie.Need-returns-2
-returns-2 c = sym (gives-2-list _ _ _ (ranged (c .before)) (c .if2 .taken))
+returns-2 c = sym (gives-2-list _ _ _ (ranged (c .before .before)) (rw (← c .before .original-count .ensures) (c .if2 .taken)))
 
 returns-3 : tie.Need-returns-3
-returns-3 c = sym (gives-2-sets _ _ _ (ranged (c .before .before)) (c .before .if2 .left) (c .if3 .taken))
+returns-3 c =
+    let o = c .before .before .original-count .ensures in
+    sym (gives-2-sets _ _ _ (ranged (c .before .before .before)) (c .before .if2 .left ∙ o) (rw (← o) (c .if3 .taken)))
 
 check-requires : tie.Need-check-requires
 check-requires c κs = search needs
@@ -34,14 +36,16 @@ check-requires c κs = search needs
 returns-4 : tie.Need-returns-4
 returns-4 c =
     let e = c .before .before in
-    sym (gives-3 _ _ _ (ranged (e .before .before)) (e .before .if2 .left) (e .if3 .left)
-    (sym (c .before .check .ensures) ∙ not-true (c .before .check .result) (c .if4 .taken)))
+    let o = e .before .before .original-count .ensures in
+    sym (gives-3 _ _ _ (ranged (e .before .before .before)) (e .before .if2 .left ∙ o) (e .if3 .left ∙ o)
+    (rw (← o) (sym (c .before .check .ensures) ∙ not-true (c .before .check .result) (c .if4 .taken))))
 
 returns-5 : tie.Need-returns-5
 returns-5 c =
     let e = c .before .before in
-    sym (gives-0 _ _ _ (ranged (e .before .before)) (e .before .if2 .left) (e .if3 .left)
-    (sym (c .before .check .ensures) ∙ not-false (c .before .check .result) (c .if4 .left)))
+    let o = e .before .before .original-count .ensures in
+    sym (gives-0 _ _ _ (ranged (e .before .before .before)) (e .before .if2 .left ∙ o) (e .if3 .left ∙ o)
+    (rw (← o) (sym (c .before .check .ensures) ∙ not-false (c .before .check .result) (c .if4 .left))))
 
 pub refusal-spec : {M : Type 1} → statement M
 refusal-spec =
@@ -49,7 +53,7 @@ refusal-spec =
     (tie.spec
     in-range-requires
     returns
-    mul-originals
+    original-count-requires
     returns-2
     returns-3
     check-requires

@@ -6,7 +6,7 @@ use native.Mathlib.Omega.{arith}
 use borrow.Author.Needs.{needs}
 use Rattle.split.specs.Split.{sourceBlock, destBlock}
 use Rattle.split.specs.Rule.{blockAt}
-use Rattle.split.specs.Ends.{endOf}
+use Rattle.split.specs.inner.Ends.{endOf}
 use Rattle.split.proofs.ends.block_by.Statement.{statement}
 use Rattle.split.proofs.ends.block_by.Tie as tie
 

@@ -5,7 +5,7 @@ use native.Mathlib.Omega.{arith}
 use borrow.Author.Needs.{needs}
 use borrow.Author.Tests.{eqb-true, eqb-false}
 use lib.ListN.{length}
-use Rattle.split.specs.Mask.{FlippedAt}
+use Rattle.split.specs.inner.Mask.{FlippedAt}
 use Rattle.split.proofs.CheckLaws.{bitOf, Seen, nothing-seen, all-good, too-large, repeated, one-beside, one-more}
 use Rattle.split.proofs.list.differ_within.Statement.{statement}
 use Rattle.split.proofs.list.differ_within.Tie as tie

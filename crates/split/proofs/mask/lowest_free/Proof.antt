@@ -1,7 +1,7 @@
 use native.Mathlib.Omega.{arith}
 use Prim.Native.Nat.{_-_, _^_}
 use lib.Count.{trailing-le}
-use Rattle.split.specs.Mask.{lowestZero}
+use Rattle.split.specs.inner.Mask.{lowestZero}
 use Rattle.split.proofs.MaskLaws.{lowest-zero}
 use Rattle.split.proofs.mask.lowest_free.Statement.{statement}
 use Rattle.split.proofs.mask.lowest_free.Tie as tie

@@ -5,10 +5,10 @@ use native.Mathlib.Omega.{arith}
 use borrow.Author.Needs.{needs}
 use lib.ListN.{length, getD}
 use Rattle.split.specs.Rule.{End, source, destination, blockAt}
-use Rattle.split.specs.Mask.{FlippedBoth}
-use Rattle.flash.specs.Reciprocal.{reciprocal}
-use Rattle.split.specs.Ends.{endOf}
-use Rattle.split.specs.Work.{Sought}
+use Rattle.split.specs.inner.Mask.{FlippedBoth}
+use Rattle.flash.specs.inner.Reciprocal.{reciprocal}
+use Rattle.split.specs.inner.Ends.{endOf}
+use Rattle.split.specs.inner.Work.{Sought}
 use Rattle.split.proofs.PathLaws.{pages-fit, block-room, of-block}
 use Rattle.split.proofs.Walking.{Walking, set-lt, block-of, unchanged, ready, walk-starts, walk-less, walk-more, walk-done}
 use Rattle.split.proofs.path.exchange.Statement.{statement}

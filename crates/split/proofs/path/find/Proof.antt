@@ -5,8 +5,8 @@ use borrow.Author.Needs.{needs}
 use borrow.Author.Tests.{eqb-true, eqb-false, not-true, not-false, lt-ltb, le-ltb}
 use lib.Dec.{eqb, ltb}
 use Rattle.split.specs.Rule.{isPageOf}
-use Rattle.split.specs.Mask.{bitAt}
-use Rattle.split.specs.Ends.{endOf}
+use Rattle.split.specs.inner.Mask.{bitAt}
+use Rattle.split.specs.inner.Ends.{endOf}
 use Rattle.split.proofs.PathLaws.{found-page, sought-found, sought-none, by-mask, by-hint, by-search}
 use Rattle.split.proofs.path.find.Statement.{statement}
 use Rattle.split.proofs.path.find.Tie as tie

@@ -3,7 +3,7 @@ use Prim.Native.Nat.{_-_, _≤_}
 use native.Mathlib.Nat.{not-suc-le-zero}
 use native.Mathlib.Omega.{arith}
 use borrow.Author.Needs.{needs}
-use Rattle.split.specs.Ends.{endOf}
+use Rattle.split.specs.inner.Ends.{endOf}
 use Rattle.split.proofs.PathLaws.{Clear, clear-more, found-page, found-none, first-found, none-found}
 use Rattle.split.proofs.path.search.Statement.{statement}
 use Rattle.split.proofs.path.search.Tie as tie

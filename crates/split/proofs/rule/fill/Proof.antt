@@ -3,7 +3,7 @@ use Prim.Native.Nat.{_-_, _≤_}
 use native.Mathlib.Omega.{arith}
 use borrow.Author.Needs.{needs}
 use lib.ListN.{length}
-use Rattle.split.specs.Work.{Working}
+use Rattle.split.specs.inner.Work.{Working}
 use Rattle.split.proofs.Filling.{work-starts, work-done}
 use Rattle.split.proofs.rule.fill.Statement.{statement}
 use Rattle.split.proofs.rule.fill.Tie as tie

@@ -4,9 +4,9 @@ use Prim.Native.Nat.{ℕ, _≤_, _<_}
 use native.Mathlib.Omega.{arith}
 use Rattle.split.specs.Rule.{End, source, destination, blockAt, isUsed, lowestUnused, setsGiven}
 use lib.ListN.{length, length-set}
-use Rattle.split.specs.Mask.{FlippedAt}
-use Rattle.flash.specs.Reciprocal.{reciprocal}
-use Rattle.split.specs.Work.{Blocked}
+use Rattle.split.specs.inner.Mask.{FlippedAt}
+use Rattle.flash.specs.inner.Reciprocal.{reciprocal}
+use Rattle.split.specs.inner.Work.{Blocked}
 use Rattle.split.proofs.PathLaws.{pages-fit, block-room, of-block}
 use Rattle.split.proofs.Filling.{lowest-free, lowest-fits, blocked, given-more, gives-plain, gives-exchanged, Fresh}
 use borrow.Author.Needs.{needs}

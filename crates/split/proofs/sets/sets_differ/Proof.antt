@@ -5,7 +5,7 @@ use borrow.Author.Needs.{needs}
 use lib.Dec.{eqb}
 use lib.ListN.{length}
 use Rattle.split.specs.Split.{setOf}
-use Rattle.split.specs.Mask.{bitAt, Flipped}
+use Rattle.split.specs.inner.Mask.{bitAt, Flipped}
 use Rattle.split.specs.Rule.{source, destination, blockAt}
 use Rattle.split.proofs.PathLaws.{pages-fit}
 use Rattle.split.proofs.SetsLaws.{Flips, flips-at, Kept, kept-none, kept-tells, kept-same, kept-next, block-lt, no-such-set, met-twice, all-met}

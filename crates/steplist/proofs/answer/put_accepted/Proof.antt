@@ -8,16 +8,16 @@ use borrow.Author.Needs.{needs}
 use Rattle.steplist.proofs.answer.put_accepted.Statement.{statement}
 use Rattle.steplist.proofs.answer.put_accepted.Tie as tie
 
-limits : (c : tie.Start) → (let a = c .args in Bounded (a .n) (a .m) (a .p) (a .s))
-limits c = bounded (c .args .n) (c .args .m) (c .args .p) (c .args .s) (c .pre .0 .readable .allowed)
+limits : (c : tie.Start) → (let a = c .args in Bounded (a .z))
+limits c = bounded (c .args .z) (c .pre .0 .readable .allowed)
 
 -- the lent parts fit into the arrays
 sizes : (c : tie.After-slot-count) → (c .before .store-length .result ≤ 4608) × (c .slot-count .result ≤ 72)
 sizes c =
     let a = c .before .before .before .before .before .before .args in
     let l = limits (c .before .before .before .before .before .before) in
-    let slots = product-le (a .n + 1) (a .m) {c = 9} {d = 8} (omega arith) (l .few-pages) in
-    let store = product-le ((a .n + 1) * a .m) (a .p) {c = 72} {d = 64} (omega arith) (l .short-pages) in
+    let slots = product-le (a .z .n + 1) (a .z .m) {c = 9} {d = 8} (omega arith) (l .few-pages) in
+    let store = product-le ((a .z .n + 1) * a .z .m) (a .z .p) {c = 72} {d = 64} (omega arith) (l .short-pages) in
     (omega (arith, store, c .before .store-length .ensures), omega (arith, slots, c .slot-count .ensures))
 
 store-length-requires : tie.Need-store-length-requires
@@ -42,7 +42,7 @@ array-borrow-prefix-work : tie.Need-array-borrow-prefix-work
 array-borrow-prefix-work c = limits (c .before .before .before .before .before .before .before .before .before) .short-pages
 
 slice-aggregate-put-from-rest-3 : tie.Need-slice-aggregate-put-from-rest-3
-slice-aggregate-put-from-rest-3 c = sym (zeros-length (c .before .before .before .before .before .before .before .before .before .before .args .p) 64 (limits (c .before .before .before .before .before .before .before .before .before .before) .short-pages))
+slice-aggregate-put-from-rest-3 c = sym (zeros-length (c .before .before .before .before .before .before .before .before .before .before .args .z .p) 64 (limits (c .before .before .before .before .before .before .before .before .before .before) .short-pages))
 
 put-from-rest-requires : tie.Need-put-from-rest-requires
 put-from-rest-requires c κs =
@@ -53,7 +53,7 @@ put-from-rest-requires c κs =
       record {
         store-length = zeros-length (c .before .before .before .before .before .store-length .result) 4608 (s .0) ∙ c .before .before .before .before .before .store-length .ensures;
         marks-length = zeros-length (c .before .before .before .before .slot-count .result) 72 (s .1) ∙ c .before .before .before .before .slot-count .ensures;
-        work-is = zeros-taken (a .p) 64 (limits start .short-pages);
+        work-is = zeros-taken (a .z .p) 64 (limits start .short-pages);
       },
       omega arith,
     )

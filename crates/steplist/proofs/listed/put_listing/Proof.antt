@@ -1,9 +1,10 @@
 use native.Mathlib.Omega.{arith}
 use Prim.Native.Nat.{_+_, _≤_}
 use lib.ListN.{length}
+use Rattle.method.specs.Move.{moveOf}
 use Rattle.method.specs.Place.{lastPlace}
 use Rattle.listing.specs.Lines.{endLine}
-use Rattle.steplist.specs.Listing.{moveOf, runningOf, mostOutput}
+use Rattle.steplist.specs.inner.Listing.{runningOf, mostOutput}
 use Rattle.steplist.proofs.LengthLaws.{few-steps, end-short}
 use Rattle.steplist.proofs.ListingLaws.{few-counted, all-shown}
 use borrow.Author.Needs.{needs}
@@ -16,8 +17,8 @@ room c =
     let start = c .before .before .before .before .before .before .before .before .before .before .before in
     let a = start .args in
     let shows = c .put-steps .ensures in
-    let last = few-steps (record { n = a .n; m = a .m; P = a .p; s = a .s }) (start .pre .0 .few-blocks) (start .pre .0 .few-pages) in
-    let few = few-counted (moveOf (a .n) (a .m) (a .p) (a .s) (a .list .now) (a .sets .now)) (runningOf (a .store .now) (a .marks .now) (a .work .now)) (lastPlace (record { n = a .n; m = a .m; P = a .p; s = a .s })) _ _ _ _ _ _ _ _ (omega arith) shows in
+    let last = few-steps (a .z) (start .pre .0 .few-blocks) (start .pre .0 .few-pages) in
+    let few = few-counted (moveOf (a .z) (a .list .now) (a .sets .now)) (runningOf (a .store .now) (a .marks .now) (a .work .now)) (lastPlace (a .z)) _ _ _ _ _ _ _ _ (omega arith) shows in
     omega (arith, shows .at-high, end-short (c .put-steps .result .writes) (c .put-steps .result .erases) (omega arith) (omega arith))
 
 put-steps-requires : tie.Need-put-steps-requires
@@ -43,7 +44,7 @@ returns c =
     let a = c .before .before .before .before .before .before .before .before .before .before .before .before .before .before .before .before .before .before .before .before .before .before .before .args in
     let steps = c .before .before .before .before .before .before .before .before .before .before .before .before .put-steps in
     let end = c .before .before .put-end in
-    (all-shown (moveOf (a .n) (a .m) (a .p) (a .s) (a .list .now) (a .sets .now)) (runningOf (a .store .now) (a .marks .now) (a .work .now)) _ _ _ _ _ _ _ _ _ _ (steps .ensures) (end .ensures), steps .ensures .left)
+    (all-shown (moveOf (a .z) (a .list .now) (a .sets .now)) (runningOf (a .store .now) (a .marks .now) (a .work .now)) _ _ _ _ _ _ _ _ _ _ (steps .ensures) (end .ensures), steps .ensures .left)
 
 pub put-listing-spec : {M : Type 1} → statement M
 put-listing-spec = tie.close (tie.spec put-steps-requires put-end-requires same-length same-length-2 same-length-3 same-length-4 returns)

@@ -1,8 +1,9 @@
 use mathlib.Core.Path.{_∙_}
 use native.Mathlib.Omega.{arith}
-use Rattle.method.proofs.Accepting.{run-taken}
-use Rattle.steplist.specs.Listing.{moveOf, runningOf}
-use Rattle.steplist.proofs.StepLaws.{same-operation, OneStep, one-step}
+use Rattle.method.specs.Move.{moveOf}
+use Rattle.method.proofs.basics.AcceptedCalls.{run-taken}
+use Rattle.steplist.specs.inner.Listing.{runningOf}
+use Rattle.steplist.proofs.StepLaws.{OneStep, one-step}
 use borrow.Author.Needs.{needs}
 use Rattle.steplist.proofs.listed.put_step.Statement.{statement}
 use Rattle.steplist.proofs.listed.put_step.Tie as tie
@@ -10,11 +11,11 @@ use Rattle.steplist.proofs.listed.put_step.Tie as tie
 -- what the run left and counted
 told : (c : tie.After-run)
     → (let a = c .before .before .before .before .before .before .before .before .before .before .args in let l = c .run .last in
-    OneStep (moveOf (a .n) (a .m) (a .p) (a .s) (a .list .now) (a .sets .now)) (runningOf (a .store .now) (a .marks .now) (a .work .now)) (a .place) (c .run .result) (l .1 .1 .1 .1 .1 .1 .0) (l .1 .1 .1 .1 .1 .1 .1 .0) (l .1 .1 .1 .1 .1 .1 .1 .1 .0))
+    OneStep (moveOf (a .z) (a .list .now) (a .sets .now)) (runningOf (a .store .now) (a .marks .now) (a .work .now)) (a .place) (c .run .result) (l .1 .1 .1 .0) (l .1 .1 .1 .1 .0) (l .1 .1 .1 .1 .1 .0))
 told c =
     let start = c .before .before .before .before .before .before .before .before .before .before in
     let a = start .args in
-    one-step (moveOf (a .n) (a .m) (a .p) (a .s) (a .list .now) (a .sets .now)) (runningOf (a .store .now) (a .marks .now) (a .work .now)) (a .place) (start .pre .0) (start .pre .1 .0) _ _ _ _ (c .run .ensures)
+    one-step (moveOf (a .z) (a .list .now) (a .sets .now)) (runningOf (a .store .now) (a .marks .now) (a .work .now)) (a .place) (start .pre .0) (start .pre .1 .0) _ _ _ _ (c .run .ensures)
 
 run-requires : tie.Need-run-requires
 run-requires c κs = search needs
@@ -23,8 +24,8 @@ put-line-requires : tie.Need-put-line-requires
 put-line-requires c κs =
     let start = c .before .before .before .before .before .before .before .before .before .before .before .before .before .before .before .before .before .before in
     let a = start .args in
-    let given = run-taken (moveOf (a .n) (a .m) (a .p) (a .s) (a .list .now) (a .sets .now)) _ _ (a .place) (start .pre .0 .taken) .accepted .ranges in
-    (omega (arith, given), rw (same-operation (a .n) (a .m) (a .p) (a .s) (a .place)) (omega (arith, told (c .before .before .before .before .before .before .before .before) .short)))
+    let given = run-taken (moveOf (a .z) (a .list .now) (a .sets .now)) _ _ (a .place) (start .pre .0 .taken) .accepted .ranges in
+    (omega (arith, given), omega (arith, told (c .before .before .before .before .before .before .before .before) .short))
 
 word-requires : tie.Need-word-requires
 word-requires c κs = search needs
@@ -50,7 +51,7 @@ returns c =
     let one = told (c .before .before .before .before .before .before .before .before .before .before .before .before .before) in
     record {
       left = one .left;
-      printed = rw (same-operation (a .n) (a .m) (a .p) (a .s) (a .place)) at (c .before .before .before .before .put-line .ensures);
+      printed = c .before .before .before .before .put-line .ensures;
       short = one .short;
       writes-is = c .before .word .ensures ∙ one .writes-is;
       erases-is = c .word2 .ensures ∙ one .erases-is;

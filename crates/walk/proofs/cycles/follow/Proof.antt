@@ -3,8 +3,8 @@ use Prim.Native.Nat.{ℕ, _+_, _-_, _*_, _/_, _≤_, _<_}
 use native.Mathlib.Omega.{arith}
 use borrow.Author.Needs.{needs}
 use lib.ListN.{length, set, length-set}
+use Rattle.method.specs.Move.{moveOf}
 use Rattle.split.specs.Split.{setOf}
-use Rattle.walk.specs.Moving.{moveOf}
 use Rattle.walk.proofs.CycleLaws.{Followed, none-followed, Counts, counts-more, counts-turn, Fits, fits, follow-more, tables}
 use Rattle.walk.proofs.cycles.follow.Statement.{statement}
 use Rattle.walk.proofs.cycles.follow.Tie as tie

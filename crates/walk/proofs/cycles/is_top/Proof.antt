@@ -3,8 +3,9 @@ use Prim.Native.Nat.{ℕ, _+_, _-_, _*_, _≤_, _<_, max}
 use native.Mathlib.Omega.{arith}
 use borrow.Author.Needs.{needs}
 use borrow.Author.Tests.{eq-eqb, ne-eqb}
+use Rattle.method.specs.Move.{moveOf}
 use Rattle.method.specs.Cycle.{top, isTop}
-use Rattle.walk.specs.Moving.{moveOf, entryOf}
+use Rattle.walk.specs.inner.Moving.{entryOf}
 use Rattle.walk.proofs.CycleLaws.{table-fits}
 use Rattle.walk.proofs.TopLaws.{Met, none-met, met-more, top-closed, top-whole, none-higher}
 use Rattle.walk.proofs.cycles.is_top.Statement.{statement}

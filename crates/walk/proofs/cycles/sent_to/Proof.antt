@@ -4,11 +4,11 @@ use Prim.Native.Nat.{ℕ, _+_, _-_, _*_, _≤_, _<_}
 use native.Mathlib.Omega.{arith}
 use borrow.Author.Needs.{needs}
 use lib.ListN.{getD}
+use Rattle.method.specs.Move.{moveOf}
 use Rattle.flash.specs.Geometry.{numberAt}
 use Rattle.flash.proofs.Bounds.{product-le}
 use Rattle.flash.proofs.Comparisons.{lt-cases}
 use Rattle.method.specs.Cycle.{D, pred}
-use Rattle.walk.specs.Moving.{moveOf}
 use Rattle.walk.proofs.CycleLaws.{table-fits, page-lt, sent-found, sent-missed}
 use Rattle.walk.proofs.WalkLaws.{Next, back-next, page-in}
 use Rattle.walk.proofs.cycles.sent_to.Statement.{statement}

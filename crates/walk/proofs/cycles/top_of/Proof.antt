@@ -3,7 +3,8 @@ use mathlib.Core.Logic.{⊎-elim}
 use Prim.Native.Nat.{ℕ, _+_, _-_, _*_, _≤_, _<_, max}
 use native.Mathlib.Omega.{arith}
 use borrow.Author.Needs.{needs}
-use Rattle.walk.specs.Moving.{moveOf, entryOf}
+use Rattle.method.specs.Move.{moveOf}
+use Rattle.walk.specs.inner.Moving.{entryOf}
 use Rattle.walk.proofs.CycleLaws.{table-fits}
 use Rattle.walk.proofs.TopLaws.{Met, none-met, met-more, top-closed, top-whole}
 use Rattle.walk.proofs.cycles.top_of.Statement.{statement}

@@ -1,9 +1,9 @@
 use mathlib.Core.Path.{_∙_, sym, ap}
 use native.Mathlib.Omega.{arith}
 use borrow.Author.Needs.{needs}
+use Rattle.flash.specs.Geometry.{letter}
 use Rattle.flash.specs.Chip.{isFull}
 use Rattle.flash.proofs.Blocks.{first-mark, not-full}
-use Rattle.method.specs.Move.{letter}
 use Rattle.walk.proofs.walk.full_of.Statement.{statement}
 use Rattle.walk.proofs.walk.full_of.Tie as tie
 

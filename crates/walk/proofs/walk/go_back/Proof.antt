@@ -5,11 +5,11 @@ use Prim.Native.Nat.{ℕ, _+_, _-_, _*_, _≤_, _<_}
 use native.Mathlib.Omega.{arith}
 use borrow.Author.Needs.{needs}
 use lib.ListN.{length, take, drop, length-set}
+use Rattle.method.specs.Move.{moveOf}
 use Rattle.flash.proofs.Loops.{rest-more}
 use Rattle.flash.proofs.Bounds.{block-in-marks}
 use Rattle.method.specs.Cycle.{pred, top}
 use Rattle.method.specs.Read.{goBack}
-use Rattle.walk.specs.Moving.{sizesOf, moveOf}
 use Rattle.walk.proofs.CycleLaws.{table-fits, page-lt}
 use Rattle.walk.proofs.WalkLaws.{put-next, put-last, put-both, Next, back-next, page-in, list-short, same-top, back-top, back-plain, back-turn}
 use Rattle.walk.proofs.walk.go_back.Statement.{statement}
@@ -84,7 +84,7 @@ next c =
 full-of-requires : tie.Need-full-of-requires Inv-loop μ-loop
 full-of-requires c κs =
     let a = c .before .before .before .before .before .before .before .before .before .before .args in
-    omega (arith, block-in-marks (sizesOf (a .z)) (c .wide .result) (next c .high))
+    omega (arith, block-in-marks (a .z) (c .wide .result) (next c .high))
 
 page-of-requires : tie.Need-page-of-requires Inv-loop μ-loop
 page-of-requires c κs =

@@ -4,11 +4,11 @@ use Prim.Native.Nat.{ℕ, _+_, _-_, _*_, _≤_, _<_}
 use native.Mathlib.Omega.{arith}
 use borrow.Author.Needs.{needs}
 use lib.ListN.{length, take, drop, length-set}
+use Rattle.method.specs.Move.{moveOf}
 use Rattle.flash.proofs.Loops.{rest-more}
 use Rattle.flash.proofs.Bounds.{block-in-marks}
 use Rattle.method.specs.Cycle.{D, dest}
 use Rattle.method.specs.Read.{goOn}
-use Rattle.walk.specs.Moving.{sizesOf, moveOf}
 use Rattle.walk.proofs.CycleLaws.{table-fits, page-lt}
 use Rattle.walk.proofs.WalkLaws.{put-next, put-both, Next, on-next, page-in, list-short, on-final, on-turn}
 use Rattle.walk.proofs.walk.go_on.Statement.{statement}
@@ -109,7 +109,7 @@ after c =
     on-next (moveOf (a .z) (a .list .now) (a .sets .now)) (start .pre .0 .given) (a .set) (omega arith) (c .before .before .before .before .loop .next) (c .before .page-of2 .result) (c .goes-to2 .result) (N .low) (N .high) (original (c .before) .0) (c .goes-to2 .ensures)
 
 full-of-requires : tie.Need-full-of-requires Inv-loop μ-loop
-full-of-requires c κs = omega (arith, block-in-marks (sizesOf (c .before .before .before .before .before .before .before .before .before .before .before .args .z)) (c .goes-to2 .result) (after c .high))
+full-of-requires c κs = omega (arith, block-in-marks ((c .before .before .before .before .before .before .before .before .before .before .before .args .z)) (c .goes-to2 .result) (after c .high))
 
 home-requires : tie.Need-home-requires Inv-loop μ-loop
 home-requires c κs =

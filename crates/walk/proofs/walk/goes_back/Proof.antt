@@ -3,18 +3,17 @@ use mathlib.Core.Bool.{Bool, false, _||_, or-true}
 use Prim.Native.Nat.{ℕ, _+_, _-_, _≤_}
 use native.Mathlib.Omega.{arith}
 use borrow.Author.Needs.{needs}
+use Rattle.flash.specs.Geometry.{letter}
 use Rattle.flash.specs.Lists.{range, any}
 use Rattle.flash.specs.Chip.{isFull}
 use Rattle.flash.proofs.Bounds.{block-in-marks}
 use Rattle.flash.proofs.Ranges.{any-is}
-use Rattle.method.specs.Move.{letter}
-use Rattle.walk.specs.Moving.{sizesOf}
-use Rattle.walk.proofs.WalkLaws.{none-full}
+use Rattle.flash.proofs.Ranges.{none-full}
 use Rattle.walk.proofs.walk.goes_back.Statement.{statement}
 use Rattle.walk.proofs.walk.goes_back.Tie as tie
 
 abbrev Inv-loop : tie.InvT-loop
-Inv-loop z marks top block₀ block = (block ≤ z .n + 1) × (any (λ b. isFull (z .m) marks b (letter (sizesOf z) 0)) (range 0 block) ≡ false)
+Inv-loop z marks top block₀ block = (block ≤ z .n + 1) × (any (λ b. isFull (z .m) marks b (letter z 0)) (range 0 block) ≡ false)
 
 abbrev μ-loop : tie.MeasureT-loop
 μ-loop z marks top block₀ block = z .n + 1 - block
@@ -23,7 +22,7 @@ sub-full-of : tie.Need-sub-full-of Inv-loop μ-loop
 sub-full-of c = search needs
 
 full-of-requires : tie.Need-full-of-requires Inv-loop μ-loop
-full-of-requires c κs = let a = c .before .args in omega (arith, block-in-marks (sizesOf (a .z)) (a .top - 1) (omega arith))
+full-of-requires c κs = let a = c .before .args in omega (arith, block-in-marks (a .z) (a .top - 1) (omega arith))
 
 returns : tie.Need-returns Inv-loop μ-loop
 returns c = rw (← c .before .full-of .ensures, c .if1 .taken)
@@ -33,15 +32,15 @@ unfolding any range
 loop-holds c = search needs
 
 full-of-requires-2 : tie.Need-full-of-requires-2 Inv-loop μ-loop
-full-of-requires-2 c κs = let a = c .before .before .before .before .before .before .args in omega (arith, block-in-marks (sizesOf (a .z)) (c .before .before .loop .block) (omega arith))
+full-of-requires-2 c κs = let a = c .before .before .before .before .before .before .args in omega (arith, block-in-marks (a .z) (c .before .before .loop .block) (omega arith))
 
 returns-2 : tie.Need-returns-2 Inv-loop μ-loop
 returns-2 c =
     let a = c .before .before .before .before .before .before .before .before .args in
-    let test : ℕ → Bool = λ b. isFull (a .z .m) (a .marks .now) b (letter (sizesOf (a .z)) 0) in
+    let test : ℕ → Bool = λ b. isFull (a .z .m) (a .marks .now) b (letter (a .z) 0) in
     let this = sym (c .before .full-of2 .ensures) ∙ c .if3 .taken in
-    sym (ap (λ (t : Bool). isFull (a .z .m) (a .marks .now) (a .top - 1) (letter (sizesOf (a .z)) 1) || t)
-    (any-is test 0 (a .z .n + 1) (c .before .before .before .before .loop .block) (omega arith) (omega arith) this) ∙ or-true (isFull (a .z .m) (a .marks .now) (a .top - 1) (letter (sizesOf (a .z)) 1)))
+    sym (ap (λ (t : Bool). isFull (a .z .m) (a .marks .now) (a .top - 1) (letter (a .z) 1) || t)
+    (any-is test 0 (a .z .n + 1) (c .before .before .before .before .loop .block) (omega arith) (omega arith) this) ∙ or-true (isFull (a .z .m) (a .marks .now) (a .top - 1) (letter (a .z) 1)))
 
 add-block : tie.Need-add-block Inv-loop μ-loop
 add-block c = search needs
@@ -53,7 +52,7 @@ loop-again : tie.Need-loop-again Inv-loop μ-loop
 loop-again c =
     let a = c .before .before .before .before .before .before .before .before .args in
     let l = c .before .before .before .before .loop in
-    (omega arith, none-full (λ b. isFull (a .z .m) (a .marks .now) b (letter (sizesOf (a .z)) 0)) (l .block) (l .inv .1) (sym (c .before .full-of2 .ensures) ∙ c .if3 .left))
+    (omega arith, none-full (λ b. isFull (a .z .m) (a .marks .now) b (letter (a .z) 0)) (l .block) (l .inv .1) (sym (c .before .full-of2 .ensures) ∙ c .if3 .left))
 
 returns-3 : tie.Need-returns-3 Inv-loop μ-loop
 returns-3 c =

@@ -3,10 +3,10 @@ use Prim.Native.Nat.{_+_, _/_, _<_}
 use native.Mathlib.Omega.{arith}
 use borrow.Author.Needs.{needs}
 use lib.ListN.{length}
+use Rattle.method.specs.Move.{moveOf}
 use Rattle.flash.proofs.Loops.{rest-more}
 use Rattle.flash.proofs.Bounds.{block-in-marks}
 use Rattle.method.specs.Cycle.{dest}
-use Rattle.walk.specs.Moving.{sizesOf, moveOf}
 use Rattle.walk.proofs.CycleLaws.{source-in, leads}
 use Rattle.walk.proofs.WalkLaws.{put-last, Next, on-next, list-short, Starts, starts, TopIs, top-is, read-plain, read-final, read-back, read-on}
 use Rattle.walk.proofs.walk.read_slots.Statement.{statement}
@@ -43,7 +43,7 @@ begins c =
 full-of-requires : tie.Need-full-of-requires
 full-of-requires c κs =
     let a = c .before .before .before .before .before .before .args in
-    omega (arith, block-in-marks (sizesOf (a .z)) (a .k / a .z .m + 1) (begins c .block .high))
+    omega (arith, block-in-marks (a .z) (a .k / a .z .m + 1) (begins c .block .high))
 
 home-requires : tie.Need-home-requires
 home-requires c κs = omega (arith, listed (c .before .before .before .before .before .before .before .before))
@@ -86,7 +86,7 @@ next c =
     on-next (moveOf (a .z) (a .list .now) (a .sets .now)) (start .pre .0 .given) (c .before .before .before .wide .result) (S .set-ok) (a .k / a .z .m + 1) (a .k) (c .goes-to .result) (S .block .low) (S .block .high) (S .page-is) (c .goes-to .ensures)
 
 full-of-requires-2 : tie.Need-full-of-requires-2
-full-of-requires-2 c κs = omega (arith, block-in-marks (sizesOf (c .before .before .before .before .before .before .before .before .before .args .z)) (c .goes-to .result) (next c .high))
+full-of-requires-2 c κs = omega (arith, block-in-marks ((c .before .before .before .before .before .before .before .before .before .args .z)) (c .goes-to .result) (next c .high))
 
 home-requires-2 : tie.Need-home-requires-2
 home-requires-2 c κs = omega (arith, listed (c .before .before .before .before .before .before .before .before .before .before .before))

@@ -1,0 +1,44 @@
+-- `mover_read` meets its contract: it hands on what the call returned for the entries decoded.
+use mathlib.Core.Path.{sym}
+use native.Mathlib.Omega.{arith}
+use borrow.Author.Needs.{needs}
+use lib.Seq.{length-take-le}
+use Rattle.c_api.proofs.BytesLaws.{count-fits, front-is}
+use Rattle.c_api.proofs.ReadLaws.{exported}
+use Rattle.c_api.proofs.read.mover_read.Statement.{statement}
+use Rattle.c_api.proofs.read.mover_read.Tie as tie
+
+slice-aggregate-decode : tie.Need-slice-aggregate-decode
+slice-aggregate-decode c = search needs
+
+decode-requires : tie.Need-decode-requires
+decode-requires c κs = search needs
+
+array-share-prefix-entries : tie.Need-array-share-prefix-entries
+array-share-prefix-entries c = omega (arith, count-fits _ _ _ (c .before .decode .ensures .0))
+
+slice-aggregate-read : tie.Need-slice-aggregate-read
+slice-aggregate-read c = let d = c .before .before .decode in sym (length-take-le _ (d .last .1 .0) (omega (arith, count-fits _ _ _ (d .ensures .0), d .kept .1 .0)))
+
+read-requires : tie.Need-read-requires
+read-requires c κs = search needs
+
+same-length : tie.Need-same-length
+same-length c = search needs
+
+returns : tie.Need-returns
+returns c =
+    let d = c .before .before .before .before .before .before .decode .ensures in
+    exported _ _ _ _ _ _ _ _ (front-is _ _ _ _ (d .0) (d .1)) (c .before .before .read .ensures)
+
+pub mover-read-spec : {M : Type 1} → statement M
+mover-read-spec =
+    tie.close
+    (tie.spec
+    slice-aggregate-decode
+    decode-requires
+    array-share-prefix-entries
+    slice-aggregate-read
+    read-requires
+    same-length
+    returns)

@@ -1,0 +1,46 @@
+// The read call for C.
+
+ghost use mathlib.Core.Path.{_≡_};
+ghost use Rattle.c_api.specs.ReadExport.{readOfBytes};
+use crate::list::decode;
+use flash::sizes::Sizes;
+use mover::read::read;
+
+#[no_mangle]
+pub extern "C" fn mover_read(
+    n: u32,
+    m: u32,
+    p: u32,
+    s: u32,
+    list: &[u8],
+    sets: &[u8],
+    store: &[u8],
+    marks: &[u8],
+    work: &mut [u8],
+    original: u32,
+    count: &mut u32,
+) -> u32
+    ensures { λ r. ⌜ record { number = r; count = now (count .exit); work = now (work .exit) }
+        ≡ readOfBytes (record { n = n; m = m; p = p; s = s }) (now (list .entry)) (now (sets .entry))
+        (record { store = now (store .entry); marks = now (marks .entry) }) (now (work .entry)) original ⌝ }
+{
+    // room for the list of any sizes
+    let mut entries = [0u16; 4096];
+    let length = decode(list, &mut entries);
+    let rebuilt = read(
+        Sizes {
+            n: n as usize,
+            m: m as usize,
+            p: p as usize,
+            s: s as usize,
+        },
+        &entries[..length],
+        sets,
+        store,
+        marks,
+        work,
+        original as usize,
+    );
+    *count = rebuilt.count;
+    rebuilt.number
+}

@@ -1,0 +1,64 @@
+// The run call for C.
+
+ghost use mathlib.Core.Path.{_≡_};
+ghost use Rattle.c_api.specs.RunExport.{runOfBytes};
+use crate::list::decode;
+use flash::sizes::Sizes;
+use mover::run::run;
+
+#[no_mangle]
+pub extern "C" fn mover_run(
+    n: u32,
+    m: u32,
+    p: u32,
+    s: u32,
+    list: &[u8],
+    sets: &[u8],
+    store: &mut [u8],
+    marks: &mut [u8],
+    work: &mut [u8],
+    place: u32,
+    budget: u32,
+    reached: &mut u32,
+    steps: &mut u32,
+    writes: &mut u32,
+    erases: &mut u32,
+    finished: &mut u32,
+) -> u32
+    ensures { λ r. ⌜ record {
+      number = r;
+      place = now (reached .exit);
+      steps = now (steps .exit);
+      writes = now (writes .exit);
+      erases = now (erases .exit);
+      finished = now (finished .exit);
+      chip = record { store = now (store .exit); marks = now (marks .exit) };
+      work = now (work .exit);
+    } ≡ runOfBytes (record { n = n; m = m; p = p; s = s }) (now (list .entry)) (now (sets .entry))
+        (record { store = now (store .entry); marks = now (marks .entry) }) (now (work .entry)) place budget ⌝ }
+{
+    // room for the list of any sizes
+    let mut entries = [0u16; 4096];
+    let count = decode(list, &mut entries);
+    let ran = run(
+        Sizes {
+            n: n as usize,
+            m: m as usize,
+            p: p as usize,
+            s: s as usize,
+        },
+        &entries[..count],
+        sets,
+        store,
+        marks,
+        work,
+        place as usize,
+        budget,
+    );
+    *reached = ran.place;
+    *steps = ran.steps;
+    *writes = ran.writes;
+    *erases = ran.erases;
+    *finished = ran.finished;
+    ran.number
+}

@@ -1,0 +1,27 @@
+// The split call for C.
+
+ghost use mathlib.Core.Path.{_≡_};
+ghost use Rattle.c_api.specs.SplitExport.{splitOfBytes};
+use crate::list::decode;
+use flash::sizes::Sizes;
+use split::call::split;
+
+#[no_mangle]
+pub extern "C" fn mover_split(n: u32, m: u32, p: u32, s: u32, list: &[u8], sets: &mut [u8]) -> u32
+    ensures { λ r. ⌜ record { number = r; sets = now (sets .exit) }
+        ≡ splitOfBytes (record { n = n; m = m; p = p; s = s }) (now (list .entry)) (now (sets .entry)) ⌝ }
+{
+    // room for the list of any sizes
+    let mut entries = [0u16; 4096];
+    let count = decode(list, &mut entries);
+    split(
+        Sizes {
+            n: n as usize,
+            m: m as usize,
+            p: p as usize,
+            s: s as usize,
+        },
+        &entries[..count],
+        sets,
+    )
+}

@@ -1,0 +1,153 @@
+-- What a call that is not refused was given; and what is enough for a call not to be refused.
+use mathlib.Core.Path.{_≡_, ap}
+use mathlib.Core.Logic.{_⊎_, inl, inr}
+use mathlib.Core.Bool.{Bool, true, false, _&&_, _||_, not}
+use mathlib.Core.List.{List, []}
+use Prim.Native.Nat.{ℕ, _≤_, _<_}
+use native.Mathlib.Omega.{arith}
+use lib.Dec.{eqb, ltb}
+use lib.ListN.{length}
+use borrow.Author.Tests.{eqb-true, eq-eqb, ltb-false, le-ltb, not-true, not-false}
+use Rattle.flash.specs.Lists.{range, any, isSame}
+use Rattle.flash.specs.Tables.{Row, refusal}
+use Rattle.flash.specs.declared.sizes.Sizes.{Sizes}
+use Rattle.flash.specs.Geometry.{inRange, slotCount, storeLength, marksLength, listLength, setsLength, workLength}
+use Rattle.flash.specs.Chip.{Chip, erased, markAt, isBlank}
+use Rattle.flash.proofs.Bools.{bool-cases, or-false-left, or-false-right}
+use Rattle.flash.proofs.Tables.{refusal-zero, refusal-skip, refusal-nil}
+use Rattle.flash.proofs.Bounds.{in-range, range-in}
+use Rattle.flash.proofs.Ranges.{none-in, none-is}
+use Rattle.flash.proofs.Same.{same-eq, eq-same}
+use Rattle.split.specs.OneToOne.{isOneToOne}
+use Rattle.method.specs.Move.{Move}
+use Rattle.method.specs.Place.{lastPlace, marksOf}
+use Rattle.method.specs.Answers.{badChip, badParts, isElsewhere, moveRows, runRows}
+use Rattle.method.proofs.basics.MoveShape.{Accepted}
+
+-- lent parts of their exact lengths
+pub record Lent (M : Move) (chip : Chip) (work : List ℕ) : Type 0 where
+  pub store-length : length (chip .store) ≡ storeLength (M .sizes)
+  pub marks-length : length (chip .marks) ≡ marksLength (M .sizes)
+  pub work-length : length work ≡ workLength (M .sizes)
+
+-- store and marks as a place has them: its marks, and every page marked 255 is blank
+pub record StandsAt (M : Move) (chip : Chip) (place : ℕ) : Type 0 where
+  pub inside : place ≤ lastPlace (M .sizes)
+  pub marks : chip .marks ≡ marksOf (M .sizes) place
+  pub blank : (t : ℕ) → t < slotCount (M .sizes) → markAt (chip .marks) t ≡ erased → isBlank (M .sizes .p) chip t ≡ true
+
+same-length : (x y : ℕ) → not (eqb x y) ≡ false → x ≡ y
+same-length x y e = eqb-true x y (not-false (eqb x y) e)
+
+length-same : (x y : ℕ) → x ≡ y → not (eqb x y) ≡ false
+length-same x y e = rw (eq-eqb x y e)
+
+-- rows 1 to 4
+module _ (M : Move) (chip : Chip) (work : List ℕ) where
+  abbrev Z : Sizes
+  Z = M .sizes
+
+  pub parts-ok : badParts M chip work ≡ false → (length (M .list) ≡ listLength Z) × (length (M .sets) ≡ setsLength Z) × Lent M chip work
+  unfolding badParts badChip
+  parts-ok e =
+      let a = not (eqb (length (M .list)) (listLength Z)) in
+      let b = not (eqb (length (M .sets)) (setsLength Z)) in
+      let c = not (eqb (length (chip .store)) (storeLength Z)) in
+      let d = not (eqb (length (chip .marks)) (marksLength Z)) in
+      let f = not (eqb (length work) (workLength Z)) in
+      let abc = or-false-left (a || b || (c || d)) f e in
+      let ab = or-false-left (a || b) (c || d) abc in
+      let cd = or-false-right (a || b) (c || d) abc in (
+        same-length (length (M .list)) (listLength Z) (or-false-left a b ab),
+        same-length (length (M .sets)) (setsLength Z) (or-false-right a b ab),
+        record {
+          store-length = same-length (length (chip .store)) (storeLength Z) (or-false-left c d cd);
+          marks-length = same-length (length (chip .marks)) (marksLength Z) (or-false-right c d cd);
+          work-length = same-length (length work) (workLength Z) (or-false-right (a || b || (c || d)) f e);
+        },
+      )
+
+  ok-parts : length (M .list) ≡ listLength Z → length (M .sets) ≡ setsLength Z → Lent M chip work → badParts M chip work ≡ false
+  unfolding badParts badChip
+  ok-parts a b L = rw (
+    length-same (length (M .list)) (listLength Z) a,
+    length-same (length (M .sets)) (setsLength Z) b,
+    length-same (length (chip .store)) (storeLength Z) (L .store-length),
+    length-same (length (chip .marks)) (marksLength Z) (L .marks-length),
+    length-same (length work) (workLength Z) (L .work-length),
+  )
+
+  pub move-accepted : (rest : List (Row ℕ)) → refusal (moveRows M chip work rest) ≡ 0 → Accepted M × Lent M chip work × (refusal rest ≡ 0)
+  unfolding moveRows isOneToOne
+  move-accepted rest e =
+      let one = refusal-zero _ _ (omega arith) e in
+      let two = refusal-zero _ _ (omega arith) (one .1) in
+      let three = refusal-zero _ _ (omega arith) (two .1) in
+      let four = refusal-zero _ _ (omega arith) (three .1) in
+      let parts = parts-ok (two .0) in (
+        record {
+          ranges = in-range Z (not-false (inRange Z) (one .0));
+          list-length = parts .0;
+          sets-length = parts .1;
+          one-to-one = ap not (three .0);
+          split = not-false _ (four .0);
+        },
+        parts .2,
+        four .1,
+      )
+
+  pub accepted-move : (rest : List (Row ℕ)) → Accepted M → Lent M chip work → refusal rest ≡ 0 → refusal (moveRows M chip work rest) ≡ 0
+  unfolding moveRows isOneToOne
+  accepted-move rest A L e =
+      refusal-skip _ _ (ap not (range-in Z (A .ranges))) (refusal-skip _ _ (ok-parts (A .list-length) (A .sets-length) L)
+      (refusal-skip _ _ (not-true _ (A .one-to-one)) (refusal-skip _ _ (ap not (A .split)) e)))
+
+-- row 5
+module _ (M : Move) (chip : Chip) (place : ℕ) where
+  abbrev W : Sizes
+  W = M .sizes
+
+  abbrev torn : ℕ → Bool
+  torn t = eqb (markAt (chip .marks) t) erased && not (isBlank (W .p) chip t)
+
+  stands-at : isElsewhere M chip place ≡ false → StandsAt M chip place
+  unfolding isElsewhere
+  stands-at e =
+      let far = ltb (lastPlace W) place in
+      let other = not (isSame (chip .marks) (marksOf W place)) in
+      let ab = or-false-left (far || other) (any torn (range 0 (slotCount W))) e in
+      let c = or-false-right (far || other) (any torn (range 0 (slotCount W))) e in
+      record {
+        inside = ltb-false (lastPlace W) place (or-false-left far other ab);
+        marks = same-eq _ _ (not-false _ (or-false-right far other ab));
+        blank = λ t h q.
+            let r : torn t ≡ false = none-in torn 0 (slotCount W) c t (omega arith) (omega arith) in
+            not-false _ (rw (eq-eqb (markAt (chip .marks) t) erased q) at r);
+      }
+
+  at-stands : StandsAt M chip place → isElsewhere M chip place ≡ false
+  unfolding isElsewhere
+  at-stands S =
+      let c : any torn (range 0 (slotCount W)) ≡ false = none-is torn 0 (slotCount W) (λ t a h. whole t (omega arith) (bool-cases (eqb (markAt (chip .marks) t) erased))) in
+      rw (le-ltb (lastPlace W) place (S .inside), eq-same _ _ (S .marks), c)
+    where
+      whole : (t : ℕ) → t < slotCount W → (eqb (markAt (chip .marks) t) erased ≡ true) ⊎ (eqb (markAt (chip .marks) t) erased ≡ false) → torn t ≡ false
+      whole t h (inl q) = rw (q, S .blank t h (eqb-true _ _ q))
+      whole t h (inr q) = rw q
+
+-- what a run that is not refused was given
+pub record RunTaken (M : Move) (chip : Chip) (work : List ℕ) (place : ℕ) : Type 0 where
+  pub accepted : Accepted M
+  pub lent : Lent M chip work
+  pub stands : StandsAt M chip place
+
+pub run-taken : (M : Move) (chip : Chip) (work : List ℕ) (place : ℕ) → refusal (runRows M chip work place) ≡ 0 → RunTaken M chip work place
+unfolding runRows
+run-taken M chip work place e =
+    let a = move-accepted M chip work _ e in
+    record { accepted = a .0; lent = a .1; stands = stands-at M chip place (refusal-zero _ _ (omega arith) (a .2) .0) }
+
+pub taken-run : (M : Move) (chip : Chip) (work : List ℕ) (place : ℕ) → RunTaken M chip work place → refusal (runRows M chip work place) ≡ 0
+unfolding runRows
+taken-run M chip work place T =
+    accepted-move M chip work _ (T .accepted) (T .lent) (refusal-skip _ [] (at-stands M chip place (T .stands)) refusal-nil)

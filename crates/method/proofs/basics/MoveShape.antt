@@ -1,0 +1,52 @@
+-- What the proofs about a move start from: an accepted move, the shape of marks that fit, and what whole pages hold.
+use mathlib.Core.Path.{_≡_}
+use mathlib.Core.Logic.{_⊎_}
+use mathlib.Core.Bool.{true, false}
+use mathlib.Core.List.{List}
+use Prim.Native.Nat.{ℕ, suc, _-_, _≤_, _<_}
+use lib.ListN.{length, getD}
+use Rattle.flash.specs.Lists.{part}
+use Rattle.flash.specs.declared.sizes.Sizes.{Sizes}
+use Rattle.flash.specs.Geometry.{slot, slotOf, originalCount, listLength, setsLength, letter}
+use Rattle.flash.specs.PageSum.{sum}
+use Rattle.flash.specs.Chip.{Chip, pageAt, markAt, isFull}
+use Rattle.flash.proofs.Bounds.{Bounds}
+use Rattle.split.specs.OneToOne.{isOneToOne}
+use Rattle.split.specs.Split.{isSplit}
+use Rattle.method.specs.Move.{Move}
+use Rattle.method.specs.Cycle.{coded}
+
+-- what is known of a move that rows 1 to 4 of the table do not refuse
+pub record Accepted (M : Move) : Type 0 where
+  pub ranges : Bounds (M .sizes)
+  pub list-length : length (M .list) ≡ listLength (M .sizes)
+  pub sets-length : length (M .sets) ≡ setsLength (M .sizes)
+  pub one-to-one : isOneToOne (originalCount (M .sizes)) (M .list) ≡ true
+  pub split : isSplit (M .sizes .n) (M .sizes .m) (M .list) (M .sets) ≡ true
+
+-- Marks that fit the move: blocks below `low` are full of s + 1, blocks from `high` on full of s + i, and the one between, if
+-- there is one, is full of nothing.
+pub record Shape (Z : Sizes) (marks : List ℕ) (low high i : ℕ) : Type 0 where
+  pub below : (b : ℕ) → b < low → isFull (Z .m) marks b (letter Z 1) ≡ true
+  pub above : (b : ℕ) → high ≤ b → b ≤ Z .n → isFull (Z .m) marks b (letter Z i) ≡ true
+  pub between : (b : ℕ) → low ≤ b → b < high → (j : ℕ) → isFull (Z .m) marks b (letter Z j) ≡ false
+  pub order : low ≤ high
+  pub near : high ≤ suc low
+  pub inside : low ≤ Z .n
+
+-- all that read needs of marks: their shape in one of the passes
+pub record Shaped (Z : Sizes) (marks : List ℕ) : Type 0 where
+  pub low : ℕ
+  pub high : ℕ
+  pub i : ℕ
+  pub shape : Shape Z marks low high i
+  pub pass : (i ≡ 0) ⊎ (i ≡ 2)
+
+-- What a page holds goes by its slot and its letter.
+pub record Holding (M : Move) (originals : List ℕ) (chip : Chip) : Type 0 where
+  pub plain : (k : ℕ) → k < originalCount (M .sizes) → markAt (chip .marks) (slotOf (M .sizes .m) k) ≡ letter (M .sizes) 0
+      → pageAt (M .sizes .p) chip (slotOf (M .sizes .m) k) ≡ part (M .sizes .p) k originals
+  pub code : (set v : ℕ) → set < M .sizes .m → 1 ≤ v → v ≤ M .sizes .n → markAt (chip .marks) (slot (M .sizes .m) (v - 1) set) ≡ letter (M .sizes) 1
+      → pageAt (M .sizes .p) chip (slot (M .sizes .m) (v - 1) set) ≡ sum (λ k. part (M .sizes .p) k originals) (coded M set v)
+  pub final : (k : ℕ) → k < originalCount (M .sizes) → markAt (chip .marks) (slotOf (M .sizes .m) (getD (M .list) k 0)) ≡ letter (M .sizes) 2
+      → pageAt (M .sizes .p) chip (slotOf (M .sizes .m) (getD (M .list) k 0)) ≡ part (M .sizes .p) k originals

@@ -1,0 +1,126 @@
+-- Calls that take no step, refused ones and reads among them, keep what is kept; cut or not.
+use mathlib.Core.Path.{_≡_, refl, sym, ap, _∙_, subst}
+use mathlib.Core.Logic.{_⊎_, inl, inr, ⊎-elim}
+use mathlib.Core.Bool.{Bool, true, false, cond, _||_}
+use mathlib.Core.List.{List, [], _++_, append-nil}
+use Prim.Native.Nat.{ℕ, zero, suc, _≤_}
+use native.Mathlib.Omega.{arith}
+use lib.ListN.{length, take}
+use Rattle.flash.specs.Lists.{count}
+use Rattle.flash.specs.Chip.{Chip}
+use Rattle.flash.proofs.Bools.{bool-cases}
+use Rattle.method.specs.Move.{Move}
+use Rattle.method.specs.Place.{Operation}
+use Rattle.method.specs.Step.{isErase}
+use Rattle.method.specs.Events.{Call, CutPoint, uncut, between, inside, History, stepsOf, chipAfter, chipReturned, returnsFinished, isMend, during, returned, cutShort, afterCall, stepsFinished}
+use Rattle.method.specs.Demand3.{CutObeys}
+use Rattle.method.proofs.basics.AcceptedCalls.{StandsAt}
+use Rattle.method.proofs.recovery.Moments.{Moment}
+use Rattle.method.proofs.basics.MoveShape.{Holding}
+use Rattle.method.proofs.demand.KeptByHistories.{Bounded, within, once-more, Fresh, Kept}
+
+-- what is kept by an event: inside its call, and after it
+pub record EventKept (M : Move) (originals : List ℕ) (h : History) (call : Call) (cut : CutPoint) : Type 0 where
+  pub inside : (i : ℕ) → i ≤ stepsFinished h call cut → Kept M originals (during h call i)
+  pub after : Kept M originals (afterCall h call cut)
+
+-- a history that differs in nothing that matters: the same chip, and no operation begun
+pub record Later (h g : History) : Type 0 where
+  pub chip : g .chip ≡ h .chip
+  pub begun : g .begun ≡ h .begun
+  pub mends : h .mends ≤ g .mends
+  pub unmended : (suc (h .mends) ≤ g .mends) ⊎ (h .unmended ≡ true → g .unmended ≡ true)
+  pub finished : g .finished ≡ true → h .finished ≡ true
+  pub cuts : g .cuts ≡ 0 → h .cuts ≡ 0
+
+module _ (M : Move) (originals : List ℕ) where
+  pub kept-later : (h g : History) → Later h g → Kept M originals h → Kept M originals g
+  kept-later h g L K = record {
+    place = K .place;
+    moment = subst (λ (c : Chip). Moment (M .sizes) (c .marks) (K .place)) (sym (L .chip)) (K .moment);
+    store-length = ap (λ (c : Chip). length (c .store)) (L .chip) ∙ K .store-length;
+    holds = subst (Holding M originals) (sym (L .chip)) (K .holds);
+    bounded = bounds (K .bounded) (L .unmended);
+    ended = λ e. K .ended (L .finished e);
+    fresh = λ c m. fresh (K .fresh (L .cuts c) (omega (arith, L .mends)));
+  }
+    where
+      same : count isErase (g .begun) ≡ count isErase (h .begun)
+      same = ap (count isErase) (L .begun)
+
+      bounds : Bounded M h (K .place) → (suc (h .mends) ≤ g .mends) ⊎ (h .unmended ≡ true → g .unmended ≡ true) → Bounded M g (K .place)
+      bounds (within b) _ = within (omega (arith, same, L .mends))
+      bounds (once-more u k b) (inl more) = within (omega (arith, same))
+      bounds (once-more u k b) (inr still) = once-more (still u) k (omega (arith, same, L .mends))
+
+      fresh : Fresh M h → Fresh M g
+      fresh F = record {
+        taken = F .taken;
+        stands = subst (λ (c : Chip). StandsAt M c (F .taken)) (sym (L .chip)) (F .stands);
+        done = L .begun ∙ F .done;
+      }
+
+  module _ (h : History) (K : Kept M originals h) (call : Call) (none : stepsOf call (h .chip) ≡ []) (same : chipAfter call (h .chip) 0 ≡ h .chip) where
+    -- what is added to the operations begun
+    nothing : (i : ℕ) → h .begun ++ take i (stepsOf call (h .chip)) ≡ h .begun
+    nothing zero = append-nil (h .begun)
+    nothing (suc i) = ap (λ (l : List Operation). h .begun ++ take (suc i) l) none ∙ append-nil (h .begun)
+
+    more-mends : h .mends ≤ cond (isMend call) (suc (h .mends)) (h .mends)
+    more-mends = ⊎-elim
+        (λ (e : isMend call ≡ true). rw e (omega arith))
+        (λ (e : isMend call ≡ false). rw e (omega arith))
+        (bool-cases (isMend call))
+
+    idle-during : Kept M originals (during h call 0)
+    unfolding during
+    idle-during =
+        kept-later h (during h call 0)
+        (record { chip = same; begun = nothing 0; mends = more-mends; unmended = inr (λ e. e); finished = λ e. e; cuts = λ e. e })
+        K
+
+    idle-cut : Kept M originals (cutShort h call 0 (chipAfter call (h .chip) 0))
+    unfolding cutShort
+    idle-cut =
+        kept-later h (cutShort h call 0 (chipAfter call (h .chip) 0))
+        (record { chip = same; begun = nothing 0; mends = more-mends; unmended = inr (λ e. refl); finished = λ e. e; cuts = λ e. absurd (omega arith) })
+        K
+
+    module _ (same′ : chipReturned call (h .chip) ≡ h .chip) (unfinished : returnsFinished call (h .chip) ≡ false) where
+      idle-returned : Kept M originals (returned h call)
+      unfolding returned
+      idle-returned =
+          kept-later h (returned h call)
+          (record {
+            chip = same′;
+            begun = ap (λ (l : List Operation). h .begun ++ l) none ∙ append-nil (h .begun);
+            mends = more-mends;
+            unmended = ⊎-elim
+                (λ (e : isMend call ≡ true). inl (rw e (omega arith)))
+                (λ (e : isMend call ≡ false). inr (λ u. rw e u))
+                (bool-cases (isMend call));
+            finished = λ e. still (h .finished) (rw unfinished at e);
+            cuts = λ e. e;
+          })
+          K
+        where
+          still : (b : Bool) → (b || false) ≡ true → b ≡ true
+          still true e = refl
+          still false e = e
+
+      no-steps : length (stepsOf call (h .chip)) ≡ 0
+      no-steps = ap length none
+
+      pub idle : (cut : CutPoint) → CutObeys call cut (h .chip) → EventKept M originals h call cut
+      unfolding stepsFinished afterCall
+      idle uncut o = record {
+        inside = λ i l. subst (λ (x : ℕ). Kept M originals (during h call x)) (omega (arith, no-steps)) idle-during;
+        after = idle-returned;
+      }
+      idle (between f) o =
+          let z : 0 ≡ f = omega (arith, no-steps) in
+          record {
+            inside = λ i l. subst (λ (x : ℕ). Kept M originals (during h call x)) (omega arith) idle-during;
+            after = subst (λ (x : ℕ). Kept M originals (cutShort h call x (chipAfter call (h .chip) x))) z idle-cut;
+          }
+      idle (inside f left) o = absurd (omega (arith, no-steps, o .0))

@@ -1,0 +1,184 @@
+-- Demand 3: every list of events keeps what is kept, so the claim holds at each of its moments.
+use mathlib.Core.Path.{_≡_, refl, sym, ap, subst}
+use mathlib.Core.Logic.{⊎-elim, _≢_}
+use mathlib.Core.Bool.{Bool, true, false, cond, true≢false}
+use mathlib.Core.List.{List, [], _∷_, _++_, map}
+use mathlib.Core.Option.{Option, none as nothing, some}
+use Prim.Native.Nat.{ℕ, zero, suc, _+_, _*_, _≤_, _<_}
+use native.Mathlib.Nat.{zero-mod}
+use native.Mathlib.Omega.{arith}
+use lib.Dec.{eqb}
+use lib.ListN.{length}
+use borrow.Author.Tests.{eqb-true, eqb-false, ne-eqb}
+use Rattle.flash.specs.Lists.{range, count}
+use Rattle.flash.specs.Tables.{refusal}
+use Rattle.flash.specs.declared.sizes.Sizes.{Sizes}
+use Rattle.flash.specs.Geometry.{originalCount}
+use Rattle.flash.specs.PageSum.{sum}
+use Rattle.flash.specs.Chip.{Chip, pageAt}
+use Rattle.flash.proofs.Bools.{bool-cases}
+use Rattle.method.specs.Move.{Move}
+use Rattle.method.specs.Place.{Operation, filled}
+use Rattle.method.specs.Step.{operationsFrom}
+use Rattle.method.specs.State.{originalsIn}
+use Rattle.method.specs.Mend.{Reading, reading}
+use Rattle.method.specs.Read.{readSlots, readPage}
+use Rattle.method.specs.Answers.{RunAnswer, runRows, stepsTaken, runRefused, runAnswer, mendRows, mended, mendAnswer, readRows, readAnswer}
+use Rattle.method.specs.Runs.{Start}
+use Rattle.method.specs.Events.{Call, run, mend, read, CutPoint, Event, History, numberOf, mendSteps, stepsOf, chipAfter, chipReturned, returnsFinished, starting, during, after, stepsFinished, moments}
+use Rattle.method.specs.Demand3.{CutObeys, Allowed, AllAllowed, goes, Keeps, AtEach, none, more, Demand3}
+use Rattle.method.proofs.basics.MoveShape.{Accepted}
+use Rattle.method.proofs.basics.AcceptedCalls.{StandsAt}
+use Rattle.method.proofs.states.AtRest.{rest-stands, rest-holds, rest-length}
+use Rattle.method.proofs.states.RunsAddUp.{answerOf, run-answer, start-accepted}
+use Rattle.method.proofs.places.Turns.{resumes-begun}
+use Rattle.method.proofs.recovery.Moments.{Moment, stands-moment}
+use Rattle.method.proofs.demand.KeptByHistories.{within, Kept, keeps}
+use Rattle.method.proofs.demand.CallsWithoutSteps.{EventKept, idle}
+use Rattle.method.proofs.demand.RunEvents.{run-number, run-kept}
+use Rattle.method.proofs.demand.MendEvents.{mend-kept}
+
+-- ---- refused calls leave all as it was
+run-refused : (M : Move) (chip : Chip) (work : List ℕ) (place budget : ℕ) → refusal (runRows M chip work place) ≢ 0
+    → runAnswer M chip work place budget ≡ runRefused (refusal (runRows M chip work place)) chip work
+unfolding runAnswer
+run-refused M chip work place budget ne = rw (ne-eqb (refusal (runRows M chip work place)) 0 ne)
+
+mended-number : (Z : Sizes) (chip : Chip) (found : Reading) → mended Z chip found .number ≡ 0
+unfolding mended
+mended-number Z chip found = go (found .toErase)
+  where
+    go : (toErase : Option ℕ) → mended Z chip (record { place = found .place; toErase = toErase }) .number ≡ 0
+    go nothing = refl
+    go (some b) = refl
+
+mend-refused : (Z : Sizes) (chip : Chip) → mendAnswer Z chip .number ≢ 0 → mendAnswer Z chip .chip ≡ chip
+unfolding mendAnswer
+mend-refused Z chip ne = ⊎-elim
+    (λ (q : eqb number 0 ≡ true). go q (reading Z (chip .marks)) refl)
+    (λ (q : eqb number 0 ≡ false). rw q)
+    (bool-cases (eqb number 0))
+  where
+    number : ℕ
+    number = refusal (mendRows Z chip)
+
+    go : eqb number 0 ≡ true → (found : Option Reading) → reading Z (chip .marks) ≡ found → mendAnswer Z chip .chip ≡ chip
+    go q nothing e = rw (q, e)
+    go q (some found) e = absurd (ne (rw (q, e) (mended-number Z chip found)))
+
+-- ---- one event
+module _ (M : Move) (chip₀ : Chip) (S : Start M chip₀) where
+  A : Accepted M
+  A = start-accepted M chip₀ S
+
+  abbrev originals : List ℕ
+  originals = originalsIn (M .sizes) chip₀
+
+  full : length originals ≡ originalCount (M .sizes) * M .sizes .p
+  full = rest-length M A chip₀ (S .store-length) (S .marks-length) (S .at-rest)
+
+  module _ (h : History) (K : Kept M originals h) where
+    run-idle : (N : Move) (work : List ℕ) (place budget : ℕ) → numberOf (run N work place budget) (h .chip) ≢ 0
+        → (cut : CutPoint) → CutObeys (run N work place budget) cut (h .chip) → EventKept M originals h (run N work place budget) cut
+    unfolding numberOf stepsOf chipAfter chipReturned returnsFinished runRefused answerOf
+    run-idle N work place budget ne =
+        let refused : refusal (runRows N (h .chip) work place) ≢ 0 = λ e. ne (ap (λ (a : RunAnswer). a .number) (run-answer N (h .chip) work place budget e)) in
+        let no-steps : List Operation = operationsFrom N place (stepsTaken (N .sizes) place budget) in
+        idle M originals h K (run N work place budget)
+        (ap (λ (b : Bool). cond b no-steps []) (ne-eqb (runAnswer N (h .chip) work place budget .number) 0 ne))
+        (ap (λ (a : RunAnswer). a .chip) (run-refused N (h .chip) work place 0 refused))
+        (ap (λ (a : RunAnswer). a .chip) (run-refused N (h .chip) work place budget refused))
+        (ap (λ (a : RunAnswer). eqb (a .finished) 1) (run-refused N (h .chip) work place budget refused))
+
+    mend-idle : (Z : Sizes) → numberOf (mend Z) (h .chip) ≢ 0 → (cut : CutPoint) → CutObeys (mend Z) cut (h .chip) → EventKept M originals h (mend Z) cut
+    unfolding numberOf stepsOf chipAfter chipReturned returnsFinished
+    mend-idle Z ne =
+        idle M originals h K (mend Z) (ap (λ (b : Bool). cond b (mendSteps (reading Z (h .chip .marks))) []) (ne-eqb (mendAnswer Z (h .chip) .number) 0 ne)) refl (mend-refused Z (h .chip) ne) refl
+
+    read-idle : (N : Move) (work : List ℕ) (k : ℕ) → (cut : CutPoint) → CutObeys (read N work k) cut (h .chip) → EventKept M originals h (read N work k) cut
+    unfolding stepsOf chipAfter chipReturned returnsFinished
+    read-idle N work k = idle M originals h K (read N work k) refl refl refl refl
+
+    run-shared : (N : Move) → N ≡ M → (work : List ℕ) (place budget : ℕ) → numberOf (run N work place budget) (h .chip) ≡ 0 → h .unmended ≡ false
+        → (cut : CutPoint) → CutObeys (run N work place budget) cut (h .chip) → EventKept M originals h (run N work place budget) cut
+    unfolding numberOf
+    run-shared N e =
+        subst
+        (λ (N : Move). (work : List ℕ) (place budget : ℕ) → numberOf (run N work place budget) (h .chip) ≡ 0 → h .unmended ≡ false
+        → (cut : CutPoint) → CutObeys (run N work place budget) cut (h .chip) → EventKept M originals h (run N work place budget) cut)
+        (sym e)
+        (λ work place budget ok mended. run-kept M A originals full h K work place budget (run-number M (h .chip) work place budget ok) mended)
+
+    mend-shared : (Z : Sizes) → Z ≡ M .sizes → (cut : CutPoint) → CutObeys (mend Z) cut (h .chip) → EventKept M originals h (mend Z) cut
+    mend-shared Z e =
+        subst (λ (Z : Sizes). (cut : CutPoint) → CutObeys (mend Z) cut (h .chip) → EventKept M originals h (mend Z) cut) (sym e) (mend-kept M A originals h K)
+
+    pub event-kept : (call : Call) (cut : CutPoint) → Allowed M (record { call = call; cut = cut }) h → EventKept M originals h call cut
+    event-kept (run N work place budget) cut O = ⊎-elim
+        (λ (q : eqb (numberOf (run N work place budget) (h .chip)) 0 ≡ true).
+        let ok = eqb-true _ 0 q in run-shared N (O .shares ok) work place budget ok (O .mended ok) cut (O .cut-obeys))
+        (λ (q : eqb (numberOf (run N work place budget) (h .chip)) 0 ≡ false). run-idle N work place budget (eqb-false _ 0 q) cut (O .cut-obeys))
+        (bool-cases (eqb (numberOf (run N work place budget) (h .chip)) 0))
+    event-kept (mend Z) cut O = ⊎-elim
+        (λ (q : eqb (numberOf (mend Z) (h .chip)) 0 ≡ true). mend-shared Z (O .shares (eqb-true _ 0 q)) cut (O .cut-obeys))
+        (λ (q : eqb (numberOf (mend Z) (h .chip)) 0 ≡ false). mend-idle Z (eqb-false _ 0 q) cut (O .cut-obeys))
+        (bool-cases (eqb (numberOf (mend Z) (h .chip)) 0))
+    event-kept (read N work k) cut O = read-idle N work k cut (O .cut-obeys)
+
+  -- ---- lists of events
+  each-append : (P : History → Type 0) (xs ys : List History) → AtEach P xs → AtEach P ys → AtEach P (xs ++ ys)
+  each-append P [] ys a b = b
+  each-append P (x ∷ xs) ys (more p a) b = more p (each-append P xs ys a b)
+
+  each-map : (P : History → Type 0) (f : ℕ → History) (start count : ℕ) → ((i : ℕ) → start ≤ i → i < start + count → P (f i)) → AtEach P (map f (range start count))
+  unfolding range
+  each-map P f start zero p = none
+  each-map P f start (suc count) p = more (p start (omega arith) (omega arith)) (each-map P f (suc start) count (λ i a b. p i (omega arith) (omega arith)))
+
+  all-kept : (events : List Event) (h : History) → Kept M originals h → AllAllowed M events h → AtEach (Keeps M chip₀) (moments events h)
+  unfolding moments after
+  all-kept [] h K O = more (keeps M chip₀ S h K) none
+  all-kept (event ∷ events) h K (goes o O) =
+      let E = event-kept h K (event .call) (event .cut) o in
+      each-append (Keeps M chip₀) (map (during h (event .call)) (range 0 (suc (stepsFinished h (event .call) (event .cut))))) (moments events (after event h))
+      (each-map (Keeps M chip₀) (during h (event .call)) 0 (suc (stepsFinished h (event .call) (event .cut))) (λ i a b. keeps M chip₀ S (during h (event .call) i) (E .inside i (omega arith))))
+      (all-kept events (after event h) (E .after) O)
+
+  -- ---- the start
+  started : Kept M originals (starting chip₀)
+  unfolding starting filled count
+  started = record {
+    place = 0;
+    moment = subst (Moment (M .sizes) (chip₀ .marks)) (resumes-begun (M .sizes) 0 start-filled) (stands-moment M chip₀ 0 at-0);
+    store-length = S .store-length;
+    holds = rest-holds M A chip₀ (S .store-length) (S .marks-length) (S .at-rest);
+    bounded = within (omega arith);
+    ended = λ e. absurd (true≢false (sym e));
+    fresh = λ c m. record { taken = 0; stands = at-0; done = refl };
+  }
+    where
+      at-0 : StandsAt M chip₀ 0
+      at-0 = rest-stands M A chip₀ (S .store-length) (S .marks-length) (S .at-rest)
+
+      start-filled : filled (M .sizes) 0 ≡ 0
+      start-filled = zero-mod (M .sizes .m + 1)
+
+-- ---- equal marks
+read-answer : (M : Move) (chip : Chip) (work : List ℕ) (k : ℕ) → readAnswer M chip work k .number ≡ 0
+    → readAnswer M chip work k ≡ record { number = 0; count = length (readSlots M (chip .marks) k); work = readPage M chip k }
+unfolding readAnswer
+read-answer M chip work k e = ⊎-elim
+    (λ (q : eqb (refusal (readRows M chip work k)) 0 ≡ true). rw q)
+    (λ (q : eqb (refusal (readRows M chip work k)) 0 ≡ false). absurd (eqb-false _ 0 q (rw q at e)))
+    (bool-cases (eqb (refusal (readRows M chip work k)) 0))
+
+by-marks : (M : Move) (marks : List ℕ) (k : ℕ) (chip : Chip) → chip .marks ≡ marks → (work : List ℕ) → readAnswer M chip work k .number ≡ 0
+    → readAnswer M chip work k ≡ record { number = 0; count = length (readSlots M marks k); work = sum (pageAt (M .sizes .p) chip) (readSlots M marks k) }
+unfolding readPage
+by-marks M marks k chip same work e = rw (← same) (read-answer M chip work k e)
+
+pub demand-3 : Demand3
+demand-3 = record {
+  kept = λ M chip₀ S events O. all-kept M chip₀ S events (starting chip₀) (started M chip₀ S) O;
+  same-slots = λ M marks k. (readSlots M marks k, by-marks M marks k);
+}

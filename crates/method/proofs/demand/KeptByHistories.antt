@@ -1,0 +1,165 @@
+-- What a list of calls and cuts keeps, and that demand 3 holds of a moment that has it.
+use mathlib.Core.Path.{_≡_, refl, sym, ap, _∙_, subst}
+use mathlib.Core.Bool.{Bool, true}
+use mathlib.Core.List.{List, []}
+use Prim.Native.Nat.{ℕ, suc, _+_, _-_, _*_, _≤_, _<_, min}
+use native.Mathlib.Nat.{mod-lt}
+use native.Mathlib.Omega.{arith}
+use lib.ListN.{length, getD, take, drop, take-append-drop}
+use borrow.Author.Tests.{eq-eqb, lt-leb}
+use Rattle.flash.specs.Lists.{count, part}
+use Rattle.flash.specs.Tables.{refusal}
+use Rattle.flash.specs.declared.sizes.Sizes.{Sizes}
+use Rattle.flash.specs.Geometry.{slotOf, blockOf, pageOf, originalCount, storeLength, workLength}
+use Rattle.flash.specs.Chip.{Chip, pageAt}
+use Rattle.flash.proofs.Searches.{count-append}
+use Rattle.flash.proofs.Tables.{refusal-skip, refusal-nil}
+use Rattle.method.specs.Move.{Move}
+use Rattle.method.specs.Place.{operations, lastPlace, filled}
+use Rattle.method.specs.Read.{readPage}
+use Rattle.method.specs.State.{originalsIn}
+use Rattle.method.specs.Step.{isErase, erasesBlock}
+use Rattle.method.specs.Answers.{readRows, stepsTaken, mendAnswer, readAnswer, runAnswer}
+use Rattle.method.specs.Runs.{Start}
+use Rattle.method.specs.Events.{History}
+use Rattle.method.specs.Demand3.{Stays, Keeps}
+use Rattle.method.proofs.basics.MoveShape.{Accepted, Holding}
+use Rattle.method.proofs.basics.AcceptedCalls.{Lent, StandsAt, RunTaken, accepted-move, run-taken, taken-run}
+use Rattle.method.proofs.basics.Indexes.{Order, less, same, more, order}
+use Rattle.method.proofs.places.StepsAtPlaces.{last-stands}
+use Rattle.method.proofs.cycles.SetCycles.{block-in, entry-in}
+use Rattle.method.proofs.walks.ReadsOriginals.{reads}
+use Rattle.method.proofs.states.StatesOfPlaces.{is-state}
+use Rattle.method.proofs.states.AtRest.{rest-page, rest-length}
+use Rattle.method.proofs.states.RunsAddUp.{answerOf, run-answer, start-accepted}
+use Rattle.method.proofs.places.Turns.{turn, turn-high, turn-erases}
+use Rattle.method.proofs.recovery.Moments.{Moment, moment-shape, finished-marks}
+use Rattle.method.proofs.recovery.MendFinds.{moment-fits}
+use Rattle.method.proofs.recovery.MendAnswers.{recovers}
+use Rattle.method.proofs.places.ErasesCounted.{at-most-twice}
+
+-- some of a list
+count-take : {A : Type 0} (test : A → Bool) (some : ℕ) (xs : List A) → count test (take some xs) ≤ count test xs
+count-take {A} test some xs =
+    subst (λ (l : List A). count test (take some xs) ≤ count test l) (take-append-drop some xs) (omega (arith, count-append test (take some xs) (drop some xs)))
+
+-- where an erase is still to come, so is its turn's end
+turn-before : (Z : Sizes) (place : ℕ) → place ≤ lastPlace Z → 1 ≤ Z .m → filled Z place ≡ Z .m → turn Z place < 2 * Z .n
+turn-before Z place h l k = go (order place (lastPlace Z))
+  where
+    go : Order place (lastPlace Z) → turn Z place < 2 * Z .n
+    go (less o) = omega (arith, turn-erases Z place k, turn-high Z (suc place) o)
+    go (same e) = absurd (omega (arith, ap (filled Z) e ∙ last-stands Z .pages-is))
+    go (more o) = absurd (omega arith)
+
+module _ (M : Move) where
+  abbrev Z : Sizes
+  Z = M .sizes
+
+  -- The erases begun: one a turn and one a mend; and one more while an erase was begun that has taken no mark, before a mend.
+  pub data Bounded (h : History) (place : ℕ) : Type 0 where
+    within : count isErase (h .begun) ≤ turn Z place + h .mends → Bounded h place
+    once-more : h .unmended ≡ true → filled Z place ≡ Z .m → count isErase (h .begun) ≤ suc (turn Z place + h .mends) → Bounded h place
+
+  -- with no cut and no mend: just the first steps of the move were begun
+  pub record Fresh (h : History) : Type 0 where
+    pub taken : ℕ
+    pub stands : StandsAt M (h .chip) taken
+    pub done : h .begun ≡ take taken (operations Z)
+
+  -- what every list of events keeps; `place` is where the move goes on after a mend
+  pub record Kept (originals : List ℕ) (h : History) : Type 0 where
+    pub place : ℕ
+    pub moment : Moment Z (h .chip .marks) place
+    pub store-length : length (h .chip .store) ≡ storeLength Z
+    pub holds : Holding M originals (h .chip)
+    pub bounded : Bounded h place
+    pub ended : h .finished ≡ true → place ≡ lastPlace Z
+    pub fresh : h .cuts ≡ 0 → h .mends ≡ 0 → Fresh h
+
+module _ (M : Move) (chip₀ : Chip) (S : Start M chip₀) where
+  abbrev W : Sizes
+  W = M .sizes
+
+  A : Accepted M
+  A = start-accepted M chip₀ S
+
+  abbrev originals : List ℕ
+  originals = originalsIn W chip₀
+
+  full : length originals ≡ originalCount W * W .p
+  full = rest-length M A chip₀ (S .store-length) (S .marks-length) (S .at-rest)
+
+  first-page : (k : ℕ) → part (W .p) k originals ≡ pageAt (W .p) chip₀ (slotOf (W .m) k)
+  first-page k = sym (rest-page M A chip₀ (S .store-length) (S .marks-length) (S .at-rest) k)
+
+  module _ (h : History) (K : Kept M originals h) where
+    abbrev chip : Chip
+    chip = h .chip
+
+    lent : (work : List ℕ) → length work ≡ workLength W → Lent M chip work
+    lent work l = record { store-length = K .store-length; marks-length = K .moment .marks-length; work-length = l }
+
+    -- read is not refused
+    read-taken : (work : List ℕ) → length work ≡ workLength W → (k : ℕ) → k < originalCount W → refusal (readRows M chip work k) ≡ 0
+    unfolding readRows
+    read-taken work l k h =
+        accepted-move M chip work _ A (lent work l)
+        (refusal-skip _ _ (moment-fits W (A .ranges) (chip .marks) (K .place) (K .moment)) (refusal-skip _ [] (lt-leb (originalCount W) k h) refusal-nil))
+
+    stays : (k : ℕ) → k < originalCount W → Stays M chip k (pageAt (W .p) chip₀ (slotOf (W .m) k))
+    unfolding readAnswer readPage
+    stays k k-in =
+        let T = moment-shape W (chip .marks) (K .place) (K .moment) in
+        let R = reads M A (chip .marks) (T .low) (T .high) k k-in (T .i) (T .pass) (T .shape) in
+        let total = R .original originals chip refl full (K .holds) ∙ first-page k in
+        record {
+          few = R .few;
+          stored = λ i l. R .sited i l .inside;
+          whole = λ i l. R .sited i l .whole;
+          total = total;
+          read-gives = λ work l. rw (read-taken work l k k-in, total);
+        }
+
+    few-erases : count isErase (h .begun) ≤ 2 * W .n + h .mends
+    few-erases = go (K .bounded)
+      where
+        go : Bounded M h (K .place) → count isErase (h .begun) ≤ 2 * W .n + h .mends
+        go (within b) = omega (arith, turn-high W (K .place) (K .moment .in-move))
+        go (once-more u k b) = omega (arith, turn-before W (K .place) (K .moment .in-move) (A .ranges .m-low) k)
+
+    block-erases : h .cuts ≡ 0 → h .mends ≡ 0 → (b : ℕ) → count (erasesBlock b) (h .begun) ≤ 2
+    block-erases c m b =
+        let F = K .fresh c m in
+        rw (F .done) (omega (arith, at-most-twice W b, count-take (erasesBlock b) (F .taken) (operations W)))
+
+    final : h .finished ≡ true → (k : ℕ) → k < originalCount W → pageAt (W .p) chip (slotOf (W .m) (getD (M .list) k 0)) ≡ pageAt (W .p) chip₀ (slotOf (W .m) k)
+    final e k k-in =
+        let to = getD (M .list) k 0 in
+        let b = block-in M A to (entry-in M A k k-in) in
+        let last = subst (Moment W (chip .marks)) (K .ended e) (K .moment) in
+        K .holds .final k k-in (finished-marks W (chip .marks) last (blockOf (W .m) to) (pageOf (W .m) to) (b .low) (b .high) (mod-lt to (A .ranges .m-low))) ∙ first-page k
+
+    goes-on : (work : List ℕ) → length work ≡ workLength W → (budget : ℕ) → lastPlace W ≤ budget
+        → runAnswer M (mendAnswer W chip .chip) work (mendAnswer W chip .place) budget .finished ≡ 1
+    unfolding answerOf stepsTaken
+    goes-on work l budget enough =
+        let R = recovers M (A .ranges) chip (K .store-length) (K .place) (K .moment) in
+        let T : RunTaken M (mendAnswer W chip .chip) work (K .place) = record {
+          accepted = A;
+          lent = record { store-length = R .store-length; marks-length = R .marks-length; work-length = l };
+          stands = R .stands;
+        } in
+        let to-end : K .place + min budget (lastPlace W - K .place) ≡ lastPlace W = omega (arith, K .moment .in-move) in
+        rw (R .place-is, run-answer M (mendAnswer W chip .chip) work (K .place) budget (taken-run M _ _ _ T), to-end, eq-eqb (lastPlace W) (lastPlace W) refl)
+
+    pub keeps : Keeps M chip₀ h
+    keeps = record {
+      stays = stays;
+      erases = few-erases;
+      block-erases = block-erases;
+      final = final;
+      placed = λ work place e. (let T = run-taken M chip work place e in is-state M A originals chip place (T .stands) (K .store-length) (K .holds));
+      recovers = recovers M (A .ranges) chip (K .store-length) (K .place) (K .moment) .number-is;
+      goes-on = goes-on;
+    }

@@ -1,0 +1,143 @@
+-- A mend with the shared sizes keeps what is kept: before and after its erase, once it has returned, and where it is cut.
+use mathlib.Core.Path.{_≡_, refl, sym, ap, _∙_, subst}
+use mathlib.Core.Bool.{Bool, true, false, cond, _||_}
+use mathlib.Core.List.{List, [], _∷_, _++_, append-nil}
+use mathlib.Core.Option.{none, some}
+use Prim.Native.Nat.{ℕ, zero, suc, _+_, _≤_}
+use native.Mathlib.Omega.{arith}
+use lib.Dec.{eqb}
+use lib.ListN.{length, getD, take}
+use Rattle.flash.specs.Lists.{count}
+use Rattle.flash.specs.declared.sizes.Sizes.{Sizes}
+use Rattle.flash.specs.Chip.{Chip}
+use Rattle.flash.proofs.Searches.{count-append}
+use Rattle.method.specs.Move.{Move}
+use Rattle.method.specs.Place.{Operation, erase, done, filling, filled}
+use Rattle.method.specs.Step.{isErase}
+use Rattle.method.specs.Cut.{CutInside}
+use Rattle.method.specs.Mend.{Reading, reading}
+use Rattle.method.specs.Answers.{MendAnswer, mendAnswer}
+use Rattle.method.specs.Events.{Call, mend, CutPoint, uncut, between, inside, History, numberOf, mendSteps, stepsOf, chipAfter, chipReturned, returnsFinished, isMend, during, returned, cutShort, afterCall, stepsFinished, sizesOf}
+use Rattle.method.specs.Demand3.{CutObeys}
+use Rattle.method.proofs.basics.MoveShape.{Accepted, Holding}
+use Rattle.method.proofs.places.Turns.{turn}
+use Rattle.method.proofs.recovery.Moments.{Moment}
+use Rattle.method.proofs.recovery.MendAnswers.{Mends, erases, keeps, Recovered, mends, recovers}
+use Rattle.method.proofs.recovery.MarksFade.{cut-fades, holding-fades}
+use Rattle.method.proofs.recovery.CutsLeave.{mend-cut}
+use Rattle.method.proofs.demand.KeptByHistories.{Bounded, within, once-more, Kept}
+use Rattle.method.proofs.demand.CallsWithoutSteps.{EventKept, idle}
+
+module _ (M : Move) (A : Accepted M) (originals : List ℕ) (h : History) (K : Kept M originals h) where
+  abbrev Z : Sizes
+  Z = M .sizes
+
+  abbrev call : Call
+  call = mend (M .sizes)
+
+  abbrev answer : MendAnswer
+  answer = mendAnswer Z (h .chip)
+
+  R : Recovered M (h .chip) (K .place) answer
+  R = recovers M (A .ranges) (h .chip) (K .store-length) (K .place) (K .moment)
+
+  steps-are : (found : Reading) → reading Z (h .chip .marks) ≡ some found → stepsOf call (h .chip) ≡ mendSteps (some found)
+  unfolding stepsOf numberOf
+  steps-are found e =
+      ap (λ (x : ℕ). cond (eqb x 0) (mendSteps (reading Z (h .chip .marks))) []) (R .number-is) ∙ ap mendSteps e
+
+  -- ---- nothing to erase
+  keeps-all : reading Z (h .chip .marks) ≡ some (record { place = K .place; toErase = none }) → answer ≡ record { number = 0; place = K .place; erases = 0; chip = h .chip }
+      → (cut : CutPoint) → CutObeys call cut (h .chip) → EventKept M originals h call cut
+  unfolding mendSteps chipAfter chipReturned returnsFinished
+  keeps-all e a =
+      idle M originals h K call (steps-are (record { place = K .place; toErase = none }) e) refl (ap (λ (x : MendAnswer). x .chip) a) refl
+
+  -- ---- a block to erase
+  module _ (z : filled Z (K .place) ≡ 0) (e : reading Z (h .chip .marks) ≡ some (record { place = K .place; toErase = some (filling Z (K .place)) })) where
+    one-step : stepsOf call (h .chip) ≡ erase (filling Z (K .place)) ∷ []
+    unfolding mendSteps
+    one-step = steps-are (record { place = K .place; toErase = some (filling Z (K .place)) }) e
+
+    few : count isErase (h .begun) ≤ turn Z (K .place) + h .mends
+    few = go (K .bounded)
+      where
+        go : Bounded M h (K .place) → count isErase (h .begun) ≤ turn Z (K .place) + h .mends
+        go (within b) = b
+        go (once-more u k b) = absurd (omega (arith, A .ranges .m-low))
+
+    begun-one : count isErase (h .begun ++ (erase (filling Z (K .place)) ∷ [])) ≤ turn Z (K .place) + suc (h .mends)
+    unfolding count isErase
+    begun-one = omega (arith, few, count-append isErase (h .begun) (erase (filling Z (K .place)) ∷ []))
+
+    -- a history of this mend: the chip still has its moment, and at most this erase was begun
+    kept-as : (g : History) → Moment Z (g .chip .marks) (K .place) → length (g .chip .store) ≡ length (h .chip .store) → Holding M originals (g .chip)
+        → count isErase (g .begun) ≤ turn Z (K .place) + suc (h .mends) → g .mends ≡ suc (h .mends) → (g .finished ≡ true → h .finished ≡ true) → Kept M originals g
+    kept-as g m s H b n f = record {
+      place = K .place;
+      moment = m;
+      store-length = s ∙ K .store-length;
+      holds = H;
+      bounded = within (rw n b);
+      ended = λ x. K .ended (f x);
+      fresh = λ c y. absurd (omega arith);
+    }
+
+    mended-holds : Holding M originals (answer .chip)
+    mended-holds = holding-fades M originals (h .chip) (answer .chip) (K .holds) (R .fades)
+
+    mended-size : length (answer .chip .store) ≡ length (h .chip .store)
+    mended-size = R .store-length ∙ sym (K .store-length)
+
+    -- the erase is not begun, or it is
+    begun-0 : count isErase (h .begun ++ take 0 (stepsOf call (h .chip))) ≤ turn Z (K .place) + suc (h .mends)
+    begun-0 = omega (arith, few, ap (count isErase) (append-nil (h .begun)))
+
+    begun-1 : count isErase (h .begun ++ take 1 (stepsOf call (h .chip))) ≤ turn Z (K .place) + suc (h .mends)
+    begun-1 = rw one-step begun-one
+
+    during-kept : (i : ℕ) → i ≤ 1 → Kept M originals (during h call i)
+    unfolding during isMend chipAfter
+    during-kept zero l = kept-as (during h call 0) (K .moment) refl (K .holds) begun-0 refl (λ f. f)
+    during-kept (suc zero) l = kept-as (during h call 1) (R .moment) mended-size mended-holds begun-1 refl (λ f. f)
+    during-kept (suc (suc i)) l = absurd (omega arith)
+
+    between-kept : (i : ℕ) → i ≤ 1 → Kept M originals (cutShort h call i (chipAfter call (h .chip) i))
+    unfolding cutShort isMend chipAfter
+    between-kept zero l = kept-as (cutShort h call 0 (h .chip)) (K .moment) refl (K .holds) begun-0 refl (λ f. f)
+    between-kept (suc zero) l = kept-as (cutShort h call 1 (answer .chip)) (R .moment) mended-size mended-holds begun-1 refl (λ f. f)
+    between-kept (suc (suc i)) l = absurd (omega arith)
+
+    returned-kept : Kept M originals (returned h call)
+    unfolding returned isMend chipReturned returnsFinished
+    returned-kept = kept-as (returned h call) (R .moment) mended-size mended-holds (rw one-step begun-one) refl (λ f. still (h .finished) f)
+      where
+        still : (b : Bool) → (b || false) ≡ true → b ≡ true
+        still true f = refl
+        still false f = f
+
+    inside-kept : (left : Chip) → CutInside Z (erase (filling Z (K .place))) (h .chip) left → Kept M originals (cutShort h call 1 left)
+    unfolding cutShort isMend
+    inside-kept left C =
+        kept-as (cutShort h call 1 left) (mend-cut Z (h .chip) left (K .place) (K .moment) z C) (C .store-length ∙ sym (K .store-length))
+        (holding-fades M originals (h .chip) left (K .holds) (cut-fades Z (erase (filling Z (K .place))) (h .chip) left C)) begun-1 refl (λ f. f)
+
+    steps-count : length (stepsOf call (h .chip)) ≡ 1
+    steps-count = ap length one-step
+
+    erases-one : (cut : CutPoint) → CutObeys call cut (h .chip) → EventKept M originals h call cut
+    unfolding stepsFinished afterCall sizesOf chipAfter
+    erases-one uncut o = record { inside = λ i l. during-kept i (omega (arith, steps-count)); after = returned-kept }
+    erases-one (between f) o = record { inside = λ i l. during-kept i (omega (arith, steps-count)); after = between-kept f (omega (arith, steps-count)) }
+    erases-one (inside zero left) o = record {
+      inside = λ i l. during-kept i (omega arith);
+      after = inside-kept left (subst (λ (s : List Operation). CutInside Z (getD s 0 done) (h .chip) left) one-step (o .1));
+    }
+    erases-one (inside (suc f) left) o = absurd (omega (arith, steps-count, o .0))
+
+  pub mend-kept : (cut : CutPoint) → CutObeys call cut (h .chip) → EventKept M originals h call cut
+  mend-kept = go (mends M (A .ranges) (h .chip) (K .store-length) (K .place) (K .moment))
+    where
+      go : Mends Z (h .chip) (K .place) → (cut : CutPoint) → CutObeys call cut (h .chip) → EventKept M originals h call cut
+      go (erases z e a) = erases-one z e
+      go (keeps k e a) = keeps-all e a

@@ -1,0 +1,268 @@
+-- A run that is not refused keeps what is kept: after each of its steps, once it has returned, and where it is cut.
+use mathlib.Core.Path.{_≡_, refl, sym, ap, _∙_, subst}
+use mathlib.Core.Logic.{_⊎_, inl, inr, ⊎-elim}
+use mathlib.Core.Bool.{Bool, true, false, cond, _||_, true≢false}
+use mathlib.Core.List.{List, [], _∷_, _++_}
+use Prim.Native.Nat.{ℕ, suc, _+_, _-_, _*_, _≤_, _<_, min}
+use native.Mathlib.Nat.{div-add-mod'}
+use native.Mathlib.Omega.{arith}
+use lib.Dec.{eqb}
+use lib.ListN.{length, getD, take, drop, length-take, length-drop}
+use lib.Seq.{take-add, take-take, getD-take, getD-drop}
+use borrow.Author.Tests.{eqb-true}
+use Rattle.flash.specs.Lists.{count}
+use Rattle.flash.specs.Tables.{refusal}
+use Rattle.flash.specs.declared.sizes.Sizes.{Sizes}
+use Rattle.flash.specs.Geometry.{originalCount}
+use Rattle.flash.specs.Chip.{Chip}
+use Rattle.flash.proofs.Bools.{bool-cases}
+use Rattle.flash.proofs.Bounds.{range-in}
+use Rattle.flash.proofs.Searches.{count-append}
+use Rattle.method.specs.Move.{Move}
+use Rattle.method.specs.Place.{Operation, write, erase, done, operations, operationAt, lastPlace, filled}
+use Rattle.method.specs.Step.{Running, steps, isErase, tallied, tally, operationsFrom}
+use Rattle.method.specs.Cut.{CutInside}
+use Rattle.method.specs.Answers.{RunAnswer, runRows, stepsTaken, runRefused, runAnswer}
+use Rattle.method.specs.Events.{Call, run, CutPoint, uncut, between, inside, History, numberOf, stepsOf, chipAfter, chipReturned, returnsFinished, isMend, during, returned, cutShort, afterCall, stepsFinished, sizesOf}
+use Rattle.method.specs.Demand3.{CutObeys}
+use Rattle.method.specs.Claims.{StepsCounted, PlacesDiffer}
+use Rattle.method.proofs.basics.AcceptedCalls.{StandsAt, RunTaken, run-taken}
+use Rattle.method.proofs.basics.MoveShape.{Accepted, Holding}
+use Rattle.method.proofs.places.StepsCounted.{steps-counted}
+use Rattle.method.proofs.places.StepsAtPlaces.{last-stands}
+use Rattle.method.proofs.places.PlacesDiffer.{places-differ}
+use Rattle.method.proofs.places.Tallies.{erases-tallied}
+use Rattle.method.proofs.states.StepsKeepPages.{steps-hold}
+use Rattle.method.proofs.states.RunsAddUp.{answerOf, run-answer, still-taken}
+use Rattle.method.proofs.places.Turns.{turn, turn-last, turn-writes, turn-erases, turn-resumes, resumesAt, resumes-there, resumes-begun}
+use Rattle.method.proofs.recovery.Moments.{Moment, stands-moment}
+use Rattle.method.proofs.recovery.MendFinds.{moment-unique}
+use Rattle.method.proofs.recovery.MarksFade.{cut-fades, holding-fades}
+use Rattle.method.proofs.recovery.CutsLeave.{AfterCut, in-write, in-erase, torn-erase, after-cut}
+use Rattle.method.proofs.demand.KeptByHistories.{Bounded, within, once-more, Fresh, Kept}
+use Rattle.method.proofs.demand.CallsWithoutSteps.{EventKept}
+
+-- the two ways to count erases
+counts-agree : (ops : List Operation) → count isErase ops ≡ tally ops .erases
+unfolding count isErase tally tallied
+counts-agree [] = refl
+counts-agree (write pass b q ∷ ops) = counts-agree ops
+counts-agree (erase b ∷ ops) = ap suc (counts-agree ops)
+counts-agree (done ∷ ops) = counts-agree ops
+
+-- the number that run returns is that of its table
+pub run-number : (M : Move) (chip : Chip) (work : List ℕ) (place budget : ℕ) → runAnswer M chip work place budget .number ≡ 0 → refusal (runRows M chip work place) ≡ 0
+unfolding runAnswer runRefused
+run-number M chip work place budget e = ⊎-elim
+    (λ (q : eqb (refusal (runRows M chip work place)) 0 ≡ true). eqb-true _ 0 q)
+    (λ (q : eqb (refusal (runRows M chip work place)) 0 ≡ false). rw q at e)
+    (bool-cases (eqb (refusal (runRows M chip work place)) 0))
+
+module _ (M : Move) (A : Accepted M) (originals : List ℕ) (full : length originals ≡ originalCount (M .sizes) * M .sizes .p)
+    (h : History) (K : Kept M originals h) (work : List ℕ) (place budget : ℕ)
+    (ok : refusal (runRows M (h .chip) work place) ≡ 0) (mended : h .unmended ≡ false) where
+  abbrev Z : Sizes
+  Z = M .sizes
+
+  abbrev call : Call
+  call = run M work place budget
+
+  abbrev total : ℕ
+  total = stepsTaken Z place budget
+
+  T : RunTaken M (h .chip) work place
+  T = run-taken M (h .chip) work place ok
+
+  total-in : place + total ≤ lastPlace Z
+  unfolding stepsTaken
+  total-in = omega (arith, T .stands .inside)
+
+  abbrev start : Running
+  start = record { chip = h .chip; work = work }
+
+  -- ---- the steps
+  steps-are : stepsOf call (h .chip) ≡ operationsFrom M place total
+  unfolding stepsOf numberOf answerOf
+  steps-are =
+      ap (λ (a : RunAnswer). cond (eqb (a .number) 0) (operationsFrom M place total) []) (run-answer M (h .chip) work place budget ok)
+
+  chip-after : (i : ℕ) → i ≤ total → chipAfter call (h .chip) i ≡ steps M i place start .chip
+  unfolding chipAfter answerOf stepsTaken
+  chip-after i l =
+      let all : min i (lastPlace Z - place) ≡ i = omega (arith, total-in) in
+      ap (λ (a : RunAnswer). a .chip) (run-answer M (h .chip) work place i ok) ∙ ap (λ (x : ℕ). steps M x place start .chip) all
+
+  some-steps : (i : ℕ) → i ≤ total → take i (operationsFrom M place total) ≡ operationsFrom M place i
+  unfolding operationsFrom
+  some-steps i l = take-take i total (drop place (operations Z)) l
+
+  steps-length : length (operationsFrom M place total) ≡ total
+  unfolding operationsFrom StepsCounted
+  steps-length =
+      length-take total (drop place (operations Z)) ∙ omega (arith, length-drop place (operations Z), steps-counted Z, total-in)
+
+  -- ---- where the move is
+  here : K .place ≡ resumesAt Z place
+  here = moment-unique Z (A .ranges) (h .chip .marks) (K .place) (resumesAt Z place) (K .moment) (stands-moment M (h .chip) place (T .stands))
+
+  few : count isErase (h .begun) ≤ turn Z place + h .mends
+  few = go (K .bounded)
+    where
+      at : turn Z (K .place) ≡ turn Z place
+      at = ap (turn Z) here ∙ turn-resumes Z place
+
+      go : Bounded M h (K .place) → count isErase (h .begun) ≤ turn Z place + h .mends
+      go (within b) = omega (arith, at)
+      go (once-more u k b) = absurd (true≢false (sym u ∙ mended))
+
+  erases-to : (i : ℕ) → i ≤ total → count isErase (h .begun ++ operationsFrom M place i) ≤ turn Z (place + i) + h .mends
+  erases-to i l =
+      omega (arith, few, count-append isErase (h .begun) (operationsFrom M place i), counts-agree (operationsFrom M place i), erases-tallied M i place (omega (arith, total-in)))
+
+  -- once the finish was reported the move is over, and no step is left
+  over : h .finished ≡ true → place ≡ lastPlace Z
+  unfolding lastPlace
+  over e =
+      let at : turn Z place ≡ turn Z (lastPlace Z) = sym (turn-resumes Z place) ∙ ap (turn Z) (sym here ∙ K .ended e) in
+      let last : turn Z (lastPlace Z) ≡ 2 * Z .n = turn-last Z in
+      omega (arith, T .stands .inside, div-add-mod' place (Z .m + 1), ap (λ (x : ℕ). x * (Z .m + 1)) (at ∙ last))
+
+  module _ (i : ℕ) (l : i ≤ total) where
+    abbrev now : Chip
+    now = steps M i place start .chip
+
+    S : RunTaken M now (steps M i place start .work) (place + i)
+    S = still-taken M (h .chip) work place i (omega (arith, total-in)) T
+
+    now-holds : Holding M originals now
+    now-holds =
+        steps-hold M A originals full i place start (omega (arith, total-in)) (record { lent = T .lent; stands = T .stands }) (K .holds)
+
+    -- with no cut and no mend the steps from place 0 on were taken
+    now-fresh : Fresh M h → (g : History) → g .chip ≡ now → g .begun ≡ h .begun ++ operationsFrom M place i → Fresh M g
+    unfolding operationsFrom PlacesDiffer
+    now-fresh F g c b =
+        let same : F .taken ≡ place = places-differ Z (range-in Z (A .ranges)) (F .taken) place (F .stands .inside) (T .stands .inside) (sym (F .stands .marks) ∙ T .stands .marks) in
+        record {
+          taken = place + i;
+          stands = subst (λ (x : Chip). StandsAt M x (place + i)) (sym c) (S .stands);
+          done = b ∙ ap (λ (o : List Operation). o ++ take i (drop place (operations Z))) (F .done ∙ ap (λ (x : ℕ). take x (operations Z)) same)
+              ∙ sym (take-add place i (operations Z));
+        }
+
+    -- a history of this run, with i steps finished
+    kept-at : (g : History) → g .chip ≡ now → g .begun ≡ h .begun ++ operationsFrom M place i → g .mends ≡ h .mends → (g .cuts ≡ 0 → h .cuts ≡ 0)
+        → (g .finished ≡ true → resumesAt Z (place + i) ≡ lastPlace Z) → Kept M originals g
+    kept-at g c b m cuts ended = record {
+      place = resumesAt Z (place + i);
+      moment = subst (λ (x : Chip). Moment Z (x .marks) (resumesAt Z (place + i))) (sym c) (stands-moment M now (place + i) (S .stands));
+      store-length = ap (λ (x : Chip). length (x .store)) c ∙ S .lent .store-length;
+      holds = subst (Holding M originals) (sym c) now-holds;
+      bounded = within (rw (b, m, turn-resumes Z (place + i)) (erases-to i l));
+      ended = ended;
+      fresh = λ z y. now-fresh (K .fresh (cuts z) (sym m ∙ y)) g c b;
+    }
+
+    -- what h reported stays true: no step is left then
+    still-over : h .finished ≡ true → resumesAt Z (place + i) ≡ lastPlace Z
+    still-over e =
+        let p = over e in
+        let z : place + i ≡ lastPlace Z = omega (arith, total-in) in
+        ap (resumesAt Z) z ∙ resumes-begun Z (lastPlace Z) (last-stands Z .pages-is)
+
+  -- ---- the event
+  begun-to : (i : ℕ) → i ≤ total → h .begun ++ take i (stepsOf call (h .chip)) ≡ h .begun ++ operationsFrom M place i
+  begun-to i l = ap (λ (o : List Operation). h .begun ++ o) (ap (take i) steps-are ∙ some-steps i l)
+
+  steps-count : length (stepsOf call (h .chip)) ≡ total
+  steps-count = ap length steps-are ∙ steps-length
+
+  during-kept : (i : ℕ) → i ≤ total → Kept M originals (during h call i)
+  unfolding during isMend
+  during-kept i l = kept-at i l (during h call i) (chip-after i l) (begun-to i l) refl (λ e. e) (still-over i l)
+
+  returned-kept : Kept M originals (returned h call)
+  unfolding returned isMend chipReturned returnsFinished answerOf
+  returned-kept =
+      kept-at total (omega arith) (returned h call)
+      (ap (λ (a : RunAnswer). a .chip) (run-answer M (h .chip) work place budget ok))
+      (ap (λ (o : List Operation). h .begun ++ o) steps-are)
+      refl (λ e. e) (λ e. done-now (h .finished) refl e)
+    where
+      at-end : place + total ≡ lastPlace Z → resumesAt Z (place + total) ≡ lastPlace Z
+      at-end z = ap (resumesAt Z) z ∙ resumes-begun Z (lastPlace Z) (last-stands Z .pages-is)
+
+      reported : eqb (runAnswer M (h .chip) work place budget .finished) 1 ≡ true → place + total ≡ lastPlace Z
+      reported e = told (bool-cases (eqb (place + total) (lastPlace Z)))
+        where
+          f : eqb (cond (eqb (place + total) (lastPlace Z)) 1 0) 1 ≡ true
+          f = sym (ap (λ (a : RunAnswer). eqb (a .finished) 1) (run-answer M (h .chip) work place budget ok)) ∙ e
+
+          told : (eqb (place + total) (lastPlace Z) ≡ true) ⊎ (eqb (place + total) (lastPlace Z) ≡ false) → place + total ≡ lastPlace Z
+          told (inl q) = eqb-true _ _ q
+          told (inr q) = absurd (true≢false (sym (rw q at f)))
+
+      done-now : (b : Bool) → h .finished ≡ b → (b || eqb (runAnswer M (h .chip) work place budget .finished) 1) ≡ true → resumesAt Z (place + total) ≡ lastPlace Z
+      done-now true e q = still-over total (omega arith) e
+      done-now false e q = at-end (reported q)
+
+  between-kept : (i : ℕ) → i ≤ total → Kept M originals (cutShort h call i (chipAfter call (h .chip) i))
+  unfolding cutShort isMend
+  between-kept i l =
+      kept-at i l (cutShort h call i (chipAfter call (h .chip) i)) (chip-after i l) (begun-to i l) refl (λ e. absurd (omega arith)) (still-over i l)
+
+  -- cut inside the step after i steps
+  module _ (i : ℕ) (l : i < total) (left : Chip) where
+    step-is : getD (stepsOf call (h .chip)) i done ≡ operationAt Z (place + i)
+    unfolding operationsFrom operationAt
+    step-is =
+        ap (λ (o : List Operation). getD o i done) steps-are
+        ∙ getD-take total (drop place (operations Z)) i done l ∙ getD-drop place (operations Z) i done
+
+    module _ (C : CutInside Z (operationAt Z (place + i)) (steps M i place start .chip) left) where
+      early : place + i < lastPlace Z
+      early = omega (arith, total-in)
+
+      left-holds : Holding M originals left
+      left-holds = holding-fades M originals (now i (omega arith)) left (now-holds i (omega arith)) (cut-fades Z (operationAt Z (place + i)) (now i (omega arith)) left C)
+
+      one-more : count isErase (h .begun ++ operationsFrom M place (suc i)) ≤ turn Z (suc (place + i)) + h .mends
+      one-more = (let s : place + suc i ≡ suc (place + i) = omega arith in rw s at (erases-to (suc i) l))
+
+      kept-left : (at : ℕ) → Moment Z (left .marks) at → Bounded M (cutShort h call (suc i) left) at → Kept M originals (cutShort h call (suc i) left)
+      unfolding cutShort
+      kept-left at m b = record {
+        place = at;
+        moment = m;
+        store-length = C .store-length;
+        holds = left-holds;
+        bounded = b;
+        ended = λ e. absurd (omega (arith, over e, total-in));
+        fresh = λ z y. absurd (omega arith);
+      }
+
+      inside-kept : Kept M originals (cutShort h call (suc i) left)
+      unfolding cutShort isMend
+      inside-kept = go (after-cut Z (place + i) early (now i (omega arith)) left (S i (omega arith) .stands .marks) C)
+        where
+          begun : count isErase (h .begun ++ take (suc i) (stepsOf call (h .chip))) ≡ count isErase (h .begun ++ operationsFrom M place (suc i))
+          begun = ap (count isErase) (begun-to (suc i) l)
+
+          go : AfterCut Z (place + i) (left .marks) → Kept M originals (cutShort h call (suc i) left)
+          go (in-write k op m) = kept-left (resumesAt Z (place + i)) m (within (omega (arith, begun, one-more, turn-resumes Z (place + i), turn-writes Z (place + i) k)))
+          go (in-erase k op m) =
+              kept-left (resumesAt Z (place + i)) m
+              (once-more refl (ap (filled Z) (resumes-there Z (place + i) k) ∙ k) (omega (arith, begun, one-more, turn-resumes Z (place + i), turn-erases Z (place + i) k)))
+          go (torn-erase k op m) = kept-left (suc (place + i)) m (within (omega (arith, begun, one-more)))
+
+  pub run-kept : (cut : CutPoint) → CutObeys call cut (h .chip) → EventKept M originals h call cut
+  unfolding stepsFinished afterCall sizesOf
+  run-kept uncut o = record { inside = λ i l. during-kept i (omega (arith, steps-count)); after = returned-kept }
+  run-kept (between f) o = record { inside = λ i l. during-kept i (omega (arith, steps-count)); after = between-kept f (omega (arith, steps-count)) }
+  run-kept (inside f left) o =
+      let l : f < total = omega (arith, steps-count, o .0) in
+      record {
+        inside = λ i k. during-kept i (omega arith);
+        after = inside-kept f l left (subst (λ (c : Chip). CutInside Z (operationAt Z (place + f)) c left) (chip-after f (omega arith))
+            (subst (λ (o : Operation). CutInside Z o (chipAfter call (h .chip) f) left) (step-is f l left) (o .1)));
+      }

@@ -1,0 +1,9 @@
+-- What cuts leave, and what mend makes of it.
+pub mod LinesAgree
+pub mod ErasesNext
+pub mod FittingMarks
+pub mod Moments
+pub mod MarksFade
+pub mod MendFinds
+pub mod MendAnswers
+pub mod CutsLeave

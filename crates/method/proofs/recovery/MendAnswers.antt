@@ -1,0 +1,162 @@
+-- Recovery: what mend answers at a moment. It leaves store and marks as a place has them, so a run from there is not refused.
+use mathlib.Core.Path.{_≡_, refl, sym, ap, _∙_, subst}
+use mathlib.Core.Bool.{true, false, not}
+use mathlib.Core.Option.{some, none}
+use mathlib.Core.List.{List, []}
+use Prim.Native.Nat.{ℕ, suc, _+_, _*_, _≤_, _<_}
+use native.Mathlib.Omega.{arith}
+use lib.ListN.{length}
+use borrow.Author.Tests.{eq-eqb}
+use Rattle.flash.specs.Tables.{refusal}
+use Rattle.flash.specs.declared.sizes.Sizes.{Sizes}
+use Rattle.flash.specs.Geometry.{slot, storeLength, marksLength, letter}
+use Rattle.flash.specs.Chip.{Chip, erased, markAt, isBlank, eraseBlock}
+use Rattle.flash.proofs.Blocks.{full-at}
+use Rattle.flash.proofs.Bounds.{Bounds, range-in, block-in-marks, block-in-store}
+use Rattle.flash.proofs.Chips.{erase-store-length, erase-marks-length, erase-mark, erase-mark-other, erase-blank}
+use Rattle.flash.proofs.Tables.{refusal-skip, refusal-nil}
+use Rattle.method.specs.Move.{Move}
+use Rattle.method.specs.Place.{passAt, filling, filled, heldAt, heldMark}
+use Rattle.method.specs.Mend.{Reading, reading}
+use Rattle.method.specs.Answers.{badChip, marksAnswer, fitsNone, mendRows, MendAnswer, mended, mendAnswer}
+use Rattle.method.proofs.basics.Indexes.{this-or-other, each-slot}
+use Rattle.method.proofs.basics.MoveShape.{Shape}
+use Rattle.method.proofs.basics.AcceptedCalls.{StandsAt}
+use Rattle.method.proofs.places.PagesHeld.{MarksAt, held-blank, marks-eq}
+use Rattle.method.proofs.places.PlaceShape.{letterAbove, shape-full}
+use Rattle.method.proofs.places.Turns.{resumes-begun}
+use Rattle.method.proofs.recovery.Moments.{Moment, place-moment}
+use Rattle.method.proofs.recovery.MendFinds.{Finds, torn, full, finds}
+use Rattle.method.proofs.recovery.MarksFade.{Fades, fades-refl, erase-fades}
+
+-- only the block between has pages that are not written
+erased-between : (Z : Sizes) (marks : List ℕ) (low high i b q : ℕ) → Shape Z marks low high i → b ≤ Z .n → q < Z .m → markAt marks (slot (Z .m) b q) ≡ erased → (low ≤ b) × (b < high)
+unfolding letter
+erased-between Z marks low high i b q S h k e =
+    let not-below : b < low → ⊥ = λ l. absurd (omega (arith, full-at (Z .m) marks b (letter Z 1) q (S .below b l) k)) in
+    let not-above : high ≤ b → ⊥ = λ l. absurd (omega (arith, full-at (Z .m) marks b (letter Z i) q (S .above b l h) k)) in
+    (omega arith, omega arith)
+
+-- what mend does where it is not refused: all that a caller has to tell apart
+pub data Mends (Z : Sizes) (chip : Chip) (place : ℕ) : Type 0 where
+  erases : filled Z place ≡ 0 → reading Z (chip .marks) ≡ some (record { place = place; toErase = some (filling Z place) })
+      → mendAnswer Z chip ≡ record { number = 0; place = place; erases = 1; chip = eraseBlock (Z .m) (Z .p) (filling Z place) chip } → Mends Z chip place
+  keeps : filled Z place ≡ Z .m → reading Z (chip .marks) ≡ some (record { place = place; toErase = none })
+      → mendAnswer Z chip ≡ record { number = 0; place = place; erases = 0; chip = chip } → Mends Z chip place
+
+-- an answer by which the move goes on at a place
+pub record Recovered (M : Move) (chip : Chip) (place : ℕ) (answer : MendAnswer) : Type 0 where
+  pub number-is : answer .number ≡ 0
+  pub place-is : answer .place ≡ place
+  pub stands : StandsAt M (answer .chip) place
+  pub moment : Moment (M .sizes) (answer .chip .marks) place
+  pub store-length : length (answer .chip .store) ≡ storeLength (M .sizes)
+  pub marks-length : length (answer .chip .marks) ≡ marksLength (M .sizes)
+  pub fades : Fades (M .sizes) chip (answer .chip)
+
+module _ (M : Move) (B : Bounds (M .sizes)) (chip : Chip) (store-length : length (chip .store) ≡ storeLength (M .sizes)) (place : ℕ) (C : Moment (M .sizes) (chip .marks) place) where
+  open Sizes (M .sizes) using (n, m, p as P)
+
+  abbrev Z : Sizes
+  Z = M .sizes
+
+  accepted : (found : Reading) → reading Z (chip .marks) ≡ some found → refusal (mendRows Z chip) ≡ 0
+  unfolding mendRows badChip fitsNone marksAnswer
+  accepted found e =
+      let lengths : badChip Z chip ≡ false = rw (eq-eqb _ _ store-length, eq-eqb _ _ (C .marks-length)) refl in
+      refusal-skip _ _ (ap not (range-in Z B)) (refusal-skip _ _ lengths (refusal-skip _ [] (ap fitsNone e) refusal-nil))
+
+  answers : (found : Reading) → reading Z (chip .marks) ≡ some found → mendAnswer Z chip ≡ mended Z chip found
+  unfolding mendAnswer
+  answers found e = rw (accepted found e, e)
+
+  pub mends : Mends Z chip place
+  unfolding mended
+  mends = go (finds Z B (chip .marks) place C)
+    where
+      go : Finds Z (chip .marks) place → Mends Z chip place
+      go (torn z S e) = erases z e (answers (record { place = place; toErase = some (filling Z place) }) e)
+      go (full k A e) = keeps k e (answers (record { place = place; toErase = none }) e)
+
+  -- with no block unfinished nothing is marked 255
+  stands-full : filled Z place ≡ m → MarksAt Z place (chip .marks) → StandsAt M chip place
+  stands-full k A =
+      let S = shape-full Z place (C .in-move) (chip .marks) A k in
+      record {
+        inside = C .in-move;
+        marks = marks-eq Z place (chip .marks) (B .m-low) A;
+        blank =
+            each-slot m (n + 1) (λ t. markAt (chip .marks) t ≡ erased → isBlank P chip t ≡ true)
+            (λ b q h k e.
+            let r = erased-between Z (chip .marks) _ _ _ b q S (omega arith) k e in
+            absurd (omega arith));
+      }
+
+  -- Where a block is unfinished, it is erased.
+  module _ (z : filled Z place ≡ 0) (S : Shape Z (chip .marks) (filling Z place) (suc (filling Z place)) (letterAbove (passAt Z place))) where
+    abbrev b : ℕ
+    b = filling Z place
+
+    abbrev left : Chip
+    left = eraseBlock m P b chip
+
+    store-fits : b * (m * P) + m * P ≤ length (chip .store)
+    store-fits = rw store-length (block-in-store Z b (S .inside))
+
+    marks-fit : b * m + m ≤ length (chip .marks)
+    marks-fit = rw (C .marks-length) (block-in-marks Z b (S .inside))
+
+    left-marks : MarksAt Z place (left .marks)
+    unfolding heldMark
+    left-marks = record {
+      length-is = erase-marks-length m P b chip store-fits marks-fit ∙ C .marks-length;
+      mark-is = λ c q h k.
+          this-or-other (λ x. markAt (left .marks) (slot m x q) ≡ heldMark Z (heldAt Z place x q)) b c
+          (erase-mark m P b chip store-fits marks-fit q k ∙ sym (ap (heldMark Z) (held-blank Z place b q refl (omega arith))))
+          (λ apart. erase-mark-other m P b chip store-fits marks-fit q k c apart ∙ C .others c q apart h k);
+    }
+
+    left-blank : (c q : ℕ) → c < n + 1 → q < m → markAt (left .marks) (slot m c q) ≡ erased → isBlank P left (slot m c q) ≡ true
+    left-blank c q h k e =
+        this-or-other (λ x. isBlank P left (slot m x q) ≡ true) b c (erase-blank m P b chip store-fits marks-fit q k)
+        (λ apart.
+        let before = sym (erase-mark-other m P b chip store-fits marks-fit q k c apart) ∙ e in
+        let r = erased-between Z (chip .marks) b (suc b) _ c q S (omega arith) k before in
+        absurd (apart (omega arith)))
+
+    stands-torn : StandsAt M left place
+    stands-torn = record {
+      inside = C .in-move;
+      marks = marks-eq Z place (left .marks) (B .m-low) left-marks;
+      blank = each-slot m (n + 1) (λ t. markAt (left .marks) t ≡ erased → isBlank P left t ≡ true) left-blank;
+    }
+
+    recovered-torn : Recovered M chip place (record { number = 0; place = place; erases = 1; chip = left })
+    recovered-torn = record {
+      number-is = refl;
+      place-is = refl;
+      stands = stands-torn;
+      moment = subst (Moment Z (left .marks)) (resumes-begun Z place z) (place-moment Z place (C .in-move) (left .marks) left-marks);
+      store-length = erase-store-length m P b chip store-fits marks-fit ∙ store-length;
+      marks-length = left-marks .length-is;
+      fades = erase-fades Z b chip (S .inside) store-length (C .marks-length);
+    }
+
+  recovered-full : filled Z place ≡ m → MarksAt Z place (chip .marks) → Recovered M chip place (record { number = 0; place = place; erases = 0; chip = chip })
+  recovered-full k A = record {
+    number-is = refl;
+    place-is = refl;
+    stands = stands-full k A;
+    moment = C;
+    store-length = store-length;
+    marks-length = C .marks-length;
+    fades = fades-refl Z chip;
+  }
+
+  pub recovers : Recovered M chip place (mendAnswer Z chip)
+  unfolding mended
+  recovers = go (finds Z B (chip .marks) place C)
+    where
+      go : Finds Z (chip .marks) place → Recovered M chip place (mendAnswer Z chip)
+      go (torn z S e) = subst (Recovered M chip place) (sym (answers (record { place = place; toErase = some (filling Z place) }) e)) (recovered-torn z S)
+      go (full k A e) = subst (Recovered M chip place) (sym (answers (record { place = place; toErase = none }) e)) (recovered-full k A)

@@ -1,0 +1,206 @@
+-- What mend reads at a moment: the place by which it goes, so marks are moments of one place only.
+use mathlib.Core.Path.{_≡_, refl, sym, ap, _∙_, subst}
+use mathlib.Core.Logic.{_≢_, ⊎-elim}
+use mathlib.Core.Bool.{true, false, _&&_}
+use mathlib.Core.Option.{Option, none, some}
+use mathlib.Core.List.{List, [], _∷_, map, List·Memᴰ, List·Memᴰ·head, List·Memᴰ·tail, List·Memᴰ·not-nil, List·Memᴰ·cases-cons, Memᴰ·append-left, Memᴰ·append-right}
+use Prim.Native.Nat.{ℕ, zero, suc, _+_, _-_, _*_, _≤_, _<_}
+use native.Mathlib.Omega.{arith}
+use lib.Dec.{eqb}
+use borrow.Author.Tests.{eqb-true, eqb-false}
+use Rattle.flash.specs.Geometry.{letter}
+use Rattle.flash.specs.Lists.{range, all}
+use Rattle.flash.specs.Tables.{Row, firstFit}
+use Rattle.flash.specs.declared.sizes.Sizes.{Sizes}
+use Rattle.flash.specs.Chip.{isMark, isFull, isUnfinished}
+use Rattle.flash.proofs.Bools.{bool-cases, never-both}
+use Rattle.flash.proofs.Ranges.{all-is}
+use Rattle.flash.proofs.Blocks.{unfinished-of}
+use Rattle.flash.proofs.Bounds.{Bounds, range-in}
+use Rattle.method.specs.Place.{Pass, forward, backward, lastPlace, passAt, filling, filled}
+use Rattle.method.specs.Mend.{Reading, fullFrom, forwardTorn, backwardTorn, forwardFull, backwardFull, lines, legalMarks, reading}
+use Rattle.method.specs.Answers.{marksAnswer, fitsNone}
+use Rattle.method.specs.Claims.{LinesAgree}
+use Rattle.method.proofs.basics.MoveShape.{Shape}
+use Rattle.method.proofs.recovery.LinesAgree.{lines-agree}
+use Rattle.method.proofs.places.StepsAtPlaces.{turnOf, located, last-stands, backward-low}
+use Rattle.method.proofs.places.PagesHeld.{edge, MarksAt}
+use Rattle.method.proofs.places.PlaceShape.{letterAbove, shape-full}
+use Rattle.method.proofs.recovery.Moments.{Moment, Block, unfinished, whole, moment-marks, shape-unfinished}
+
+-- the first row that fits is as good as any, where all that fit give the same
+firstFit-any : {A : Type 0} (rows : List (Row A)) (row : Row A) → List·Memᴰ row rows → row .fits ≡ true
+    → ((other : Row A) → List·Memᴰ other rows → other .fits ≡ true → other .gives ≡ row .gives) → firstFit rows ≡ some (row .gives)
+unfolding firstFit
+firstFit-any [] row m e agree = absurd (List·Memᴰ·not-nil m)
+firstFit-any {A} (top ∷ rows) row m e agree =
+    ⊎-elim
+    (λ (f : top .fits ≡ true). rw f (ap some (agree top (List·Memᴰ·head refl) f)))
+    (λ (f : top .fits ≡ false).
+    ⊎-elim
+    (λ (q : row ≡ top). absurd (never-both e (ap (λ (r : Row A). r .fits) q ∙ f)))
+    (λ (t : List·Memᴰ row rows). rw f (firstFit-any rows row t e (λ other s. agree other (List·Memᴰ·tail s))))
+    (List·Memᴰ·cases-cons m))
+    (bool-cases (top .fits))
+
+in-map : {A : Type 0} (f : ℕ → A) (start count x : ℕ) → start ≤ x → x < start + count → List·Memᴰ (f x) (map f (range start count))
+unfolding range
+in-map f start zero x h k = absurd (omega arith)
+in-map f start (suc count) x h k =
+    ⊎-elim
+    (λ (e : eqb x start ≡ true). List·Memᴰ·head (ap f (eqb-true x start e)))
+    (λ (e : eqb x start ≡ false).
+    let ne : x ≢ start = eqb-false x start e in
+    List·Memᴰ·tail (in-map f (suc start) count x (omega arith) (omega arith)))
+    (bool-cases (eqb x start))
+
+module _ (Z : Sizes) (marks : List ℕ) where
+  open Sizes Z using (n, m)
+
+  full-from : (i start count : ℕ) → ((b : ℕ) → start ≤ b → b < start + count → isFull m marks b (letter Z i) ≡ true) → fullFrom Z marks i start count ≡ true
+  unfolding fullFrom
+  full-from i start count f = all-is (λ b. isFull m marks b (letter Z i)) start count f
+
+  -- the line of mend's table for a block that a pass is filling, and for one that it has filled
+  abbrev tornLine : Pass → (b : ℕ) → Row Reading
+  tornLine forward b = forwardTorn Z marks b
+  tornLine backward b = backwardTorn Z marks b
+
+  abbrev fullLine : Pass → (b : ℕ) → Row Reading
+  fullLine forward b = forwardFull Z marks (suc b)
+  fullLine backward b = backwardFull Z marks b
+
+  torn-in : (pass : Pass) (b : ℕ) → b ≤ n → List·Memᴰ (tornLine pass b) (lines Z marks)
+  unfolding lines
+  torn-in forward b h = Memᴰ·append-left _ (in-map (forwardTorn Z marks) 0 (n + 1) b (omega arith) (omega arith))
+  torn-in backward b h =
+      Memᴰ·append-right (map (forwardTorn Z marks) (range 0 (n + 1)))
+      (Memᴰ·append-left _ (in-map (backwardTorn Z marks) 0 (n + 1) b (omega arith) (omega arith)))
+
+  full-in : (pass : Pass) (b : ℕ) → 1 ≤ edge pass b → edge pass b ≤ n → List·Memᴰ (fullLine pass b) (lines Z marks)
+  unfolding lines
+  full-in forward b h k =
+      Memᴰ·append-right (map (forwardTorn Z marks) (range 0 (n + 1)))
+      (Memᴰ·append-right (map (backwardTorn Z marks) (range 0 (n + 1)))
+      (Memᴰ·append-left _ (in-map (forwardFull Z marks) 1 n (suc b) (omega arith) (omega arith))))
+  full-in backward b h k =
+      Memᴰ·append-right (map (forwardTorn Z marks) (range 0 (n + 1)))
+      (Memᴰ·append-right (map (backwardTorn Z marks) (range 0 (n + 1)))
+      (Memᴰ·append-right (map (forwardFull Z marks) (range 1 n)) (in-map (backwardFull Z marks) 1 n b (omega arith) (omega arith))))
+
+  torn-test : (i b : ℕ) → Shape Z marks b (suc b) i → (isUnfinished m marks b && fullFrom Z marks 1 0 b && fullFrom Z marks i (b + 1) (n - b)) ≡ true
+  unfolding letter
+  torn-test i b S =
+      let between : (x : ℕ) → x < 3 → isFull m marks b x ≡ false =
+      λ x h. subst (λ (y : ℕ). isFull m marks b y ≡ false) (omega arith) (S .between b (omega arith) (omega arith) (x + 2 * Z .s)) in
+      rw (
+        unfinished-of m marks b between,
+        full-from 1 0 b (λ c h k. S .below c (omega arith)),
+        full-from i (b + 1) (n - b) (λ c h k. S .above c (omega arith) (omega arith)),
+      )
+
+  full-test : (i at : ℕ) → Shape Z marks at at i → (fullFrom Z marks 1 0 at && fullFrom Z marks i at (n + 1 - at)) ≡ true
+  full-test i at S = rw (full-from 1 0 at (λ c h k. S .below c (omega arith)), full-from i at (n + 1 - at) (λ c h k. S .above c h (omega arith)))
+
+  torn-fits : (pass : Pass) (b : ℕ) → Shape Z marks b (suc b) (letterAbove pass) → tornLine pass b .fits ≡ true
+  unfolding forwardTorn backwardTorn
+  torn-fits forward b S = torn-test 0 b S
+  torn-fits backward b S = torn-test 2 b S
+
+  full-fits : (pass : Pass) (b : ℕ) → Shape Z marks (edge pass b) (edge pass b) (letterAbove pass) → fullLine pass b .fits ≡ true
+  unfolding forwardFull backwardFull
+  full-fits forward b S = full-test 0 (suc b) S
+  full-fits backward b S = full-test 2 b S
+
+  torn-gives : (pass : Pass) (b : ℕ) → tornLine pass b .gives ≡ record { place = turnOf Z pass b * (m + 1); toErase = some b }
+  unfolding forwardTorn backwardTorn
+  torn-gives forward b = refl
+  torn-gives backward b = refl
+
+  full-gives : (pass : Pass) (b : ℕ) → fullLine pass b .gives ≡ record { place = turnOf Z pass b * (m + 1) + m; toErase = none }
+  unfolding forwardFull backwardFull
+  full-gives forward b = ap (λ (t : ℕ). record { place = t * (m + 1) + m; toErase = none }) (omega arith)
+  full-gives backward b = refl
+
+  -- a line that fits is what mend reads
+  reads : Bounds Z → all isMark marks ≡ true → (row : Row Reading) → List·Memᴰ row (lines Z marks) → row .fits ≡ true → reading Z marks ≡ some (row .gives)
+  unfolding reading legalMarks LinesAgree
+  reads B legal row inside fits =
+      rw legal
+      (firstFit-any (lines Z marks) row inside fits (λ other o f. lines-agree Z (range-in Z B) marks other row o inside f fits))
+
+-- what mend finds: a block to erase, or none
+pub data Finds (Z : Sizes) (marks : List ℕ) (place : ℕ) : Type 0 where
+  torn : filled Z place ≡ 0 → Shape Z marks (filling Z place) (suc (filling Z place)) (letterAbove (passAt Z place))
+      → reading Z marks ≡ some (record { place = place; toErase = some (filling Z place) }) → Finds Z marks place
+  full : filled Z place ≡ Z .m → MarksAt Z place marks → reading Z marks ≡ some (record { place = place; toErase = none }) → Finds Z marks place
+
+placeRead : Option Reading → ℕ
+placeRead none = 0
+placeRead (some found) = found .place
+
+module _ (Z : Sizes) (B : Bounds Z) where
+  open Sizes Z using (m)
+
+  -- where all pages of a block are written, its turn's erase is still to come
+  full-early : (place : ℕ) → place ≤ lastPlace Z → filled Z place ≡ m → place < lastPlace Z
+  full-early place h k =
+      ⊎-elim
+      (λ (e : eqb place (lastPlace Z) ≡ true).
+      let at-end : filled Z place ≡ 0 = ap (filled Z) (eqb-true place (lastPlace Z) e) ∙ last-stands Z .pages-is in
+      absurd (omega arith))
+      (λ (e : eqb place (lastPlace Z) ≡ false).
+      let ne : place ≢ lastPlace Z = eqb-false place (lastPlace Z) e in
+      omega arith)
+      (bool-cases (eqb place (lastPlace Z)))
+
+  -- so that in the backward pass it is not block 0, which is never written then
+  edge-low : (place : ℕ) → place < lastPlace Z → (pass : Pass) → passAt Z place ≡ pass → 1 ≤ edge pass (filling Z place)
+  edge-low place h forward e = omega arith
+  edge-low place h backward e = backward-low Z place h e
+
+  module _ (marks : List ℕ) where
+    pub finds : (place : ℕ) → Moment Z marks place → Finds Z marks place
+    finds place M = go (M .own)
+      where
+        pass : Pass
+        pass = passAt Z place
+
+        b : ℕ
+        b = filling Z place
+
+        number : place ≡ turnOf Z pass b * (m + 1) + filled Z place
+        number = located Z place (M .in-move) .number
+
+        go : Block Z marks place → Finds Z marks place
+        go (unfinished z q k hole) =
+            let S = shape-unfinished Z marks place M q k hole in
+            let at : turnOf Z pass b * (m + 1) ≡ place = omega (arith, number) in
+            torn z S
+            (reads Z marks B (M .legal) (tornLine Z marks pass b) (torn-in Z marks pass b (S .inside)) (torn-fits Z marks pass b S)
+            ∙ ap some (torn-gives Z marks pass b ∙ ap (λ (p : ℕ). record { place = p; toErase = some b }) at))
+        go (whole k f) =
+            let A = moment-marks Z marks place M f in
+            let S = shape-full Z place (M .in-move) marks A k in
+            let low = edge-low place (full-early place (M .in-move) k) pass refl in
+            let at : turnOf Z pass b * (m + 1) + m ≡ place = omega (arith, number) in
+            full k A
+            (reads Z marks B (M .legal) (fullLine Z marks pass b) (full-in Z marks pass b low (S .inside)) (full-fits Z marks pass b S)
+            ∙ ap some (full-gives Z marks pass b ∙ ap (λ (p : ℕ). record { place = p; toErase = none }) at))
+
+    finds-place : (place : ℕ) → Finds Z marks place → placeRead (reading Z marks) ≡ place
+    unfolding placeRead
+    finds-place place (torn z S e) = ap placeRead e
+    finds-place place (full k A e) = ap placeRead e
+
+    -- so neither mend nor read is refused for the marks
+    pub moment-fits : (place : ℕ) → Moment Z marks place → fitsNone (reading Z marks) ≡ false
+    unfolding fitsNone marksAnswer
+    moment-fits place M = go (finds place M)
+      where
+        go : Finds Z marks place → fitsNone (reading Z marks) ≡ false
+        go (torn z S e) = ap fitsNone e
+        go (full k A e) = ap fitsNone e
+
+    pub moment-unique : (one other : ℕ) → Moment Z marks one → Moment Z marks other → one ≡ other
+    moment-unique one other M N = sym (finds-place one (finds one M)) ∙ finds-place other (finds other N)

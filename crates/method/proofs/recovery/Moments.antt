@@ -1,0 +1,161 @@
+-- Moments of a move: the marks that places have, and those that cuts leave. A moment goes by the place where the move goes on after
+-- a mend, which the marks tell (Recovery).
+use mathlib.Core.Path.{_≡_, refl, sym, ap, _∙_, subst}
+use mathlib.Core.Logic.{_≢_, ⊎-elim}
+use mathlib.Core.Bool.{true}
+use mathlib.Core.List.{List}
+use Prim.Native.Nat.{ℕ, suc, _+_, _*_, _≤_, _<_}
+use native.Mathlib.Nat.{div-add-mod'}
+use native.Mathlib.Omega.{arith}
+use lib.ListN.{length}
+use borrow.Author.Tests.{lt-ltb}
+use Rattle.flash.specs.Lists.{all}
+use Rattle.flash.specs.declared.sizes.Sizes.{Sizes}
+use Rattle.flash.specs.Geometry.{isLetter, slot, marksLength, letter}
+use Rattle.flash.specs.Chip.{Chip, erased, isMark, markAt}
+use Rattle.flash.proofs.Searches.{all-of}
+use Rattle.method.specs.Move.{Move}
+use Rattle.method.specs.Place.{lastPlace, passAt, filling, filled, Held, blank, plain, code, final, above, heldAt, heldMark}
+use Rattle.method.proofs.basics.Indexes.{Order, less, same, more, order, this-or-other, each-slot}
+use Rattle.method.proofs.basics.MoveShape.{Shape, Shaped}
+use Rattle.method.proofs.basics.AcceptedCalls.{StandsAt}
+use Rattle.method.proofs.places.StepsAtPlaces.{Stands, page-cases, filling-in, last-stands}
+use Rattle.method.proofs.places.PagesHeld.{edge, MarksAt, marksOf-at, held-below, held-above, held-blank}
+use Rattle.method.proofs.places.PlaceShape.{letterAbove, which-pass, mark-above, shape-of, shape-full}
+use Rattle.method.proofs.places.Turns.{turn, resumesAt, resumes-start, resumes-there, start-stands}
+
+module _ (Z : Sizes) where
+  open Sizes Z using (n, m)
+
+  -- Of the block that is being filled a page is not written, and the others are anything; or all are as the place has them.
+  pub data Block (marks : List ℕ) (place : ℕ) : Type 0 where
+    unfinished : filled Z place ≡ 0 → (q : ℕ) → q < m → markAt marks (slot m (filling Z place) q) ≡ erased → Block marks place
+    whole : filled Z place ≡ m → ((q : ℕ) → q < m → markAt marks (slot m (filling Z place) q) ≡ heldMark Z (heldAt Z place (filling Z place) q)) → Block marks place
+
+  -- "at most one block is unfinished": all others are as the place has them
+  pub record Moment (marks : List ℕ) (place : ℕ) : Type 0 where
+    pub in-move : place ≤ lastPlace Z
+    pub marks-length : length marks ≡ marksLength Z
+    pub legal : all isMark marks ≡ true
+    pub others : (b q : ℕ) → b ≢ filling Z place → b ≤ n → q < m → markAt marks (slot m b q) ≡ heldMark Z (heldAt Z place b q)
+    pub own : Block marks place
+
+  -- ---- places
+  mark-legal : (held : Held) → isMark (heldMark Z held) ≡ true
+  unfolding isMark isLetter heldMark letter
+  mark-legal blank = refl
+  mark-legal plain = rw (lt-ltb (letter Z 0) 3 (omega arith))
+  mark-legal code = rw (lt-ltb (letter Z 1) 3 (omega arith))
+  mark-legal final = rw (lt-ltb (letter Z 2) 3 (omega arith))
+
+  -- marks are legal if that of each page is
+  pub all-legal : (marks : List ℕ) → length marks ≡ marksLength Z → ((b q : ℕ) → b ≤ n → q < m → isMark (markAt marks (slot m b q)) ≡ true) → all isMark marks ≡ true
+  unfolding markAt
+  all-legal marks size f =
+      all-of isMark marks erased
+      (λ t h. each-slot m (n + 1) (λ u. isMark (markAt marks u) ≡ true) (λ b q l k. f b q (omega arith) k) t (rw size at h))
+
+  -- outside the block that is being filled, the places of a turn are alike
+  held-around : (place other : ℕ) → passAt Z place ≡ passAt Z other → filling Z place ≡ filling Z other → (b q : ℕ) → b ≢ filling Z place → heldAt Z place b q ≡ heldAt Z other b q
+  held-around place other e f b q apart = go (order b (filling Z place))
+    where
+      go : Order b (filling Z place) → heldAt Z place b q ≡ heldAt Z other b q
+      go (less l) = held-below Z place b q l ∙ sym (held-below Z other b q (omega arith))
+      go (same l) = absurd (apart l)
+      go (more l) = held-above Z place b q l ∙ ap above e ∙ sym (held-above Z other b q (omega arith))
+
+  module _ (place : ℕ) (in-move : place ≤ lastPlace Z) (marks : List ℕ) (A : MarksAt Z place marks) where
+    pub marks-legal : all isMark marks ≡ true
+    marks-legal = all-legal marks (A .length-is) (λ b q h k. rw (A .mark-is b q h k) (mark-legal (heldAt Z place b q)))
+
+    filling-moment : filled Z place < m → (start : ℕ) → start ≤ lastPlace Z → Stands Z start (passAt Z place) (filling Z place) 0 → Moment marks start
+    unfolding heldMark
+    filling-moment k start h S = record {
+      in-move = h;
+      marks-length = A .length-is;
+      legal = marks-legal;
+      others = λ b q apart l r.
+          A .mark-is b q l r
+          ∙ ap (heldMark Z) (held-around place start (sym (S .pass-is)) (sym (S .block-is)) b q (λ e. apart (e ∙ sym (S .block-is))));
+      own =
+          unfinished (S .pages-is) (filled Z place) k
+          (ap (λ (b : ℕ). markAt marks (slot m b (filled Z place))) (S .block-is)
+          ∙ A .mark-is (filling Z place) (filled Z place) (filling-in Z place in-move) k
+          ∙ ap (heldMark Z) (held-blank Z place (filling Z place) (filled Z place) refl (omega arith)));
+    }
+
+    full-moment : filled Z place ≡ m → Moment marks place
+    full-moment k = record {
+      in-move = in-move;
+      marks-length = A .length-is;
+      legal = marks-legal;
+      others = λ b q apart. A .mark-is b q;
+      own = whole k (λ q. A .mark-is (filling Z place) q (filling-in Z place in-move));
+    }
+
+    pub place-moment : Moment marks (resumesAt Z place)
+    place-moment =
+        ⊎-elim
+        (λ k.
+        let start-in : turn Z place * (m + 1) ≤ lastPlace Z = omega (arith, div-add-mod' place (m + 1)) in
+        subst (Moment marks) (sym (resumes-start Z place k)) (filling-moment k (turn Z place * (m + 1)) start-in (start-stands Z place in-move)))
+        (λ k. subst (Moment marks) (sym (resumes-there Z place k)) (full-moment k))
+        (page-cases Z place)
+
+  -- ---- the end of the move
+  -- all data blocks are full of s + 2
+  pub finished-marks : (marks : List ℕ) → Moment marks (lastPlace Z) → (b q : ℕ) → 1 ≤ b → b ≤ n → q < m → markAt marks (slot m b q) ≡ letter Z 2
+  unfolding heldMark above
+  finished-marks marks M b q low h k =
+      let E = last-stands Z in
+      let at-end = E .block-is in
+      M .others b q (omega arith) h k ∙ ap (heldMark Z) (held-above Z (lastPlace Z) b q (omega arith) ∙ ap above (E .pass-is))
+
+  -- ---- shapes
+  module _ (marks : List ℕ) (place : ℕ) (M : Moment marks place) where
+    -- with no block unfinished, the marks are those of the place
+    pub moment-marks : ((q : ℕ) → q < m → markAt marks (slot m (filling Z place) q) ≡ heldMark Z (heldAt Z place (filling Z place) q)) → MarksAt Z place marks
+    moment-marks f = record {
+      length-is = M .marks-length;
+      mark-is = λ b q h k.
+          this-or-other (λ c. markAt marks (slot m c q) ≡ heldMark Z (heldAt Z place c q)) (filling Z place) b (f q k) (λ apart. M .others b q apart h k);
+    }
+
+    pub shape-unfinished : (q : ℕ) → q < m → markAt marks (slot m (filling Z place) q) ≡ erased → Shape Z marks (filling Z place) (suc (filling Z place)) (letterAbove (passAt Z place))
+    unfolding heldMark
+    shape-unfinished q k hole =
+        let inside = filling-in Z place (M .in-move) in
+        shape-of Z marks (filling Z place) (suc (filling Z place)) (letterAbove (passAt Z place))
+        (record {
+          below = λ b p h l. M .others b p (omega arith) (omega arith) l ∙ ap (heldMark Z) (held-below Z place b p h);
+          above = λ b p h r l. M .others b p (omega arith) r l ∙ ap (heldMark Z) (held-above Z place b p h) ∙ mark-above Z (passAt Z place);
+          between = λ b h l.
+              (q, k, subst (λ (c : ℕ). markAt marks (slot m c q) ≡ erased) (omega arith) hole);
+          order = omega arith;
+          near = omega arith;
+          inside = inside;
+        })
+
+  pub moment-shape : (marks : List ℕ) (place : ℕ) → Moment marks place → Shaped Z marks
+  moment-shape marks place M = go (M .own)
+    where
+      go : Block marks place → Shaped Z marks
+      go (unfinished z q k hole) = record {
+        low = filling Z place;
+        high = suc (filling Z place);
+        i = letterAbove (passAt Z place);
+        shape = shape-unfinished marks place M q k hole;
+        pass = which-pass (passAt Z place);
+      }
+      go (whole k f) = record {
+        low = edge (passAt Z place) (filling Z place);
+        high = edge (passAt Z place) (filling Z place);
+        i = letterAbove (passAt Z place);
+        shape = shape-full Z place (M .in-move) marks (moment-marks marks place M f) k;
+        pass = which-pass (passAt Z place);
+      }
+
+-- a chip that stands at a place
+pub stands-moment : (M : Move) (chip : Chip) (place : ℕ) → StandsAt M chip place → Moment (M .sizes) (chip .marks) (resumesAt (M .sizes) place)
+stands-moment M chip place S =
+    place-moment (M .sizes) place (S .inside) (chip .marks) (subst (MarksAt (M .sizes) place) (sym (S .marks)) (marksOf-at (M .sizes) place))

@@ -1,0 +1,4 @@
+-- The numbers that calls return.
+pub mod LowestReturned
+pub mod ListRefusals
+pub mod AnswerBounds

@@ -1,0 +1,9 @@
+-- Runs lead from place to place, and keep what pages hold.
+pub mod NextPlace
+pub mod PagesWritten
+pub mod StepsKeepPages
+pub mod StepsLeadOn
+pub mod StatesOfPlaces
+pub mod AtRest
+pub mod StepsAddUp
+pub mod RunsAddUp

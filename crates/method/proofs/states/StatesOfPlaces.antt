@@ -1,0 +1,169 @@
+-- Store and marks as a place has them, with whole pages that hold what they should, are the state of that place.
+use mathlib.Core.Path.{_≡_, refl, sym, ap, ap₂, _∙_, subst}
+use mathlib.Core.Logic.{⊎-elim}
+use mathlib.Core.Bool.{true, false}
+use mathlib.Core.List.{List, _++_}
+use Prim.Native.Nat.{ℕ, zero, suc, _+_, _-_, _*_, _/_, _%_, _≤_, _<_}
+use native.Mathlib.Nat.{div-add-mod', mod-lt, div-lt-iff-lt-mul, suc-mul, not-suc-le-zero, le-of-suc-le-suc}
+use native.Mathlib.Omega.{arith}
+use lib.Dec.{ltb}
+use borrow.Author.Tests.{ltb-true, ltb-false}
+use lib.ListN.{length, getD, take, drop, length-append}
+use lib.Seq.{take-at, drop-at, drop-drop}
+use Rattle.flash.specs.Lists.{range, part, concatMap}
+use Rattle.flash.specs.declared.sizes.Sizes.{Sizes}
+use Rattle.flash.specs.Geometry.{slot, slotOf, numberAt, slotCount, storeLength}
+use Rattle.flash.specs.Chip.{Chip, pageAt, markAt}
+use Rattle.flash.proofs.Bools.{bool-cases}
+use Rattle.flash.proofs.Bounds.{slot-in-marks, slot-in-store}
+use Rattle.flash.proofs.Parts.{length-part, parts-ext}
+use Rattle.flash.proofs.Sums.{sum-one}
+use Rattle.flash.proofs.Chips.{page-is, blank-page}
+use Rattle.method.specs.Move.{Move}
+use Rattle.method.specs.Cycle.{sentTo}
+use Rattle.method.specs.Place.{Pass, forward, backward, Held, blank, plain, code, final, written, above, lastPlace, passAt, filling, filled, heldAt, heldMark}
+use Rattle.method.specs.State.{heldOriginals, heldPage, stateOf}
+use Rattle.method.proofs.basics.MoveShape.{Accepted, Holding}
+use Rattle.method.proofs.basics.AcceptedCalls.{StandsAt}
+use Rattle.method.proofs.basics.Indexes.{Order, less, same, more, order, slot-div, slot-mod}
+use Rattle.method.proofs.cycles.SetCycles.{sent-in, entry-sent}
+use Rattle.method.proofs.places.StepsAtPlaces.{forward-high, filling-in, backward-low, last-stands}
+use Rattle.method.proofs.places.PagesHeld.{held-below, held-above, held-written, held-blank, MarksAt, marksOf-at}
+use Rattle.method.proofs.states.PagesWritten.{number-in}
+
+-- pages of one size, one after the other
+length-pages : (size : ℕ) (page : ℕ → List ℕ) (start count : ℕ) → ((t : ℕ) → start ≤ t → t < start + count → length (page t) ≡ size) → length (concatMap page (range start count)) ≡ count * size
+unfolding concatMap range
+length-pages size page start zero each = omega arith
+length-pages size page start (suc count) each =
+    length-append (page start) (concatMap page (range (suc start) count))
+    ∙ omega (arith, each start (omega arith) (omega arith), length-pages size page (suc start) count (λ t a b. each t (omega arith) (omega arith)), suc-mul count size)
+
+page-of : (size : ℕ) (page : ℕ → List ℕ) (start count i : ℕ) → ((t : ℕ) → start ≤ t → t < start + count → length (page t) ≡ size) → i < count
+    → part size i (concatMap page (range start count)) ≡ page (start + i)
+unfolding concatMap range part
+page-of size page start zero i each h = absurd (not-suc-le-zero h)
+page-of size page start (suc count) zero each h =
+    let none : 0 * size ≡ 0 = omega arith in
+    let s : start + 0 ≡ start = omega arith in
+    rw (none, s) (take-at (page start) (concatMap page (range (suc start) count)) size (each start (omega arith) (omega arith)))
+page-of size page start (suc count) (suc i) each h =
+    let rest = concatMap page (range (suc start) count) in
+    let split : suc i * size ≡ size + i * size = omega (arith, suc-mul i size) in
+    let s : suc start + i ≡ start + suc i = omega arith in
+    ap (λ (k : ℕ). take size (drop k (page start ++ rest))) split
+    ∙ ap (take size) (sym (drop-drop (i * size) size (page start ++ rest)))
+    ∙ ap (λ (l : List ℕ). take size (drop (i * size) l)) (drop-at (page start) rest size (each start (omega arith) (omega arith)))
+    ∙ page-of size page (suc start) count i (λ t a b. each t (omega arith) (omega arith)) (le-of-suc-le-suc h)
+    ∙ ap page s
+
+-- a page number and its block and page
+pub slot-number : (m b q : ℕ) → 1 ≤ b → q < m → slotOf m (numberAt m b q) ≡ slot m b q
+slot-number m b q l h =
+    let block : (b - 1) + 1 ≡ b = omega arith in
+    ap₂ (slot m) (ap (λ (x : ℕ). x + 1) (slot-div m (b - 1) q h) ∙ block) (slot-mod m (b - 1) q h)
+
+module _ (M : Move) (A : Accepted M) (originals : List ℕ) (chip : Chip) (place : ℕ) (S : StandsAt M chip place) (size : length (chip .store) ≡ storeLength (M .sizes)) (H : Holding M originals chip) where
+  open Sizes (M .sizes) using (n, m, p as P)
+
+  abbrev Z : Sizes
+  Z = M .sizes
+
+  abbrev original : ℕ → List ℕ
+  original k = part P k originals
+
+  marks-here : MarksAt Z place (chip .marks)
+  marks-here = subst (MarksAt Z place) (sym (S .marks)) (marksOf-at Z place)
+
+  module _ (b q : ℕ) (b-in : b ≤ n) (q-in : q < m) where
+    abbrev page : List ℕ
+    page = pageAt P chip (slot m b q)
+
+    marked : (h : Held) → heldAt Z place b q ≡ h → markAt (chip .marks) (slot m b q) ≡ heldMark Z h
+    marked h e = marks-here .mark-is b q b-in q-in ∙ ap (heldMark Z) e
+
+    is-blank : heldAt Z place b q ≡ blank → page ≡ heldPage M originals blank b q
+    unfolding heldMark heldPage
+    is-blank e =
+        let inside = slot-in-marks Z b q b-in q-in in
+        blank-page P chip (slot m b q) (rw size (slot-in-store Z (slot m b q) inside)) (S .blank (slot m b q) inside (marked blank e))
+
+    is-plain : 1 ≤ b → heldAt Z place b q ≡ plain → page ≡ heldPage M originals plain b q
+    unfolding heldMark heldPage heldOriginals
+    is-plain l e =
+        let at = slot-number m b q l q-in in
+        ap (pageAt P chip) (sym at) ∙ H .plain (numberAt m b q) (number-in M A b q l b-in q-in) (ap (markAt (chip .marks)) at ∙ marked plain e)
+        ∙ sym (sum-one original (numberAt m b q))
+
+    is-code : b < n → heldAt Z place b q ≡ code → page ≡ heldPage M originals code b q
+    unfolding heldMark heldPage heldOriginals
+    is-code l e =
+        let down : b + 1 - 1 ≡ b = omega arith in
+        ap (λ (x : ℕ). pageAt P chip (slot m x q)) (sym down)
+        ∙ H .code q (b + 1) q-in (omega arith) (omega arith) (ap (λ (x : ℕ). markAt (chip .marks) (slot m x q)) down ∙ marked code e)
+
+    is-final : 1 ≤ b → heldAt Z place b q ≡ final → page ≡ heldPage M originals final b q
+    unfolding heldMark heldPage heldOriginals
+    is-final l e =
+        let number = numberAt m b q in
+        let inside = number-in M A b q l b-in q-in in
+        let at : slotOf m (getD (M .list) (sentTo M number) 0) ≡ slot m b q = ap (slotOf m) (entry-sent M A number inside) ∙ slot-number m b q l q-in in
+        ap (pageAt P chip) (sym at) ∙ H .final (sentTo M number) (sent-in M A number inside) (ap (markAt (chip .marks)) at ∙ marked final e)
+        ∙ sym (sum-one original (sentTo M number))
+
+    held-as : (h : Held) → heldAt Z place b q ≡ h → page ≡ heldPage M originals h b q → page ≡ heldPage M originals (heldAt Z place b q) b q
+    held-as h e p = p ∙ ap (λ (x : Held). heldPage M originals x b q) (sym e)
+
+    over : (pass : Pass) → passAt Z place ≡ pass → filling Z place < b → page ≡ heldPage M originals (heldAt Z place b q) b q
+    unfolding above
+    over forward e l = (let h = held-above Z place b q l ∙ ap above e in held-as plain h (is-plain (omega arith) h))
+    over backward e l = (let h = held-above Z place b q l ∙ ap above e in held-as final h (is-final (omega arith) h))
+
+    -- with a page written in its block the move is not over
+    before-end : q < filled Z place → place < lastPlace Z
+    before-end l = ⊎-elim
+        (λ (e : ltb place (lastPlace Z) ≡ true). ltb-true place (lastPlace Z) e)
+        (λ (e : ltb place (lastPlace Z) ≡ false).
+        let at-end : place ≡ lastPlace Z = omega (arith, ltb-false place (lastPlace Z) e, S .inside) in
+        absurd (omega (arith, ap (filled Z) at-end ∙ last-stands Z .pages-is)))
+        (bool-cases (ltb place (lastPlace Z)))
+
+    inside : (pass : Pass) → passAt Z place ≡ pass → b ≡ filling Z place → q < filled Z place → page ≡ heldPage M originals (heldAt Z place b q) b q
+    unfolding written
+    inside forward e f l =
+        let h = held-written Z place b q f l ∙ ap written e in
+        held-as code h (is-code (omega (arith, forward-high Z place (S .inside) e)) h)
+    inside backward e f l =
+        let h = held-written Z place b q f l ∙ ap written e in
+        held-as final h (is-final (omega (arith, backward-low Z place (before-end l) e)) h)
+
+    pub page-held : page ≡ heldPage M originals (heldAt Z place b q) b q
+    page-held = go (order b (filling Z place)) (order q (filled Z place))
+      where
+        go : Order b (filling Z place) → Order q (filled Z place) → page ≡ heldPage M originals (heldAt Z place b q) b q
+        go (less l) _ = (let h = held-below Z place b q l in held-as code h (is-code (omega (arith, filling-in Z place (S .inside))) h))
+        go (more l) _ = over (passAt Z place) refl l
+        go (same f) (less l) = inside (passAt Z place) refl f l
+        go (same f) (same k) = (let h = held-blank Z place b q f (omega arith) in held-as blank h (is-blank h))
+        go (same f) (more l) = (let h = held-blank Z place b q f (omega arith) in held-as blank h (is-blank h))
+
+  abbrev stored : ℕ → List ℕ
+  stored t = heldPage M originals (heldAt Z place (t / m) (t % m)) (t / m) (t % m)
+
+  page-stored : (t : ℕ) → t < slotCount Z → pageAt P chip t ≡ stored t
+  page-stored t h =
+      let block : t / m < n + 1 = div-lt-iff-lt-mul (A .ranges .m-low) .1 h in
+      ap (pageAt P chip) (sym (div-add-mod' t m)) ∙ page-held (t / m) (t % m) (omega arith) (mod-lt t (A .ranges .m-low))
+
+  stored-length : (t : ℕ) → t < slotCount Z → length (stored t) ≡ P
+  stored-length t h = ap length (sym (page-stored t h) ∙ page-is P chip t) ∙ length-part P t (chip .store) (rw size (slot-in-store Z t h))
+
+  pub is-state : chip ≡ stateOf M originals place
+  unfolding stateOf
+  is-state =
+      let each : (t : ℕ) → 0 ≤ t → t < 0 + slotCount Z → length (stored t) ≡ P = λ t a b. stored-length t (omega arith) in
+      ap₂ {C = Chip} (λ (s t : List ℕ). record { store = s; marks = t })
+      (parts-ext P (slotCount Z) (chip .store) (concatMap stored (range 0 (slotCount Z))) size (length-pages P stored 0 (slotCount Z) each)
+      (λ t h. let zero-first : 0 + t ≡ t = omega arith in
+      sym (page-is P chip t) ∙ page-stored t h ∙ ap stored (sym zero-first) ∙ sym (page-of P stored 0 (slotCount Z) t each h)))
+      (S .marks)
