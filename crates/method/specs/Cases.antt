@@ -1,5 +1,5 @@
 -- Document 01, "Checked by hand": the cases marked P, the program's case step by step, and source document 002's example.
--- One list; that each case holds is proved in proofs/Cases.antt by computing the definitions.
+-- One list; that each case holds is proved in proofs/examples/Cases.antt by computing the definitions.
 use mathlib.Core.Bool.{Bool, true, false}
 use mathlib.Core.Path.{_≡_}
 use mathlib.Core.List.{List, [], _∷_, _++_, map}
