@@ -8,18 +8,9 @@ use lib.Arith.{digits-lt}
 use lib.Dec.{leb, ltb}
 use borrow.Author.Tests.{leb-true, ltb-true, le-leb, lt-ltb}
 use Rattle.flash.specs.declared.sizes.Sizes.{Sizes}
-use Rattle.flash.specs.Geometry.{isLetter, inRange, slot, slotCount, storeLength}
+use Rattle.flash.specs.Geometry.{isLetter, inRange, Bounds, slot, slotCount, storeLength}
 use Rattle.flash.proofs.Bools.{and-left, and-right}
 use Rattle.flash.proofs.Parts.{part-fits}
-
-pub record Bounds (Z : Sizes) : Type 0 where
-  pub n-low : 1 ≤ Z .n
-  pub n-high : Z .n ≤ 64
-  pub m-low : 1 ≤ Z .m
-  pub m-high : Z .m ≤ 64
-  pub p-low : 1 ≤ Z .p
-  pub p-high : Z .p ≤ 4096
-  pub s-high : Z .s < 3
 
 pub in-range : (Z : Sizes) → inRange Z ≡ true → Bounds Z
 unfolding inRange isLetter

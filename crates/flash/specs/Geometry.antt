@@ -1,6 +1,6 @@
 -- Document 01, "The store": the sizes, where a page lies, and how long each lent part is.
 use mathlib.Core.Bool.{Bool, _&&_}
-use Prim.Native.Nat.{ℕ, _+_, _-_, _*_, _/_, _%_}
+use Prim.Native.Nat.{ℕ, _+_, _-_, _*_, _/_, _%_, _≤_, _<_}
 use lib.Dec.{leb, ltb}
 use Rattle.flash.specs.declared.sizes.Sizes.{Sizes}
 
@@ -15,6 +15,16 @@ letter Z i = (Z .s + i) % 3
 unfoldable pub inRange : Sizes → Bool
 inRange Z =
     leb 1 (Z .n) && leb (Z .n) 64 && leb 1 (Z .m) && leb (Z .m) 64 && leb 1 (Z .p) && leb (Z .p) 4096 && isLetter (Z .s)
+
+-- the same as facts about the numbers
+pub record Bounds (Z : Sizes) : Type 0 where
+  pub n-low : 1 ≤ Z .n
+  pub n-high : Z .n ≤ 64
+  pub m-low : 1 ≤ Z .m
+  pub m-high : Z .m ≤ 64
+  pub p-low : 1 ≤ Z .p
+  pub p-high : Z .p ≤ 4096
+  pub s-high : Z .s < 3
 
 -- "A slot is block × m + page (page 0 to m − 1)."
 abbrev pub slot : (m block page : ℕ) → ℕ

@@ -5,8 +5,8 @@ ghost use Prim.Native.Nat.{_+_, _*_, _≤_};
 ghost use lib.ListN.{length};
 ghost use Rattle.flash.specs.Chip.{Holds, isFull, eraseBlock};
 use crate::ERASED;
-use crate::part::fill;
-use crate::part::is_filled;
+use crate::bytes::fill;
+use crate::bytes::is_filled;
 
 // All pages of the block become blank. Its parts of the store and of the marks are lent on, so nothing beside it can change.
 pub fn erase_block(store: &mut [u8], marks: &mut [u8], m: usize, p: usize, block: usize)

@@ -2,11 +2,11 @@
 // A function here may have a `requires`: only the crates above call it, and their proofs show it.
 
 pub mod block;
+pub mod bytes;
+pub mod casts;
 pub mod page;
-pub mod part;
 pub mod quotient;
 pub mod sizes;
-pub mod wide;
 
 // A byte or a mark that is not written.
 pub const ERASED: u8 = 255;

@@ -7,8 +7,8 @@ ghost use Rattle.flash.specs.Lists.{part};
 ghost use Rattle.flash.specs.PageSum.{oneOrBoth, putOrAdd};
 ghost use Rattle.flash.specs.Chip.{Holds, isBlank, writePage};
 use crate::ERASED;
-use crate::part::is_filled;
-use crate::part::put_or_add;
+use crate::bytes::is_filled;
+use crate::bytes::put_or_add;
 
 // A slot's page, or the sum of two slots' pages, is put into the work page or added to it.
 pub fn read_pages(

@@ -17,40 +17,46 @@ pub struct Sizes {
 }
 
 // Whether the sizes are in their ranges. Nothing is multiplied before they are.
-pub fn in_range(z: Sizes) -> bool
-    ensures { λ r. ⌜ r ≡ inRange z ⌝ }
+pub fn in_range(sizes: Sizes) -> bool
+    ensures { λ r. ⌜ r ≡ inRange sizes ⌝ }
 {
-    (1 <= z.n) & (z.n <= 64) & (1 <= z.m) & (z.m <= 64) & (1 <= z.p) & (z.p <= 4096) & (z.s < 3)
+    (1 <= sizes.n)
+        & (sizes.n <= 64)
+        & (1 <= sizes.m)
+        & (sizes.m <= 64)
+        & (1 <= sizes.p)
+        & (sizes.p <= 4096)
+        & (sizes.s < 3)
 }
 
 // How many originals there are, which is the length of the list and of the set bytes.
-pub fn original_count(z: Sizes) -> usize
-    requires { ⌜ (z .n ≤ 64) × (z .m ≤ 64) ⌝ }
-    ensures { λ r. ⌜ r ≡ originalCount z ⌝ }
+pub fn original_count(sizes: Sizes) -> usize
+    requires { ⌜ (sizes .n ≤ 64) × (sizes .m ≤ 64) ⌝ }
+    ensures { λ r. ⌜ r ≡ originalCount sizes ⌝ }
 {
-    z.n * z.m
+    sizes.n * sizes.m
 }
 
 // How many slots there are, which is the length of the marks.
-pub fn slot_count(z: Sizes) -> usize
-    requires { ⌜ (z .n ≤ 64) × (z .m ≤ 64) ⌝ }
-    ensures { λ r. ⌜ r ≡ slotCount z ⌝ }
+pub fn slot_count(sizes: Sizes) -> usize
+    requires { ⌜ (sizes .n ≤ 64) × (sizes .m ≤ 64) ⌝ }
+    ensures { λ r. ⌜ r ≡ slotCount sizes ⌝ }
 {
-    (z.n + 1) * z.m
+    (sizes.n + 1) * sizes.m
 }
 
 // The length of the store.
-pub fn store_length(z: Sizes) -> usize
-    requires { ⌜ (z .n ≤ 64) × (z .m ≤ 64) × (z .p ≤ 4096) ⌝ }
-    ensures { λ r. ⌜ r ≡ storeLength z ⌝ }
+pub fn store_length(sizes: Sizes) -> usize
+    requires { ⌜ (sizes .n ≤ 64) × (sizes .m ≤ 64) × (sizes .p ≤ 4096) ⌝ }
+    ensures { λ r. ⌜ r ≡ storeLength sizes ⌝ }
 {
-    slot_count(z) * z.p
+    slot_count(sizes) * sizes.p
 }
 
 // The letter that comes `i` after the start letter.
-pub fn letter_after(z: Sizes, i: usize) -> u8
-    requires { ⌜ (z .s < 3) × (i < 3) ⌝ }
-    ensures { λ r. ⌜ r ≡ letter z i ⌝ }
+pub fn letter_after(sizes: Sizes, i: usize) -> u8
+    requires { ⌜ (sizes .s < 3) × (i < 3) ⌝ }
+    ensures { λ r. ⌜ r ≡ letter sizes i ⌝ }
 {
-    ((z.s + i) % 3) as u8
+    ((sizes.s + i) % 3) as u8
 }

@@ -4,6 +4,6 @@ pub mod PrintLaws
 pub mod WordLaws
 pub mod NumberLaws
 pub mod TakeLaws
-pub mod RequestLaws
+pub mod InputLaws
 pub mod ReadBack
 pub mod Exampled

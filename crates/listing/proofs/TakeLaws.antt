@@ -12,12 +12,12 @@ use lib.ListN.{length, getD, take, drop, set, take-append-drop}
 use lib.Seq.{take-suc-set, length-take-le}
 use borrow.Author.Tests.{ne-eqb}
 use denote.Enum.Declared.{tagOf}
-use Rattle.listing.specs.declared.number.Found.{Found}
-use Rattle.listing.specs.declared.number.Found.the-variants.{Number, Malformed, End}
+use Rattle.listing.specs.declared.number.Word.{Word}
+use Rattle.listing.specs.declared.number.Word.the-variants.{Number, Malformed, End}
 use Rattle.listing.specs.Numbers.{numbersIn, Next, number, malformed, end, next, taken, numbersMet}
 use Rattle.listing.specs.Area.{over}
-use Rattle.listing.specs.inner.Found.{toldAs}
-use Rattle.listing.proofs.number.Found.{the-type}
+use Rattle.listing.specs.ReaderAnswers.{toldAs}
+use Rattle.listing.proofs.number.Word.{the-type}
 
 -- the code found a number
 pub went-on : (text : List ℕ) (value at : ℕ) (words : List (Option ℕ)) → number value (numbersIn (drop at text)) ≡ next words → words ≡ some value ∷ numbersIn (drop at text)
@@ -27,7 +27,7 @@ went-on text value at (none ∷ words) e = absurd (let z : _≡_ {A = ℕ} 0 1 =
 went-on text value at (some x ∷ words) e = cc
 
 -- the code found none: its answer is another variant, by the variants' numbers
-pub stopped : (text : List ℕ) (r : Found) (words : List (Option ℕ)) (values : List ℕ) (count : ℕ) → (tagOf the-type r ≡ 1) ⊎ (tagOf the-type r ≡ 2) → toldAs text r ≡ next words → taken values (suc count) words ≡ none
+pub stopped : (text : List ℕ) (r : Word) (words : List (Option ℕ)) (values : List ℕ) (count : ℕ) → (tagOf the-type r ≡ 1) ⊎ (tagOf the-type r ≡ 2) → toldAs text r ≡ next words → taken values (suc count) words ≡ none
 unfolding taken next
 stopped text r [] values count t e = refl
 stopped text r (none ∷ words) values count t e = refl
@@ -43,7 +43,7 @@ taken-more values (suc count) value words rest h e =
     rw (e, k)
 
 -- ---- the numbers met, as the code puts them down
-pub met-stopped : (text : List ℕ) (r : Found) (words : List (Option ℕ)) (count : ℕ) → (tagOf the-type r ≡ 1) ⊎ (tagOf the-type r ≡ 2) → toldAs text r ≡ next words → numbersMet (suc count) words ≡ []
+pub met-stopped : (text : List ℕ) (r : Word) (words : List (Option ℕ)) (count : ℕ) → (tagOf the-type r ≡ 1) ⊎ (tagOf the-type r ≡ 2) → toldAs text r ≡ next words → numbersMet (suc count) words ≡ []
 unfolding numbersMet next
 met-stopped text r [] count t e = refl
 met-stopped text r (none ∷ words) count t e = refl

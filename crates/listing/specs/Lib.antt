@@ -1,7 +1,7 @@
 pub mod Area
 pub mod Numbers
-pub mod Request
+pub mod Input
+pub mod ReaderAnswers
 pub mod Digits
 pub mod Lines
 pub mod Examples
-pub mod inner

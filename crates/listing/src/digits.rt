@@ -6,7 +6,7 @@ ghost use lib.ListN.{length};
 ghost use Rattle.flash.specs.Lists.{concatMap};
 ghost use Rattle.listing.specs.Digits.{digitOf, digits, places, decimal, hex};
 ghost use Rattle.listing.specs.Lines.{Printed};
-use flash::wide::wide;
+use flash::casts::wide;
 
 fn digit_of(d: usize) -> u8
     requires { ⌜ d < 16 ⌝ }

@@ -2,9 +2,9 @@
 // A function that prints requires the room that its text takes; those that read require nothing of the text.
 pub mod digits;
 pub mod fit;
+pub mod input;
 pub mod lines;
 mod number;
-pub mod request;
 
 ghost use Rattle.listing.specs.Examples.{PrintedIsRead, Examples};
 

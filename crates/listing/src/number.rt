@@ -4,12 +4,12 @@ ghost use mathlib.Core.Bool.{false};
 ghost use Prim.Native.Nat.{_-_, _≤_, _<_};
 ghost use lib.ListN.{length, getD, drop};
 ghost use Rattle.listing.specs.Numbers.{isSeparator, isDigit, numbersIn, next};
-ghost use Rattle.listing.specs.inner.Found.{toldAs};
+ghost use Rattle.listing.specs.ReaderAnswers.{toldAs};
 
 const MOST_DIGITS: usize = 5;
 
 // What is found from a position on.
-pub enum Found {
+pub enum Word {
     // A number, and the position behind it.
     Number { value: u32, next: usize },
     // A word that is no number.
@@ -53,7 +53,7 @@ fn skip(text: &[u8], from: usize) -> usize
 }
 
 // The number that starts at a position where no separator stands.
-fn spelled(text: &[u8], start: usize) -> Found
+fn spelled(text: &[u8], start: usize) -> Word
     requires { ⌜ (start < length (now text) → isSeparator (getD (now text) start 0) ≡ false) ⌝ }
     ensures { λ r. ⌜ toldAs (now (text .entry)) r ≡ next (numbersIn (drop start (now (text .entry)))) ⌝ }
 {
@@ -62,26 +62,26 @@ fn spelled(text: &[u8], start: usize) -> Found
     while at < text.len() {
         let byte = text[at];
         if is_separator(byte) {
-            return Found::Number { value, next: at };
+            return Word::Number { value, next: at };
         }
         if at - start == MOST_DIGITS {
-            return Found::Malformed;
+            return Word::Malformed;
         }
         if !is_digit(byte) {
-            return Found::Malformed;
+            return Word::Malformed;
         }
         value = value * 10 + digit_value(byte);
         at += 1;
     }
     if at == start {
-        Found::End
+        Word::End
     } else {
-        Found::Number { value, next: at }
+        Word::Number { value, next: at }
     }
 }
 
 // The first number from a position on.
-pub fn number(text: &[u8], from: usize) -> Found
+pub fn number(text: &[u8], from: usize) -> Word
     ensures { λ r. ⌜ toldAs (now (text .entry)) r ≡ next (numbersIn (drop from (now (text .entry)))) ⌝ }
 {
     spelled(text, skip(text, from))

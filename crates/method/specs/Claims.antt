@@ -14,7 +14,7 @@ use Rattle.flash.specs.Chip.{Chip, isWhole, isUnfinished}
 use Rattle.split.specs.OneToOne.{isOneToOne}
 use Rattle.split.specs.Split.{setOf, isSplit}
 use Rattle.split.specs.Answer.{splitRows}
-use Rattle.method.specs.Move.{Move}
+use Rattle.method.specs.Move.{Move, AcceptedMove}
 use Rattle.method.specs.Cycle.{dest, top}
 use Rattle.method.specs.Read.{fullOf, goBack, goOn, readSlots}
 use Rattle.method.specs.Place.{Pass, write, erase, done, operations, lastPlace, operationAt, passAt, blank, heldAt, marksOf}
@@ -56,14 +56,6 @@ pub record PagesRise : Type 0 where
       → operationAt Z p ≡ write one b i → operationAt Z q ≡ write other b j → p < q
       → ((r : ℕ) → p < r → r < q → operationAt Z r ≢ erase b) → i < j
   pub only-blank : (Z : Sizes) (place : ℕ) (pass : Pass) (b q : ℕ) → operationAt Z place ≡ write pass b q → heldAt Z place b q ≡ blank
-
--- a move that rows 1 to 4 of the table let pass
-pub record AcceptedMove (M : Move) : Type 0 where
-  pub ranges : inRange (M .sizes) ≡ true
-  pub list-length : length (M .list) ≡ listLength (M .sizes)
-  pub sets-length : length (M .sets) ≡ setsLength (M .sizes)
-  pub one-to-one : isOneToOne (originalCount (M .sizes)) (M .list) ≡ true
-  pub split : isSplit (M .sizes .n) (M .sizes .m) (M .list) (M .sets) ≡ true
 
 -- the blocks of i's cycle: i, the block where its page goes, and so on
 pub data InCycle (M : Move) (set i : ℕ) : (j : ℕ) → Type 0 where

@@ -16,7 +16,7 @@ use Rattle.method.specs.Mend.{reading}
 use Rattle.method.specs.Read.{readSlots, readPage}
 use Rattle.method.specs.Answers.{fitsNone, moveRows, readRows, readAnswer}
 use Rattle.mover.specs.Answers.{readAs}
-use Rattle.mover.specs.declared.read.Rebuilt.{Rebuilt}
+use Rattle.mover.specs.declared.read.ReadResult.{ReadResult}
 use Rattle.mover.proofs.RefusalLaws.{move-then}
 
 last-rows : (unfit beyond : Bool) → refusal (record { fits = unfit; gives = 6 } ∷ record { fits = beyond; gives = 7 } ∷ []) ≡ cond unfit 6 (cond beyond 7 0)
@@ -27,15 +27,15 @@ last-rows false false = refl
 
 module _ (M : Move) (chip : Chip) (work : List ℕ) (k : ℕ) where
   -- what a refused read returns; it leaves the work page
-  abbrev Refused : ℕ → Rebuilt → Type 0
+  abbrev Refused : ℕ → ReadResult → Type 0
   Refused x r = r ≡ record { number = x; count = 0 } → readAs r work ≡ readAnswer M chip work k
 
-  refused-answer : (x : ℕ) (r : Rebuilt) → x ≢ 0 → refusal (readRows M chip work k) ≡ x → Refused x r
+  refused-answer : (x : ℕ) (r : ReadResult) → x ≢ 0 → refusal (readRows M chip work k) ≡ x → Refused x r
   unfolding readAnswer
   refused-answer x r ne e f = rw (f, e, ne-eqb x 0 ne)
 
   -- rows 1 to 4 decide
-  pub refused-by-move : (x : ℕ) (r : Rebuilt) → x ≡ refusal (moveRows M chip work []) → x ≢ 0 → Refused x r
+  pub refused-by-move : (x : ℕ) (r : ReadResult) → x ≡ refusal (moveRows M chip work []) → x ≢ 0 → Refused x r
   unfolding readRows
   refused-by-move x r e ne = refused-answer x r ne (move-then M chip work _ ∙ rw (← e, ne-eqb x 0 ne))
 
@@ -46,10 +46,10 @@ module _ (M : Move) (chip : Chip) (work : List ℕ) (k : ℕ) where
     unfolding readRows
     by-rest unfit beyond f g = move-then M chip work _ ∙ rw (← e, ← f, ← g) (last-rows unfit beyond)
 
-    pub refused-6 : (beyond : Bool) (r : Rebuilt) → true ≡ fitsNone (reading (M .sizes) (chip .marks)) → beyond ≡ leb (originalCount (M .sizes)) k → Refused 6 r
+    pub refused-6 : (beyond : Bool) (r : ReadResult) → true ≡ fitsNone (reading (M .sizes) (chip .marks)) → beyond ≡ leb (originalCount (M .sizes)) k → Refused 6 r
     refused-6 beyond r f g = refused-answer 6 r (λ z. absurd (omega arith)) (by-rest true beyond f g)
 
-    pub refused-7 : (r : Rebuilt) → false ≡ fitsNone (reading (M .sizes) (chip .marks)) → true ≡ leb (originalCount (M .sizes)) k → Refused 7 r
+    pub refused-7 : (r : ReadResult) → false ≡ fitsNone (reading (M .sizes) (chip .marks)) → true ≡ leb (originalCount (M .sizes)) k → Refused 7 r
     refused-7 r f g = refused-answer 7 r (λ z. absurd (omega arith)) (by-rest false true f g)
 
     pub rebuilt : (count : ℕ) (after : List ℕ) → false ≡ fitsNone (reading (M .sizes) (chip .marks)) → false ≡ leb (originalCount (M .sizes)) k

@@ -12,14 +12,13 @@ use Rattle.flash.specs.Geometry.{inRange, originalCount}
 use Rattle.flash.specs.Chip.{Chip}
 use Rattle.split.specs.OneToOne.{badList, isOneToOne}
 use Rattle.split.specs.Split.{isSplit, isCorrectSplit}
-use Rattle.method.specs.Move.{Move}
+use Rattle.method.specs.Move.{Move, AcceptedMove}
 use Rattle.method.specs.Place.{lastPlace}
 use Rattle.method.specs.Answers.{badParts, isElsewhere, moveRows, runRows, RunAnswer, runCarriedOut, runRefused, runAnswer}
 use Rattle.method.proofs.basics.AcceptedCalls.{parts-ok, move-accepted, run-taken}
-use Rattle.walk.specs.inner.Moving.{Given}
 use Rattle.mover.specs.inner.Steps.{Lent}
 use Rattle.mover.specs.Answers.{ranAs}
-use Rattle.mover.specs.declared.run.Ran.{Ran}
+use Rattle.mover.specs.declared.run.RunResult.{RunResult}
 
 abbrev rows : (a b c d : Bool) → List (Row ℕ) → List (Row ℕ)
 rows a b c d rest =
@@ -72,24 +71,10 @@ module _ (M : Move) (chip : Chip) (work : List ℕ) where
       by-list false false = refl
 
   -- what a move that is not refused was given
-  pub given : number ≡ 0 → Given M × Lent M (chip .store) (chip .marks) work
+  pub given : number ≡ 0 → AcceptedMove M × Lent M (chip .store) (chip .marks) work
   given e =
-      let a = move-accepted M chip work [] e in
-      let A = a .0 in
-      let B = A .ranges in (
-        record {
-          n-low = B .n-low;
-          n-high = B .n-high;
-          m-low = B .m-low;
-          m-high = B .m-high;
-          p-low = B .p-low;
-          p-high = B .p-high;
-          s-high = B .s-high;
-          list-length = A .list-length;
-          sets-length = A .sets-length;
-          one-to-one = A .one-to-one;
-          split = A .split;
-        },
+      let a = move-accepted M chip work [] e in (
+        a .0,
         record { store-length = a .1 .store-length; marks-length = a .1 .marks-length; work-length = a .1 .work-length },
       )
 
@@ -111,7 +96,7 @@ module _ (M : Move) (chip : Chip) (work : List ℕ) (place budget : ℕ) where
   -- what a refused run returns; it leaves all as it was
   abbrev Refused : ℕ → Type 0
   Refused x =
-      (ran : Ran) → ran ≡ record { number = x; place = 0; steps = 0; writes = 0; erases = 0; finished = 0 }
+      (ran : RunResult) → ran ≡ record { number = x; place = 0; steps = 0; writes = 0; erases = 0; finished = 0 }
       → ranAs ran (chip .store) (chip .marks) work ≡ runAnswer M chip work place budget
 
   refused-answer : (x : ℕ) → x ≢ 0 → refusal (runRows M chip work place) ≡ x → Refused x

@@ -7,13 +7,12 @@ use native.Mathlib.Omega.{arith}
 use lib.Dec.{eqb}
 use Rattle.flash.specs.Chip.{Chip}
 use Rattle.flash.proofs.Bounds.{product-le}
-use Rattle.method.specs.Move.{Move}
+use Rattle.method.specs.Move.{Move, AcceptedMove}
 use Rattle.method.specs.Place.{Operation, write, erase, done, operationAt, lastPlace}
 use Rattle.method.specs.Step.{Running, step, steps, tallied, tally, operationsFrom}
 use Rattle.method.specs.Answers.{stepsTaken, runCarriedOut}
 use Rattle.method.proofs.states.StepsAddUp.{steps-add}
 use Rattle.method.proofs.places.Tallies.{tally-split, operationsFrom-suc}
-use Rattle.walk.specs.inner.Moving.{Given}
 use Rattle.mover.specs.inner.Steps.{runningOf, Leaves, Counted}
 use Rattle.mover.specs.Answers.{ranAs}
 
@@ -59,9 +58,9 @@ at-most-one (erase b) x y z C = (omega (arith, C .steps-is), omega (arith, C .wr
 at-most-one done x y z C = (omega (arith, C .steps-is), omega (arith, C .writes-is), omega (arith, C .erases-is))
 
 -- a move has few steps
-pub last-small : (M : Move) → Given M → lastPlace (M .sizes) ≤ 8320
+pub last-small : (M : Move) → AcceptedMove M → lastPlace (M .sizes) ≤ 8320
 unfolding lastPlace
-last-small M G = omega (arith, product-le (2 * M .sizes .n) (M .sizes .m + 1) {c = 128} {d = 65} (omega (arith, G .n-high)) (omega (arith, G .m-high)))
+last-small M G = omega (arith, product-le (2 * M .sizes .n) (M .sizes .m + 1) {c = 128} {d = 65} (omega (arith, G .ranges .n-high)) (omega (arith, G .ranges .m-high)))
 
 -- ---- the answer of a run that is carried out
 pub carried : (M : Move) (store marks work : List ℕ) (place budget last taken : ℕ) (store′ marks′ work′ : List ℕ) (a b c finished : ℕ)

@@ -11,7 +11,7 @@ use Rattle.flash.specs.declared.sizes.Sizes.{Sizes}
 use Rattle.flash.specs.Geometry.{slot, numberAt}
 use Rattle.flash.specs.PageSum.{sum}
 use Rattle.flash.specs.Chip.{Holds, pageAt, writePage, eraseBlock}
-use Rattle.method.specs.Move.{Move}
+use Rattle.method.specs.Move.{Move, AcceptedMove}
 use Rattle.method.specs.Cycle.{D, pred, isTop, coded, sentTo}
 use Rattle.method.specs.Place.{Pass, forward, backward, Operation, write, erase, done, markOf, writes, operationAt, written}
 use Rattle.method.specs.Read.{readSlots}
@@ -19,10 +19,8 @@ use Rattle.method.specs.State.{heldOriginals}
 use Rattle.method.specs.Step.{originalsOf, writeSlots, writtenPage, perform, Running, step, tallied, tally}
 use Rattle.method.proofs.basics.Indexes.{slot-lt}
 use Rattle.method.proofs.cycles.SetCycles.{sent-in}
-use Rattle.walk.specs.inner.Moving.{Given}
 use Rattle.walk.specs.inner.Slots.{Appends}
 use Rattle.mover.specs.inner.Steps.{runningOf, Leaves, Counted}
-use Rattle.walk.proofs.CycleLaws.{accepted}
 
 -- slots put behind slots
 pub appends-twice : (one two three more others : List ℕ) (a b : ℕ) → Appends one 0 more two a → Appends two a others three b → take b three ≡ more ++ others
@@ -33,7 +31,7 @@ rest-twice one two three more others a b A B =
     let e : a + (b - a) ≡ b = omega (arith, B .some) in
     B .rest-is ∙ subst (λ (k : ℕ). drop k two ≡ drop k one) e (sym (drop-drop (b - a) a two) ∙ ap (drop (b - a)) (A .rest-is) ∙ drop-drop (b - a) a one)
 
-module _ (M : Move) (G : Given M) (block page : ℕ) (page-in : page < M .sizes .m) where
+module _ (M : Move) (G : AcceptedMove M) (block page : ℕ) (page-in : page < M .sizes .m) where
   open Sizes (M .sizes) using (n, m)
 
   -- a page of a data block has a number
@@ -41,7 +39,7 @@ module _ (M : Move) (G : Given M) (block page : ℕ) (page-in : page < M .sizes 
   number-lt low high = slot-lt m (block - 1) page n (omega arith) page-in
 
   pub sent-lt : (k : ℕ) → 1 ≤ block → block ≤ n → k ≡ sentTo M (numberAt m block page) → k < n * m
-  sent-lt k low high e = rw e (sent-in M (accepted M G) (numberAt m block page) (number-lt low high))
+  sent-lt k low high e = rw e (sent-in M G (numberAt m block page) (number-lt low high))
 
   -- the slots of a write
   module _ (marks : List ℕ) where

@@ -7,7 +7,7 @@ use native.Mathlib.Omega.{arith}
 use Rattle.flash.specs.Lists.{concatMap}
 use Rattle.flash.specs.declared.sizes.Sizes.{Sizes}
 use Rattle.flash.specs.Geometry.{numberAt, slotCount}
-use Rattle.method.specs.Move.{Move}
+use Rattle.method.specs.Move.{Move, AcceptedMove}
 use Rattle.method.specs.Cycle.{D, pred, isTop, coded, sentTo}
 use Rattle.method.specs.Place.{forward, backward, written}
 use Rattle.method.specs.Read.{readSlots}
@@ -16,13 +16,11 @@ use Rattle.method.specs.Step.{originalsOf, writeSlots}
 use Rattle.method.proofs.basics.EachNumber.{Each, each-cons, each-one}
 use Rattle.method.proofs.cycles.Orbits.{DataBlock}
 use Rattle.method.proofs.cycles.SetCycles.{pred-in}
-use Rattle.walk.specs.inner.Moving.{Given}
-use Rattle.walk.proofs.CycleLaws.{accepted}
 use Rattle.walk.proofs.SlotLaws.{each-none, each-cond, each-append, page-lt, read-in}
 use Rattle.places.specs.inner.Place.{passOf}
 use Rattle.mover.proofs.StepLaws.{sent-lt}
 
-module _ (M : Move) (G : Given M) (marks : List ℕ) where
+module _ (M : Move) (G : AcceptedMove M) (marks : List ℕ) where
   open Sizes (M .sizes) using (n, m)
 
   abbrev Stored : ℕ → Type 0
@@ -44,7 +42,7 @@ module _ (M : Move) (G : Given M) (marks : List ℕ) where
     code-in h =
         let b : DataBlock n (block + 1) = record { low = omega arith; high = h } in
         let d = page-lt M G marks page page-in (block + 1) b in
-        let e = page-lt M G marks page page-in (pred M page (block + 1)) (pred-in M (accepted M G) page page-in (block + 1) b) in
+        let e = page-lt M G marks page page-in (pred M page (block + 1)) (pred-in M G page page-in (block + 1) b) in
         let x : ℕ = D M page (block + 1) in
         let y : ℕ = D M page (pred M page (block + 1)) in
         concat-in (coded M page (block + 1))

@@ -2,10 +2,10 @@
 use mathlib.Core.List.{List}
 use Prim.Native.Nat.{ℕ}
 use Rattle.method.specs.Answers.{RunAnswer, ReadAnswer}
-use Rattle.mover.specs.declared.run.Ran.{Ran}
-use Rattle.mover.specs.declared.read.Rebuilt.{Rebuilt}
+use Rattle.mover.specs.declared.run.RunResult.{RunResult}
+use Rattle.mover.specs.declared.read.ReadResult.{ReadResult}
 
-abbrev pub ranAs : Ran → (store marks work : List ℕ) → RunAnswer
+abbrev pub ranAs : RunResult → (store marks work : List ℕ) → RunAnswer
 ranAs ran store marks work = record {
   number = ran .number;
   place = ran .place;
@@ -17,5 +17,5 @@ ranAs ran store marks work = record {
   work = work;
 }
 
-abbrev pub readAs : Rebuilt → (work : List ℕ) → ReadAnswer
+abbrev pub readAs : ReadResult → (work : List ℕ) → ReadAnswer
 readAs r work = record { number = r .number; count = r .count; work = work }

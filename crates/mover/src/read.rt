@@ -2,10 +2,9 @@
 ghost use mathlib.Core.Path.{_≡_};
 ghost use Prim.Native.Nat.{_*_, _<_};
 ghost use lib.ListN.{length};
-ghost use Rattle.method.specs.Move.{moveOf};
+ghost use Rattle.method.specs.Move.{moveOf, AcceptedMove};
 ghost use Rattle.method.specs.Read.{readSlots, readPage};
 ghost use Rattle.method.specs.Answers.{readAnswer};
-ghost use Rattle.walk.specs.inner.Moving.{Given};
 ghost use Rattle.mover.specs.inner.Steps.{Lent};
 ghost use Rattle.mover.specs.Answers.{readAs};
 use crate::refusals::move_refusal;
@@ -17,20 +16,20 @@ use walk::pages::sum_pages;
 use walk::walk::read_slots;
 
 // What a read returns: the refusal number, and how many stored pages were summed, 0 with a refusal.
-pub struct Rebuilt {
+pub struct ReadResult {
     pub number: u32,
     pub count: u32,
 }
 
-fn refused(number: u32) -> Rebuilt
+fn refused(number: u32) -> ReadResult
     ensures { λ r. ⌜ r ≡ record { number = number; count = 0 } ⌝ }
 {
-    Rebuilt { number, count: 0 }
+    ReadResult { number, count: 0 }
 }
 
 // Rebuilds original k in the work page; how many stored pages were summed.
 fn rebuild(
-    z: Sizes,
+    sizes: Sizes,
     list: &[u16],
     sets: &[u8],
     store: &[u8],
@@ -38,48 +37,48 @@ fn rebuild(
     work: &mut [u8],
     k: usize,
 ) -> usize
-    requires { ⌜ Given (moveOf z (now list) (now sets)) × Lent (moveOf z (now list) (now sets)) (now store) (now marks) (now work)
-        × (k < z .n * z .m) ⌝ }
-    ensures { λ r. ⌜ (r ≡ length (readSlots (moveOf z (now (list .entry)) (now (sets .entry))) (now (marks .entry)) k)) × (r < 66) ⌝ }
-    ensures { λ _. ⌜ now (work .exit) ≡ readPage (moveOf z (now (list .entry)) (now (sets .entry)))
+    requires { ⌜ AcceptedMove (moveOf sizes (now list) (now sets)) × Lent (moveOf sizes (now list) (now sets)) (now store) (now marks) (now work)
+        × (k < sizes .n * sizes .m) ⌝ }
+    ensures { λ r. ⌜ (r ≡ length (readSlots (moveOf sizes (now (list .entry)) (now (sets .entry))) (now (marks .entry)) k)) × (r < 66) ⌝ }
+    ensures { λ _. ⌜ now (work .exit) ≡ readPage (moveOf sizes (now (list .entry)) (now (sets .entry)))
         (record { store = now (store .entry); marks = now (marks .entry) }) k ⌝ }
 {
     let mut pages = [0u8; 4096];
     let mut from = [0u8; 4096];
-    follow(z, list, sets, &mut pages, &mut from);
+    follow(sizes, list, sets, &mut pages, &mut from);
     let mut slots = [0usize; 130];
-    let count = read_slots(z, list, sets, &pages, &from, marks, k, &mut slots, 0);
-    sum_pages(store, z.p, &slots, count, work);
+    let count = read_slots(sizes, list, sets, &pages, &from, marks, k, &mut slots, 0);
+    sum_pages(store, sizes.p, &slots, count, work);
     count
 }
 
 // Read: checks in the table's order, then the sum. A refused read changes nothing that is lent.
 pub fn read(
-    z: Sizes,
+    sizes: Sizes,
     list: &[u16],
     sets: &[u8],
     store: &[u8],
     marks: &[u8],
     work: &mut [u8],
     k: usize,
-) -> Rebuilt
+) -> ReadResult
     ensures { λ r. ⌜ readAs r (now (work .exit))
-        ≡ readAnswer (moveOf z (now (list .entry)) (now (sets .entry))) (record { store = now (store .entry); marks = now (marks .entry) })
+        ≡ readAnswer (moveOf sizes (now (list .entry)) (now (sets .entry))) (record { store = now (store .entry); marks = now (marks .entry) })
         (now (work .entry)) k ⌝ }
 {
-    let number = move_refusal(z, list, sets, store, marks, work);
+    let number = move_refusal(sizes, list, sets, store, marks, work);
     if number != 0 {
         return refused(number);
     }
-    let unfit = fits_none(z, marks);
-    let beyond = original_count(z) <= k;
+    let unfit = fits_none(sizes, marks);
+    let beyond = original_count(sizes) <= k;
     if unfit {
         return refused(6);
     }
     if beyond {
         return refused(7);
     }
-    let count = rebuild(z, list, sets, store, marks, work, k);
+    let count = rebuild(sizes, list, sets, store, marks, work, k);
     let count = count as u32;
-    Rebuilt { number: 0, count }
+    ReadResult { number: 0, count }
 }

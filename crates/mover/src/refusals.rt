@@ -14,42 +14,49 @@ use split::list::check;
 use split::sets::is_split;
 
 // Number 2: whether a lent part is not of its exact length.
-fn bad_parts(z: Sizes, list: &[u16], sets: &[u8], store: &[u8], marks: &[u8], work: &[u8]) -> bool
-    requires { ⌜ (z .n ≤ 64) × (z .m ≤ 64) × (z .p ≤ 4096) ⌝ }
-    ensures { λ r. ⌜ r ≡ badParts (moveOf z (now (list .entry)) (now (sets .entry)))
+fn bad_parts(
+    sizes: Sizes,
+    list: &[u16],
+    sets: &[u8],
+    store: &[u8],
+    marks: &[u8],
+    work: &[u8],
+) -> bool
+    requires { ⌜ (sizes .n ≤ 64) × (sizes .m ≤ 64) × (sizes .p ≤ 4096) ⌝ }
+    ensures { λ r. ⌜ r ≡ badParts (moveOf sizes (now (list .entry)) (now (sets .entry)))
         (record { store = now (store .entry); marks = now (marks .entry) }) (now (work .entry)) ⌝ }
 {
-    let originals = original_count(z);
-    let slots = slot_count(z);
-    let bytes = store_length(z);
+    let originals = original_count(sizes);
+    let slots = slot_count(sizes);
+    let bytes = store_length(sizes);
     ((list.len() != originals) | (sets.len() != originals))
         | ((store.len() != bytes) | (marks.len() != slots))
-        | (work.len() != z.p)
+        | (work.len() != sizes.p)
 }
 
 // Numbers 1 to 4, or 0 where none of them is given. Nothing is computed from sizes that are out of their range.
 pub fn move_refusal(
-    z: Sizes,
+    sizes: Sizes,
     list: &[u16],
     sets: &[u8],
     store: &[u8],
     marks: &[u8],
     work: &[u8],
 ) -> u32
-    ensures { λ r. ⌜ r ≡ refusal (moveRows (moveOf z (now (list .entry)) (now (sets .entry)))
+    ensures { λ r. ⌜ r ≡ refusal (moveRows (moveOf sizes (now (list .entry)) (now (sets .entry)))
         (record { store = now (store .entry); marks = now (marks .entry) }) (now (work .entry)) []) ⌝ }
 {
-    if !in_range(z) {
+    if !in_range(sizes) {
         return 1;
     }
-    if bad_parts(z, list, sets, store, marks, work) {
+    if bad_parts(sizes, list, sets, store, marks, work) {
         return 2;
     }
     // A split is looked for first, and the list checked with it; only where there is none is it asked which of 3 and 4 it is.
-    if is_split(z, list, sets) {
+    if is_split(sizes, list, sets) {
         return 0;
     }
-    if !check(list, original_count(z)) {
+    if !check(list, original_count(sizes)) {
         return 3;
     }
     4

@@ -3,12 +3,12 @@ ghost use mathlib.Core.Path.{_≡_};
 ghost use mathlib.Core.Bool.{cond};
 ghost use Prim.Native.Nat.{_+_, _≤_, min};
 ghost use lib.Dec.{eqb};
-ghost use Rattle.method.specs.Move.{moveOf};
+ghost use Rattle.method.specs.Move.{moveOf, AcceptedMove};
 ghost use Rattle.method.specs.Place.{lastPlace};
 ghost use Rattle.method.specs.Step as method;
 ghost use Rattle.method.specs.Step.{tally, operationsFrom};
 ghost use Rattle.method.specs.Answers.{runCarriedOut, runAnswer};
-ghost use Rattle.walk.specs.inner.Moving.{Given, Tables};
+ghost use Rattle.walk.specs.inner.Moving.{Tables};
 ghost use Rattle.mover.specs.inner.Steps.{Lent, runningOf, Leaves, Counted};
 ghost use Rattle.mover.specs.Answers.{ranAs};
 use crate::refusals::move_refusal;
@@ -17,11 +17,11 @@ use crate::step::step;
 use flash::sizes::Sizes;
 use places::place::Place;
 use places::place::last_place;
-use places::stands::is_elsewhere;
+use places::place_marks::is_elsewhere;
 use walk::cycles::follow;
 
 // What a run returns: the refusal number, and 0 in every other number with it. `finished` is 1, or 0 for stopped.
-pub struct Ran {
+pub struct RunResult {
     pub number: u32,
     pub place: u32,
     pub steps: u32,
@@ -32,7 +32,7 @@ pub struct Ran {
 
 // Takes so many steps from a place on.
 fn take_steps(
-    z: Sizes,
+    sizes: Sizes,
     list: &[u16],
     sets: &[u8],
     pages: &[u8; 4096],
@@ -43,12 +43,12 @@ fn take_steps(
     place: usize,
     taken: usize,
 ) -> Tally
-    requires { ⌜ Tables (moveOf z (now list) (now sets)) (now pages) (now from)
-        × Lent (moveOf z (now list) (now sets)) (now store) (now marks) (now work) × (place + taken ≤ lastPlace z) ⌝ }
-    ensures { λ _. ⌜ Leaves (method.steps (moveOf z (now (list .entry)) (now (sets .entry))) taken place
+    requires { ⌜ Tables (moveOf sizes (now list) (now sets)) (now pages) (now from)
+        × Lent (moveOf sizes (now list) (now sets)) (now store) (now marks) (now work) × (place + taken ≤ lastPlace sizes) ⌝ }
+    ensures { λ _. ⌜ Leaves (method.steps (moveOf sizes (now (list .entry)) (now (sets .entry))) taken place
         (runningOf (now (store .entry)) (now (marks .entry)) (now (work .entry)))) (now (store .exit)) (now (marks .exit))
         (now (work .exit)) ⌝ }
-    ensures { λ r. ⌜ Counted (tally (operationsFrom (moveOf z (now (list .entry)) (now (sets .entry))) place taken)) (r .steps) (r .writes)
+    ensures { λ r. ⌜ Counted (tally (operationsFrom (moveOf sizes (now (list .entry)) (now (sets .entry))) place taken)) (r .steps) (r .writes)
         (r .erases) ⌝ }
 {
     let mut at = Place { at: place };
@@ -57,7 +57,7 @@ fn take_steps(
     let mut erases: u32 = 0;
     let mut i = 0;
     while i < taken {
-        let done = step(z, list, sets, pages, from, store, marks, work, at);
+        let done = step(sizes, list, sets, pages, from, store, marks, work, at);
         steps += done.steps;
         writes += done.writes;
         erases += done.erases;
@@ -86,7 +86,7 @@ fn same(a: usize, b: usize) -> u32
 
 // Carries out a run that is not refused.
 fn carry_out(
-    z: Sizes,
+    sizes: Sizes,
     list: &[u16],
     sets: &[u8],
     store: &mut [u8],
@@ -94,20 +94,20 @@ fn carry_out(
     work: &mut [u8],
     place: usize,
     budget: usize,
-) -> Ran
-    requires { ⌜ Given (moveOf z (now list) (now sets)) × Lent (moveOf z (now list) (now sets)) (now store) (now marks) (now work)
-        × (place ≤ lastPlace z) ⌝ }
+) -> RunResult
+    requires { ⌜ AcceptedMove (moveOf sizes (now list) (now sets)) × Lent (moveOf sizes (now list) (now sets)) (now store) (now marks) (now work)
+        × (place ≤ lastPlace sizes) ⌝ }
     ensures { λ r. ⌜ ranAs r (now (store .exit)) (now (marks .exit)) (now (work .exit))
-        ≡ runCarriedOut (moveOf z (now (list .entry)) (now (sets .entry))) (record { store = now (store .entry); marks = now (marks .entry) })
+        ≡ runCarriedOut (moveOf sizes (now (list .entry)) (now (sets .entry))) (record { store = now (store .entry); marks = now (marks .entry) })
         (now (work .entry)) place budget ⌝ }
 {
     let mut pages = [0u8; 4096];
     let mut from = [0u8; 4096];
-    follow(z, list, sets, &mut pages, &mut from);
-    let last = last_place(z);
+    follow(sizes, list, sets, &mut pages, &mut from);
+    let last = last_place(sizes);
     let taken = smaller(budget, last - place);
     let done = take_steps(
-        z,
+        sizes,
         list,
         sets,
         &pages,
@@ -119,7 +119,7 @@ fn carry_out(
         taken,
     );
     let reached = place + taken;
-    Ran {
+    RunResult {
         number: 0,
         place: reached as u32,
         steps: done.steps,
@@ -129,10 +129,10 @@ fn carry_out(
     }
 }
 
-fn refused(number: u32) -> Ran
+fn refused(number: u32) -> RunResult
     ensures { λ r. ⌜ r ≡ record { number = number; place = 0; steps = 0; writes = 0; erases = 0; finished = 0 } ⌝ }
 {
-    Ran {
+    RunResult {
         number,
         place: 0,
         steps: 0,
@@ -144,7 +144,7 @@ fn refused(number: u32) -> Ran
 
 // The run: checks in the table's order, then the steps. A refused run changes nothing that is lent.
 pub fn run(
-    z: Sizes,
+    sizes: Sizes,
     list: &[u16],
     sets: &[u8],
     store: &mut [u8],
@@ -152,17 +152,26 @@ pub fn run(
     work: &mut [u8],
     place: usize,
     budget: u32,
-) -> Ran
+) -> RunResult
     ensures { λ r. ⌜ ranAs r (now (store .exit)) (now (marks .exit)) (now (work .exit))
-        ≡ runAnswer (moveOf z (now (list .entry)) (now (sets .entry))) (record { store = now (store .entry); marks = now (marks .entry) })
+        ≡ runAnswer (moveOf sizes (now (list .entry)) (now (sets .entry))) (record { store = now (store .entry); marks = now (marks .entry) })
         (now (work .entry)) place budget ⌝ }
 {
-    let number = move_refusal(z, list, sets, store, marks, work);
+    let number = move_refusal(sizes, list, sets, store, marks, work);
     if number != 0 {
         return refused(number);
     }
-    if is_elsewhere(z, store, marks, place) {
+    if is_elsewhere(sizes, store, marks, place) {
         return refused(5);
     }
-    carry_out(z, list, sets, store, marks, work, place, budget as usize)
+    carry_out(
+        sizes,
+        list,
+        sets,
+        store,
+        marks,
+        work,
+        place,
+        budget as usize,
+    )
 }

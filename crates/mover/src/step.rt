@@ -12,9 +12,9 @@ ghost use Rattle.walk.specs.inner.Moving.{Tables};
 ghost use Rattle.places.specs.inner.Place.{passOf};
 ghost use Rattle.mover.specs.inner.Steps.{Lent, runningOf, Leaves, Counted};
 use flash::block::erase_block;
+use flash::casts::wide;
 use flash::page::write_page;
 use flash::sizes::Sizes;
-use flash::wide::wide;
 use places::place::Op;
 use places::place::Place;
 use walk::cycles::is_top;
@@ -33,7 +33,7 @@ pub struct Tally {
 // The slots whose pages are summed for a write: in the backward pass those of the original that the list sends there, in the
 // forward pass those of D(i), and of D(pred(i)) unless i is the top.
 fn write_slots(
-    z: Sizes,
+    sizes: Sizes,
     list: &[u16],
     sets: &[u8],
     pages: &[u8; 4096],
@@ -44,31 +44,31 @@ fn write_slots(
     page: usize,
     slots: &mut [usize],
 ) -> usize
-    requires { ⌜ Tables (moveOf z (now list) (now sets)) (now pages) (now from) × (length (now marks) ≡ (z .n + 1) * z .m)
+    requires { ⌜ Tables (moveOf sizes (now list) (now sets)) (now pages) (now from) × (length (now marks) ≡ (sizes .n + 1) * sizes .m)
         × (length (now slots) ≡ 130) ⌝ }
-    requires { ⌜ (page < z .m) × (block ≤ z .n) × (backward ≡ true → 1 ≤ block) × (backward ≡ false → block + 1 ≤ z .n) ⌝ }
+    requires { ⌜ (page < sizes .m) × (block ≤ sizes .n) × (backward ≡ true → 1 ≤ block) × (backward ≡ false → block + 1 ≤ sizes .n) ⌝ }
     ensures { λ r. ⌜ (take r (now (slots .exit))
-        ≡ writeSlots (moveOf z (now (list .entry)) (now (sets .entry))) (passOf backward) block page (now (marks .entry))) × (1 ≤ r)
+        ≡ writeSlots (moveOf sizes (now (list .entry)) (now (sets .entry))) (passOf backward) block page (now (marks .entry))) × (1 ≤ r)
         × (r ≤ 130) × (drop r (now (slots .exit)) ≡ drop r (now (slots .entry))) ⌝ }
 {
     if backward {
-        let k = sent_to(z, list, sets, pages, from, block, page);
-        return read_slots(z, list, sets, pages, from, marks, k, slots, 0);
+        let k = sent_to(sizes, list, sets, pages, from, block, page);
+        return read_slots(sizes, list, sets, pages, from, marks, k, slots, 0);
     }
     let i = block + 1;
-    let k = page_of(z, pages, page, i);
-    let count = read_slots(z, list, sets, pages, from, marks, k, slots, 0);
-    if is_top(z, from, page, i) {
+    let k = page_of(sizes, pages, page, i);
+    let count = read_slots(sizes, list, sets, pages, from, marks, k, slots, 0);
+    if is_top(sizes, from, page, i) {
         return count;
     }
-    let u = wide(from[block * z.m + page]);
-    let k = page_of(z, pages, page, u);
-    read_slots(z, list, sets, pages, from, marks, k, slots, count)
+    let u = wide(from[block * sizes.m + page]);
+    let k = page_of(sizes, pages, page, u);
+    read_slots(sizes, list, sets, pages, from, marks, k, slots, count)
 }
 
 // Writes a page with its mark, by way of the work page.
 fn write(
-    z: Sizes,
+    sizes: Sizes,
     list: &[u16],
     sets: &[u8],
     pages: &[u8; 4096],
@@ -81,17 +81,17 @@ fn write(
     page: usize,
     mark: u8,
 )
-    requires { ⌜ Tables (moveOf z (now list) (now sets)) (now pages) (now from)
-        × Lent (moveOf z (now list) (now sets)) (now store) (now marks) (now work) ⌝ }
-    requires { ⌜ (page < z .m) × (block ≤ z .n) × (backward ≡ true → 1 ≤ block) × (backward ≡ false → block + 1 ≤ z .n)
-        × (mark ≡ markOf z (passOf backward)) ⌝ }
-    ensures { λ _. ⌜ Leaves (perform (moveOf z (now (list .entry)) (now (sets .entry))) (writing (passOf backward) block page)
+    requires { ⌜ Tables (moveOf sizes (now list) (now sets)) (now pages) (now from)
+        × Lent (moveOf sizes (now list) (now sets)) (now store) (now marks) (now work) ⌝ }
+    requires { ⌜ (page < sizes .m) × (block ≤ sizes .n) × (backward ≡ true → 1 ≤ block) × (backward ≡ false → block + 1 ≤ sizes .n)
+        × (mark ≡ markOf sizes (passOf backward)) ⌝ }
+    ensures { λ _. ⌜ Leaves (perform (moveOf sizes (now (list .entry)) (now (sets .entry))) (writing (passOf backward) block page)
         (runningOf (now (store .entry)) (now (marks .entry)) (now (work .entry)))) (now (store .exit)) (now (marks .exit))
         (now (work .exit)) ⌝ }
 {
     let mut slots = [0usize; 130];
     let count = write_slots(
-        z,
+        sizes,
         list,
         sets,
         pages,
@@ -102,8 +102,8 @@ fn write(
         page,
         &mut slots,
     );
-    sum_pages(store, z.p, &slots, count, work);
-    write_page(store, marks, z.p, block * z.m + page, work, mark);
+    sum_pages(store, sizes.p, &slots, count, work);
+    write_page(store, marks, sizes.p, block * sizes.m + page, work, mark);
 }
 
 // What one step, or none, comes to.
@@ -120,7 +120,7 @@ fn counted(writes: u32, erases: u32) -> Tally
 
 // Does the step at a place.
 pub fn step(
-    z: Sizes,
+    sizes: Sizes,
     list: &[u16],
     sets: &[u8],
     pages: &[u8; 4096],
@@ -130,14 +130,14 @@ pub fn step(
     work: &mut [u8],
     place: Place,
 ) -> Tally
-    requires { ⌜ Tables (moveOf z (now list) (now sets)) (now pages) (now from)
-        × Lent (moveOf z (now list) (now sets)) (now store) (now marks) (now work) ⌝ }
-    ensures { λ _. ⌜ Leaves (method.step (moveOf z (now (list .entry)) (now (sets .entry))) (place .at)
+    requires { ⌜ Tables (moveOf sizes (now list) (now sets)) (now pages) (now from)
+        × Lent (moveOf sizes (now list) (now sets)) (now store) (now marks) (now work) ⌝ }
+    ensures { λ _. ⌜ Leaves (method.step (moveOf sizes (now (list .entry)) (now (sets .entry))) (place .at)
         (runningOf (now (store .entry)) (now (marks .entry)) (now (work .entry)))) (now (store .exit)) (now (marks .exit))
         (now (work .exit)) ⌝ }
-    ensures { λ r. ⌜ Counted (tally (operationAt z (place .at) ∷ [])) (r .steps) (r .writes) (r .erases) ⌝ }
+    ensures { λ r. ⌜ Counted (tally (operationAt sizes (place .at) ∷ [])) (r .steps) (r .writes) (r .erases) ⌝ }
 {
-    match place.operation(z) {
+    match place.operation(sizes) {
         Op::Write {
             backward,
             block,
@@ -145,7 +145,7 @@ pub fn step(
             mark,
         } => {
             write(
-                z,
+                sizes,
                 list,
                 sets,
                 pages,
@@ -161,7 +161,7 @@ pub fn step(
             counted(1, 0)
         }
         Op::Erase { block } => {
-            erase_block(store, marks, z.m, z.p, block);
+            erase_block(store, marks, sizes.m, sizes.p, block);
             counted(0, 1)
         }
         Op::Done => counted(0, 0),

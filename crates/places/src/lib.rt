@@ -2,4 +2,4 @@
 
 pub mod operation;
 pub mod place;
-pub mod stands;
+pub mod place_marks;

@@ -27,13 +27,13 @@ pub struct Place {
 }
 
 impl Place {
-    pub fn operation(self, z: Sizes) -> Op
-        requires { ⌜ (1 ≤ z .n) × (z .n ≤ 64) × (1 ≤ z .m) × (z .m ≤ 64) × (z .s < 3) ⌝ }
-        ensures { λ r. ⌜ r ≡ opOf z (operationAt z (self .at)) ⌝ }
+    pub fn operation(self, sizes: Sizes) -> Op
+        requires { ⌜ (1 ≤ sizes .n) × (sizes .n ≤ 64) × (1 ≤ sizes .m) × (sizes .m ≤ 64) × (sizes .s < 3) ⌝ }
+        ensures { λ r. ⌜ r ≡ opOf sizes (operationAt sizes (self .at)) ⌝ }
     {
         let at = self.at;
-        let n = z.n;
-        let m = z.m;
+        let n = sizes.n;
+        let m = sizes.m;
         let turn = m + 1;
         let half = n * turn;
         let page = at % turn;
@@ -44,7 +44,7 @@ impl Place {
                     backward: false,
                     block,
                     page,
-                    mark: letter_after(z, 1),
+                    mark: letter_after(sizes, 1),
                 };
             }
             return Op::Erase { block: block + 1 };
@@ -56,7 +56,7 @@ impl Place {
                     backward: true,
                     block,
                     page,
-                    mark: letter_after(z, 2),
+                    mark: letter_after(sizes, 2),
                 };
             }
             return Op::Erase { block: block - 1 };
@@ -73,9 +73,9 @@ impl Place {
 }
 
 // The place after the last step.
-pub fn last_place(z: Sizes) -> usize
-    requires { ⌜ (z .n ≤ 64) × (z .m ≤ 64) ⌝ }
-    ensures { λ r. ⌜ r ≡ lastPlace z ⌝ }
+pub fn last_place(sizes: Sizes) -> usize
+    requires { ⌜ (sizes .n ≤ 64) × (sizes .m ≤ 64) ⌝ }
+    ensures { λ r. ⌜ r ≡ lastPlace sizes ⌝ }
 {
-    2 * z.n * (z.m + 1)
+    2 * sizes.n * (sizes.m + 1)
 }

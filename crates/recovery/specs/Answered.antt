@@ -2,9 +2,9 @@
 use mathlib.Core.List.{List}
 use Prim.Native.Nat.{ℕ}
 use Rattle.method.specs.Answers.{MendAnswer}
-use Rattle.recovery.specs.declared.mend.Mended.{Mended}
+use Rattle.recovery.specs.declared.mend.MendResult.{MendResult}
 
-abbrev pub answered : Mended → (store marks : List ℕ) → MendAnswer
+abbrev pub answered : MendResult → (store marks : List ℕ) → MendAnswer
 answered r store marks = record {
   number = r .number;
   place = r .place;

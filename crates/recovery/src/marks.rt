@@ -78,17 +78,17 @@ pub fn found_at(
 
 // Reads the marks. Blocks that are full bear s + 1 below block `change`, and one other letter, `top`, from there on. The search
 // ends at the second unfinished block, and at anything else that fits no moment of the move.
-pub fn read_marks(z: Sizes, marks: &[u8]) -> Found
-    requires { ⌜ (z .n ≤ 64) × (0 < z .m) × (z .m ≤ 64) × (z .s < 3) ⌝ }
-    requires { ⌜ length (now marks) ≡ slotCount z ⌝ }
-    ensures { λ r. ⌜ answerOf r ≡ marksAnswer (reading z (now (marks .entry))) ⌝ }
+pub fn read_marks(sizes: Sizes, marks: &[u8]) -> Found
+    requires { ⌜ (sizes .n ≤ 64) × (0 < sizes .m) × (sizes .m ≤ 64) × (sizes .s < 3) ⌝ }
+    requires { ⌜ length (now marks) ≡ slotCount sizes ⌝ }
+    ensures { λ r. ⌜ answerOf r ≡ marksAnswer (reading sizes (now (marks .entry))) ⌝ }
 {
-    let n = z.n;
-    let m = z.m;
+    let n = sizes.n;
+    let m = sizes.m;
     let blocks = n + 1;
     let mut unfinished: usize = 0;
     let mut torn = 0;
-    let mut top = letter_after(z, 1);
+    let mut top = letter_after(sizes, 1);
     let mut change = blocks;
     'search: for block in 0..blocks {
         let first = block * m;
@@ -117,16 +117,23 @@ pub fn read_marks(z: Sizes, marks: &[u8]) -> Found
             change = block;
         }
     }
-    found_at(n, m, top == letter_after(z, 0), unfinished, torn, change)
+    found_at(
+        n,
+        m,
+        top == letter_after(sizes, 0),
+        unfinished,
+        torn,
+        change,
+    )
 }
 
 // Whether the marks fit no moment of the move: number 6.
-pub fn fits_none(z: Sizes, marks: &[u8]) -> bool
-    requires { ⌜ (z .n ≤ 64) × (0 < z .m) × (z .m ≤ 64) × (z .s < 3) ⌝ }
-    requires { ⌜ length (now marks) ≡ slotCount z ⌝ }
-    ensures { λ r. ⌜ r ≡ fitsNone (reading z (now (marks .entry))) ⌝ }
+pub fn fits_none(sizes: Sizes, marks: &[u8]) -> bool
+    requires { ⌜ (sizes .n ≤ 64) × (0 < sizes .m) × (sizes .m ≤ 64) × (sizes .s < 3) ⌝ }
+    requires { ⌜ length (now marks) ≡ slotCount sizes ⌝ }
+    ensures { λ r. ⌜ r ≡ fitsNone (reading sizes (now (marks .entry))) ⌝ }
 {
-    match read_marks(z, marks) {
+    match read_marks(sizes, marks) {
         Found::Nothing => true,
         Found::Full { place: _ } => false,
         Found::Torn { place: _, block: _ } => false,

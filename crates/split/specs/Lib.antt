@@ -1,6 +1,7 @@
 pub mod OneToOne
 pub mod Split
 pub mod Rule
+pub mod Request
 pub mod Answer
 pub mod Claims
 pub mod inner

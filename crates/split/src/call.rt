@@ -9,13 +9,13 @@ use flash::sizes::in_range;
 use flash::sizes::original_count;
 
 // The number of the first row of the table that fits, or 0. Nothing is multiplied before the sizes are in range.
-fn refusal(z: Sizes, list: &[u16], sets: &[u8]) -> u32
-    ensures { λ r. ⌜ r ≡ refusal (splitRows z (now (list .entry)) (now (sets .entry))) ⌝ }
+fn refusal(sizes: Sizes, list: &[u16], sets: &[u8]) -> u32
+    ensures { λ r. ⌜ r ≡ refusal (splitRows sizes (now (list .entry)) (now (sets .entry))) ⌝ }
 {
-    if !in_range(z) {
+    if !in_range(sizes) {
         return 1;
     }
-    let originals = original_count(z);
+    let originals = original_count(sizes);
     if list.len() != originals {
         return 2;
     }
@@ -29,12 +29,12 @@ fn refusal(z: Sizes, list: &[u16], sets: &[u8]) -> u32
 }
 
 // Fills the set bytes by document 01's rule, or refuses and leaves them.
-pub fn split(z: Sizes, list: &[u16], sets: &mut [u8]) -> u32
-    ensures { λ r. ⌜ record { number = r; sets = now (sets .exit) } ≡ splitAnswer z (now (list .entry)) (now (sets .entry)) ⌝ }
+pub fn split(sizes: Sizes, list: &[u16], sets: &mut [u8]) -> u32
+    ensures { λ r. ⌜ record { number = r; sets = now (sets .exit) } ≡ splitAnswer sizes (now (list .entry)) (now (sets .entry)) ⌝ }
 {
-    let number = refusal(z, list, sets);
+    let number = refusal(sizes, list, sets);
     if number == 0 {
-        fill(z.n, z.m, list, sets);
+        fill(sizes.n, sizes.m, list, sets);
     }
     number
 }

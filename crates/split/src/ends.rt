@@ -5,8 +5,8 @@ ghost use lib.ListN.{length};
 ghost use Rattle.flash.specs.inner.Reciprocal.{reciprocal};
 ghost use Rattle.split.specs.Rule.{blockAt};
 ghost use Rattle.split.specs.inner.Ends.{endOf};
+use flash::casts::entry;
 use flash::quotient::quotient;
-use flash::wide::entry;
 
 // The block that original k comes from, or the block that it goes to.
 pub fn block_by(list: &[u16], m: usize, by: usize, source: bool, k: usize) -> usize

@@ -3,7 +3,7 @@ ghost use mathlib.Core.Path.{_≡_};
 ghost use Rattle.split.specs.OneToOne.{isOneToOne};
 ghost use Rattle.split.specs.inner.Window.{differWithin};
 use crate::mask::flip;
-use flash::wide::entry;
+use flash::casts::entry;
 
 // Whether no entry is at or above `originals`, and none of the 4,096 numbers of a window is met twice.
 fn differ_within(list: &[u16], originals: usize, window: usize) -> bool

@@ -13,7 +13,7 @@ use crate::mask::flip_both;
 use crate::mask::has;
 use crate::tables::hint;
 use crate::tables::note;
-use flash::wide::wide;
+use flash::casts::wide;
 
 // Whether a page has this block at this end, and this set.
 fn is_page(

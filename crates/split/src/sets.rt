@@ -9,11 +9,11 @@ use crate::list::check;
 use crate::mask::flip;
 use crate::mask::flipped;
 use crate::mask::has;
+use flash::casts::wide;
 use flash::quotient::reciprocal;
 use flash::sizes::Sizes;
 use flash::sizes::in_range;
 use flash::sizes::original_count;
-use flash::wide::wide;
 
 // Whether no set is met twice at a block, at either end: then the set bytes are a split of a list that passed the check.
 fn sets_differ(n: usize, m: usize, list: &[u16], sets: &[u8]) -> bool
@@ -48,18 +48,18 @@ fn sets_differ(n: usize, m: usize, list: &[u16], sets: &[u8]) -> bool
 }
 
 // Whether the set bytes are a split of the list.
-pub fn is_split(z: Sizes, list: &[u16], sets: &[u8]) -> bool
-    ensures { λ r. ⌜ r ≡ isCorrectSplit z (now (list .entry)) (now (sets .entry)) ⌝ }
+pub fn is_split(sizes: Sizes, list: &[u16], sets: &[u8]) -> bool
+    ensures { λ r. ⌜ r ≡ isCorrectSplit sizes (now (list .entry)) (now (sets .entry)) ⌝ }
 {
-    if !in_range(z) {
+    if !in_range(sizes) {
         return false;
     }
-    let originals = original_count(z);
+    let originals = original_count(sizes);
     if (list.len() != originals) | (sets.len() != originals) {
         return false;
     }
     if !check(list, originals) {
         return false;
     }
-    sets_differ(z.n, z.m, list, sets)
+    sets_differ(sizes.n, sizes.m, list, sets)
 }

@@ -3,7 +3,7 @@
 ghost use mathlib.Core.Path.{_≡_};
 ghost use Prim.Native.Nat.{_-_, _*_, _≤_, _<_};
 ghost use Rattle.split.specs.inner.Hints.{homeOf, hintOf, noted};
-use flash::wide::wide;
+use flash::casts::wide;
 
 // The source block, from 0, of the page that had the set last at a block.
 fn home(last: &[u8; 8192], source: bool, block: usize, set: usize) -> usize

@@ -16,11 +16,11 @@ use Rattle.flash.proofs.Bools.{bool-cases, and-left, and-right}
 use Rattle.flash.proofs.Bounds.{product-le}
 use Rattle.listing.specs.Area.{Written}
 use Rattle.listing.specs.Numbers.{numbersIn, Taken, taken}
-use Rattle.listing.specs.Request.{Reading, unreadable, refused, request, isAllowed, sizesOf, numbersDue, exactly, requested, afterSizes, reading, withinLimit}
-use Rattle.listing.specs.inner.Found.{requestIn, askedAs}
-use Rattle.listing.specs.declared.request.Request.{Request}
+use Rattle.listing.specs.Input.{Input, unreadable, refused, request, isAllowed, sizesFrom, numbersDue, exactly, requested, afterSizes, inputOf, withinLimit}
+use Rattle.listing.specs.ReaderAnswers.{requestIn, askedAs}
+use Rattle.listing.specs.declared.input.InputRead.{InputRead}
 use Rattle.listing.proofs.AreaLaws.{over-room}
-use Rattle.listing.proofs.RequestLaws.{bounded, few-originals}
+use Rattle.listing.proofs.InputLaws.{bounded, few-originals}
 use Rattle.steplist.specs.Output.{answered, output, Counts}
 use Rattle.steplist.specs.inner.Given.{Asked, Readable}
 
@@ -60,10 +60,10 @@ module _ (Z : Sizes) (count due : ℕ) (numbers : List ℕ) (count-is : count �
       }
 
   pub same-request : request Z (take count numbers) (take (due - count) (drop count numbers)) ≡ requestIn numbers Z
-  same-request = ap₂ {C = Reading} (request Z) (sym list-is) (sym bytes-are)
+  same-request = ap₂ {C = Input} (request Z) (sym list-is) (sym bytes-are)
 
 -- what every request that is read has: sizes within the limits, and bytes to 255
-abbrev isSound : Reading → Bool
+abbrev isSound : Input → Bool
 isSound unreadable = true
 isSound refused = true
 isSound (request Z list bytes) = isAllowed Z && all (λ byte. leb byte 255) bytes
@@ -85,14 +85,14 @@ sizes-sound : (found : Option Taken) → isSound (afterSizes found) ≡ true
 unfolding afterSizes
 sizes-sound none = refl
 sizes-sound (some sizes) =
-    let Z = sizesOf (sizes .values) in
+    let Z = sizesFrom (sizes .values) in
     ⊎-elim
     (λ (e : isAllowed Z ≡ true). rw e (due-sound Z e (taken [] (numbersDue Z) (sizes .rest))))
     (λ (e : isAllowed Z ≡ false). rw e)
     (bool-cases (isAllowed Z))
 
-pub asked : (Z : Sizes) (text numbers : List ℕ) → requestIn numbers Z ≡ reading text → Asked Z numbers
-unfolding reading
+pub asked : (Z : Sizes) (text numbers : List ℕ) → requestIn numbers Z ≡ inputOf text → Asked Z numbers
+unfolding inputOf
 asked Z text numbers e =
     let bytes = all (λ byte. leb byte 255) (drop (originalCount Z) (take (numbersDue Z) numbers)) in
     let sound : (isAllowed Z && bytes) ≡ true = ap isSound e ∙ sizes-sound (taken [] 4 (numbersIn text)) in
@@ -103,7 +103,7 @@ asked Z text numbers e =
     }
 
 -- what the reader told, and the output
-pub answers : (input numbers before after : List ℕ) (count : ℕ) (told known : Request) → askedAs numbers told ≡ reading (withinLimit input) → told ≡ known
+pub answers : (input numbers before after : List ℕ) (count : ℕ) (told known : InputRead) → askedAs numbers told ≡ inputOf (withinLimit input) → told ≡ known
     → Written (answered (askedAs numbers known)) before after count → Written (output input) before after count × Counts count after
 unfolding output
 answers input numbers before after count told known e q w =

@@ -18,8 +18,8 @@ use Rattle.split.specs.OneToOne.{badList}
 use Rattle.split.specs.Answer.{splitRows, SplitAnswer, splitAnswer}
 use Rattle.split.proofs.Answers.{passed}
 use Rattle.listing.specs.Lines.{refusedLine}
-use Rattle.listing.specs.Request.{isAllowed, request}
-use Rattle.listing.proofs.RequestLaws.{bounded, few-originals}
+use Rattle.listing.specs.Input.{isAllowed, request}
+use Rattle.listing.proofs.InputLaws.{bounded, few-originals}
 use Rattle.steplist.specs.Output.{listed, answered}
 use Rattle.steplist.specs.inner.Given.{Readable, Accepted}
 use Rattle.steplist.proofs.StartLaws.{in-bounds}

@@ -9,22 +9,21 @@ use lib.ListN.{length, drop, replicate, length-append, length-drop, length-repli
 use lib.Seq.{getD-append-add, take-append-le, drop-append-le}
 use Rattle.flash.specs.Lists.{range, all, part}
 use Rattle.flash.specs.declared.sizes.Sizes.{Sizes}
-use Rattle.flash.specs.Geometry.{slot, originalCount, storeLength, marksLength}
+use Rattle.flash.specs.Geometry.{Bounds, slot, originalCount, storeLength, marksLength}
 use Rattle.flash.specs.Chip.{Chip, pageAt, markAt, isBlank, isFull}
-use Rattle.flash.proofs.Bounds.{Bounds, slot-in-marks}
+use Rattle.flash.proofs.Bounds.{slot-in-marks}
 use Rattle.flash.proofs.Ranges.{all-is}
 use Rattle.flash.proofs.Parts.{part-fits, part-replicate}
 use Rattle.flash.proofs.Blocks.{full-of}
 use Rattle.flash.proofs.Chips.{blank-of}
 use Rattle.split.specs.OneToOne.{isOneToOne}
 use Rattle.split.proofs.RuleLaws.{rule-split, rule-length}
-use Rattle.method.specs.Move.{Move, moveOf}
+use Rattle.method.specs.Move.{Move, moveOf, AcceptedMove}
 use Rattle.method.specs.State.{isAtRest, atRest}
-use Rattle.method.proofs.basics.MoveShape as shape
 use Rattle.method.proofs.basics.AcceptedCalls.{taken-run}
 use Rattle.method.proofs.states.AtRest.{rest-stands}
-use Rattle.listing.specs.Request.{isAllowed}
-use Rattle.listing.proofs.RequestLaws.{Bounded, bounded}
+use Rattle.listing.specs.Input.{isAllowed}
+use Rattle.listing.proofs.InputLaws.{Bounded, bounded}
 use Rattle.steplist.specs.inner.Listing.{runningOf, Listable}
 use Rattle.steplist.specs.inner.Given.{Accepted}
 
@@ -105,7 +104,7 @@ module _ (Z : Sizes) (list sets bytes : List ℕ) where
     unfolding isOneToOne
     one-to-one = ap not (A .good)
 
-    accepted : shape.Accepted M
+    accepted : AcceptedMove M
     accepted =
         record {
           ranges = in-bounds Z (A .readable .allowed);

@@ -10,14 +10,14 @@ use Rattle.method.specs.Step.{Running, step, steps, tally, operationsFrom}
 use Rattle.method.specs.Answers.{stepsTaken, RunAnswer, runAnswer}
 use Rattle.method.proofs.basics.AcceptedCalls.{run-taken}
 use Rattle.method.proofs.states.RunsAddUp.{answerOf, run-answer, still-taken}
-use Rattle.mover.specs.declared.run.Ran.{Ran}
+use Rattle.mover.specs.declared.run.RunResult.{RunResult}
 use Rattle.mover.specs.Answers.{ranAs}
 use Rattle.steplist.specs.Output.{stepLine}
 use Rattle.steplist.specs.inner.Listing.{runningOf, Listable}
 use Rattle.steplist.proofs.LengthLaws.{line-short}
 
 -- what one step of a run that is not refused leaves and counts
-pub record OneStep (M : Move) (run : Running) (place : ℕ) (ran : Ran) (store marks work : List ℕ) : Type 0 where
+pub record OneStep (M : Move) (run : Running) (place : ℕ) (ran : RunResult) (store marks work : List ℕ) : Type 0 where
   pub left : runningOf store marks work ≡ step M place run
   pub writes-is : ran .writes ≡ tally (operationsFrom M place 1) .writes
   pub erases-is : ran .erases ≡ tally (operationsFrom M place 1) .erases
@@ -28,7 +28,7 @@ module _ (M : Move) (run : Running) (place : ℕ) (L : Listable M run place) (h 
   unfolding stepsTaken
   one-left = omega arith
 
-  pub one-step : (ran : Ran) (store marks work : List ℕ) → ranAs ran store marks work ≡ runAnswer M (run .chip) (run .work) place 1 → OneStep M run place ran store marks work
+  pub one-step : (ran : RunResult) (store marks work : List ℕ) → ranAs ran store marks work ≡ runAnswer M (run .chip) (run .work) place 1 → OneStep M run place ran store marks work
   unfolding answerOf steps
   one-step ran store marks work A =
       let e = run-answer M (run .chip) (run .work) place 1 (L .taken) ∙ ap (answerOf M (run .chip) (run .work) place) one-left in

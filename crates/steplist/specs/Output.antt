@@ -12,7 +12,7 @@ use Rattle.method.specs.Move.{Move}
 use Rattle.method.specs.Place.{Operation, write, erase, done, operations, operationAt, lastPlace}
 use Rattle.method.specs.State.{atRest}
 use Rattle.method.specs.Step.{Running, step, tally}
-use Rattle.listing.specs.Request.{Reading, unreadable, refused, request, reading, withinLimit}
+use Rattle.listing.specs.Input.{Input, unreadable, refused, request, inputOf, withinLimit}
 use Rattle.listing.specs.Lines.{writeLine, eraseLine, endLine, refusedLine, unreadableLine}
 
 -- the line of a step; after a write the work page is the page written
@@ -40,13 +40,13 @@ listed Z list bytes =
     moveLines (record { sizes = Z; list = list; sets = splitByRule (Z .n) (Z .m) list }) (record { chip = atRest Z bytes; work = replicate (Z .p) 0 })
 
 -- "A bad list gives `refused 3`." An entry above 16 bits is at or above n × m, as any other too large.
-unfoldable pub answered : Reading → List ℕ
+unfoldable pub answered : Input → List ℕ
 answered unreadable = unreadableLine
 answered refused = refusedLine 1
 answered (request Z list bytes) = cond (badList (originalCount Z) list) (refusedLine 3) (listed Z list bytes)
 
 unfoldable pub output : (input : List ℕ) → List ℕ
-output input = answered (reading (withinLimit input))
+output input = answered (inputOf (withinLimit input))
 
 -- A count of bytes at the front of a part. The second follows from the first; both are what lending the front asks for.
 abbrev pub Counts : (count : ℕ) → (out : List ℕ) → Type 0

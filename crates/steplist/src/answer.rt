@@ -6,8 +6,8 @@ ghost use Rattle.flash.specs.Geometry.{originalCount};
 ghost use Rattle.method.specs.Move.{moveOf};
 ghost use Rattle.method.specs.State.{atRest};
 ghost use Rattle.listing.specs.Area.{over, Written};
-ghost use Rattle.listing.specs.Request.{request, withinLimit};
-ghost use Rattle.listing.specs.inner.Found.{requestIn};
+ghost use Rattle.listing.specs.Input.{request, withinLimit};
+ghost use Rattle.listing.specs.ReaderAnswers.{requestIn};
 ghost use Rattle.steplist.specs.Output.{listed, answered, output, Counts};
 ghost use Rattle.steplist.specs.inner.Listing.{runningOf, moved, mostOutput};
 ghost use Rattle.steplist.specs.inner.Given.{Asked, Readable, Accepted, judgedList, judgedSets, Empty};
@@ -20,13 +20,13 @@ use flash::sizes::slot_count;
 use flash::sizes::store_length;
 use listing::fit::fit;
 use listing::fit::put_entries;
+use listing::input::InputRead;
+use listing::input::MOST_NUMBERS;
+use listing::input::limit;
+use listing::input::numbers_due;
+use listing::input::read;
 use listing::lines::put_refused;
 use listing::lines::put_unreadable;
-use listing::request::MOST_NUMBERS;
-use listing::request::Request;
-use listing::request::limit;
-use listing::request::numbers_due;
-use listing::request::read;
 use split::call::split;
 
 // Room for the longest output.
@@ -48,7 +48,7 @@ const MOST_STORE: usize = 4608;
 // Fills the store and the marks as they are at rest, and lists the move.
 fn put_from_rest(
     out: &mut [u8],
-    z: Sizes,
+    sizes: Sizes,
     list: &[u16],
     sets: &[u8],
     originals: &[u32],
@@ -56,34 +56,34 @@ fn put_from_rest(
     marks: &mut [u8],
     work: &mut [u8],
 ) -> usize
-    requires { ⌜ Accepted z (now list) (now sets) (now originals) × Empty z (now store) (now marks) (now work) × (mostOutput ≤ length (now out)) ⌝ }
-    ensures { λ r. ⌜ Written (listed z (now (list .entry)) (now (originals .entry))) (now (out .entry)) (now (out .exit)) r ⌝ }
+    requires { ⌜ Accepted sizes (now list) (now sets) (now originals) × Empty sizes (now store) (now marks) (now work) × (mostOutput ≤ length (now out)) ⌝ }
+    ensures { λ r. ⌜ Written (listed sizes (now (list .entry)) (now (originals .entry))) (now (out .entry)) (now (out .exit)) r ⌝ }
     ensures { λ _. ⌜ runningOf (now (store .exit)) (now (marks .exit)) (now (work .exit))
-        ≡ moved (moveOf z (now (list .entry)) (now (sets .entry)))
-        (record { chip = atRest z (now (originals .entry)); work = now (work .entry) }) ⌝ }
+        ≡ moved (moveOf sizes (now (list .entry)) (now (sets .entry)))
+        (record { chip = atRest sizes (now (originals .entry)); work = now (work .entry) }) ⌝ }
 {
-    let m = z.m;
-    let p = z.p;
-    let s = z.s;
+    let m = sizes.m;
+    let p = sizes.p;
+    let s = sizes.s;
     put_store(originals, m * p, store);
     put_marks(m, s as u8, marks);
-    put_listing(out, z, list, sets, store, marks, work)
+    put_listing(out, sizes, list, sets, store, marks, work)
 }
 
 // Lists the move of an accepted request.
-fn put_accepted(out: &mut [u8], z: Sizes, list: &[u16], sets: &[u8], originals: &[u32]) -> usize
-    requires { ⌜ Accepted z (now list) (now sets) (now originals) × (mostOutput ≤ length (now out)) ⌝ }
-    ensures { λ r. ⌜ Written (listed z (now (list .entry)) (now (originals .entry))) (now (out .entry)) (now (out .exit)) r ⌝ }
+fn put_accepted(out: &mut [u8], sizes: Sizes, list: &[u16], sets: &[u8], originals: &[u32]) -> usize
+    requires { ⌜ Accepted sizes (now list) (now sets) (now originals) × (mostOutput ≤ length (now out)) ⌝ }
+    ensures { λ r. ⌜ Written (listed sizes (now (list .entry)) (now (originals .entry))) (now (out .entry)) (now (out .exit)) r ⌝ }
 {
     let mut store = [0u8; MOST_STORE];
     let mut marks = [0u8; MOST_SLOTS];
     let mut work = [0u8; MOST_PAGE];
-    let size = store_length(z);
-    let slots = slot_count(z);
-    let page = z.p;
+    let size = store_length(sizes);
+    let slots = slot_count(sizes);
+    let page = sizes.p;
     put_from_rest(
         out,
-        z,
+        sizes,
         list,
         sets,
         originals,
@@ -96,40 +96,40 @@ fn put_accepted(out: &mut [u8], z: Sizes, list: &[u16], sets: &[u8], originals: 
 // Judges and splits the list of a request, and lists its move. A number is judged before it is cut to 16 bits.
 fn put_judged(
     out: &mut [u8],
-    z: Sizes,
+    sizes: Sizes,
     entries: &[u32],
     originals: &[u32],
     list: &mut [u16],
     sets: &mut [u8],
 ) -> usize
-    requires { ⌜ Readable z (now entries) (now originals) × (length (now list) ≡ originalCount z) × (length (now sets) ≡ originalCount z)
+    requires { ⌜ Readable sizes (now entries) (now originals) × (length (now list) ≡ originalCount sizes) × (length (now sets) ≡ originalCount sizes)
         × (mostOutput ≤ length (now out)) ⌝ }
-    ensures { λ r. ⌜ Written (answered (request z (now (entries .entry)) (now (originals .entry)))) (now (out .entry)) (now (out .exit)) r ⌝ }
+    ensures { λ r. ⌜ Written (answered (request sizes (now (entries .entry)) (now (originals .entry)))) (now (out .entry)) (now (out .exit)) r ⌝ }
     ensures { λ _. ⌜ (now (list .exit) ≡ judgedList (now (entries .entry)) (now (list .entry)))
-        × (now (sets .exit) ≡ judgedSets z (now (entries .entry)) (now (sets .entry))) ⌝ }
+        × (now (sets .exit) ≡ judgedSets sizes (now (entries .entry)) (now (sets .entry))) ⌝ }
 {
     if !fit(entries, MOST_ENTRY) {
         return put_refused(out, 0, 3);
     }
     put_entries(entries, list);
-    if split(z, list, sets) != 0 {
+    if split(sizes, list, sets) != 0 {
         return put_refused(out, 0, 3);
     }
-    put_accepted(out, z, list, sets, originals)
+    put_accepted(out, sizes, list, sets, originals)
 }
 
 // Answers a request whose numbers were read.
-fn put_move(out: &mut [u8], z: Sizes, numbers: &[u32]) -> usize
-    requires { ⌜ Asked z (now numbers) × (4160 ≤ length (now numbers)) × (mostOutput ≤ length (now out)) ⌝ }
-    ensures { λ r. ⌜ Written (answered (requestIn (now (numbers .entry)) z)) (now (out .entry)) (now (out .exit)) r ⌝ }
+fn put_move(out: &mut [u8], sizes: Sizes, numbers: &[u32]) -> usize
+    requires { ⌜ Asked sizes (now numbers) × (4160 ≤ length (now numbers)) × (mostOutput ≤ length (now out)) ⌝ }
+    ensures { λ r. ⌜ Written (answered (requestIn (now (numbers .entry)) sizes)) (now (out .entry)) (now (out .exit)) r ⌝ }
 {
     let mut list = [0u16; MOST_ORIGINALS];
     let mut sets = [0u8; MOST_ORIGINALS];
-    let count = original_count(z);
-    let due = numbers_due(count, z.p);
+    let count = original_count(sizes);
+    let due = numbers_due(count, sizes.p);
     put_judged(
         out,
-        z,
+        sizes,
         &numbers[..count],
         &numbers[count..due],
         &mut list[..count],
@@ -138,11 +138,11 @@ fn put_move(out: &mut [u8], z: Sizes, numbers: &[u32]) -> usize
 }
 
 // The same, in an area and with room of fixed sizes.
-fn put_request(out: &mut [u8; MOST_OUTPUT], z: Sizes, numbers: &[u32; MOST_NUMBERS]) -> usize
-    requires { ⌜ Asked z (now numbers) ⌝ }
-    ensures { λ r. ⌜ Written (answered (requestIn (now (numbers .entry)) z)) (now (out .entry)) (now (out .exit)) r ⌝ }
+fn put_request(out: &mut [u8; MOST_OUTPUT], sizes: Sizes, numbers: &[u32; MOST_NUMBERS]) -> usize
+    requires { ⌜ Asked sizes (now numbers) ⌝ }
+    ensures { λ r. ⌜ Written (answered (requestIn (now (numbers .entry)) sizes)) (now (out .entry)) (now (out .exit)) r ⌝ }
 {
-    put_move(out, z, numbers)
+    put_move(out, sizes, numbers)
 }
 
 // Answers an input: the answer is written over the front of `out`, and its length is returned. The input's byte behind the limit, if it
@@ -155,8 +155,8 @@ pub fn answer(input: &mut [u8], out: &mut [u8; MOST_OUTPUT]) -> usize
     let mut numbers = [0u32; MOST_NUMBERS];
     let end = limit(input);
     match read(&input[..end], &mut numbers) {
-        Request::Unreadable => put_unreadable(out, 0),
-        Request::Refused => put_refused(out, 0, 1),
-        Request::Move { z } => put_request(out, z, &numbers),
+        InputRead::Unreadable => put_unreadable(out, 0),
+        InputRead::Refused => put_refused(out, 0, 1),
+        InputRead::Move { sizes } => put_request(out, sizes, &numbers),
     }
 }

@@ -11,13 +11,13 @@ use places::place::Op;
 use places::place::Place;
 
 // Prints the line of the step at a place: after a write the work page is the page written. Answers the next position.
-pub fn put_line(out: &mut [u8], at: usize, z: Sizes, place: usize, work: &[u8]) -> usize
-    requires { ⌜ (1 ≤ z .n) × (z .n ≤ 64) × (1 ≤ z .m) × (z .m ≤ 64) × (z .s < 3) ⌝ }
-    requires { ⌜ at + length (stepLine place (operationAt z place) (now work)) ≤ length (now out) ⌝ }
-    ensures { λ r. ⌜ Printed (stepLine place (operationAt z place) (now (work .entry))) (now (out .entry)) at (now (out .exit)) r ⌝ }
+pub fn put_line(out: &mut [u8], at: usize, sizes: Sizes, place: usize, work: &[u8]) -> usize
+    requires { ⌜ (1 ≤ sizes .n) × (sizes .n ≤ 64) × (1 ≤ sizes .m) × (sizes .m ≤ 64) × (sizes .s < 3) ⌝ }
+    requires { ⌜ at + length (stepLine place (operationAt sizes place) (now work)) ≤ length (now out) ⌝ }
+    ensures { λ r. ⌜ Printed (stepLine place (operationAt sizes place) (now (work .entry))) (now (out .entry)) at (now (out .exit)) r ⌝ }
 {
     let here = Place { at: place };
-    match here.operation(z) {
+    match here.operation(sizes) {
         Op::Write {
             backward: _,
             block,

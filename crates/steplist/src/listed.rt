@@ -8,8 +8,8 @@ ghost use Rattle.listing.specs.Area.{Written};
 ghost use Rattle.steplist.specs.Output.{moveLines};
 ghost use Rattle.steplist.specs.inner.Listing.{runningOf, Listable, moved, mostLine, mostOutput, Stepped, Shows};
 use crate::line::put_line;
+use flash::casts::word;
 use flash::sizes::Sizes;
-use flash::wide::word;
 use listing::lines::put_end;
 use mover::run::run;
 use places::place::last_place;
@@ -25,7 +25,7 @@ pub struct Shown {
 fn put_step(
     out: &mut [u8],
     at: usize,
-    z: Sizes,
+    sizes: Sizes,
     list: &[u16],
     sets: &[u8],
     store: &mut [u8],
@@ -33,14 +33,14 @@ fn put_step(
     work: &mut [u8],
     place: usize,
 ) -> Shown
-    requires { ⌜ Listable (moveOf z (now list) (now sets)) (runningOf (now store) (now marks) (now work)) place ⌝ }
-    requires { ⌜ (place < lastPlace z) × (at + mostLine ≤ length (now out)) ⌝ }
-    ensures { λ r. ⌜ Stepped (moveOf z (now (list .entry)) (now (sets .entry))) place
+    requires { ⌜ Listable (moveOf sizes (now list) (now sets)) (runningOf (now store) (now marks) (now work)) place ⌝ }
+    requires { ⌜ (place < lastPlace sizes) × (at + mostLine ≤ length (now out)) ⌝ }
+    ensures { λ r. ⌜ Stepped (moveOf sizes (now (list .entry)) (now (sets .entry))) place
         (runningOf (now (store .entry)) (now (marks .entry)) (now (work .entry))) (now (out .entry)) at r (now (out .exit))
         (now (store .exit)) (now (marks .exit)) (now (work .exit)) ⌝ }
 {
-    let ran = run(z, list, sets, store, marks, work, place, 1);
-    let next = put_line(out, at, z, place, work);
+    let ran = run(sizes, list, sets, store, marks, work, place, 1);
+    let next = put_line(out, at, sizes, place, work);
     Shown {
         at: next,
         writes: word(ran.writes),
@@ -51,25 +51,25 @@ fn put_step(
 // Takes all steps and prints their lines.
 fn put_steps(
     out: &mut [u8],
-    z: Sizes,
+    sizes: Sizes,
     list: &[u16],
     sets: &[u8],
     store: &mut [u8],
     marks: &mut [u8],
     work: &mut [u8],
 ) -> Shown
-    requires { ⌜ Listable (moveOf z (now list) (now sets)) (runningOf (now store) (now marks) (now work)) 0 × (mostOutput ≤ length (now out)) ⌝ }
-    ensures { λ r. ⌜ Shows (moveOf z (now (list .entry)) (now (sets .entry)))
-        (runningOf (now (store .entry)) (now (marks .entry)) (now (work .entry))) (lastPlace z) (r .at) (r .writes) (r .erases)
+    requires { ⌜ Listable (moveOf sizes (now list) (now sets)) (runningOf (now store) (now marks) (now work)) 0 × (mostOutput ≤ length (now out)) ⌝ }
+    ensures { λ r. ⌜ Shows (moveOf sizes (now (list .entry)) (now (sets .entry)))
+        (runningOf (now (store .entry)) (now (marks .entry)) (now (work .entry))) (lastPlace sizes) (r .at) (r .writes) (r .erases)
         (now (out .entry)) (now (out .exit)) (now (store .exit)) (now (marks .exit)) (now (work .exit)) ⌝ }
 {
-    let last = last_place(z);
+    let last = last_place(sizes);
     let mut at = 0;
     let mut writes = 0;
     let mut erases = 0;
     let mut place = 0;
     while place < last {
-        let step = put_step(out, at, z, list, sets, store, marks, work, place);
+        let step = put_step(out, at, sizes, list, sets, store, marks, work, place);
         at = step.at;
         writes += step.writes;
         erases += step.erases;
@@ -81,20 +81,20 @@ fn put_steps(
 // Moves a store at rest step by step, and prints the lines of the steps and the end line. Answers how many bytes were printed.
 pub fn put_listing(
     out: &mut [u8],
-    z: Sizes,
+    sizes: Sizes,
     list: &[u16],
     sets: &[u8],
     store: &mut [u8],
     marks: &mut [u8],
     work: &mut [u8],
 ) -> usize
-    requires { ⌜ Listable (moveOf z (now list) (now sets)) (runningOf (now store) (now marks) (now work)) 0 × (mostOutput ≤ length (now out)) ⌝ }
-    ensures { λ r. ⌜ Written (moveLines (moveOf z (now (list .entry)) (now (sets .entry)))
+    requires { ⌜ Listable (moveOf sizes (now list) (now sets)) (runningOf (now store) (now marks) (now work)) 0 × (mostOutput ≤ length (now out)) ⌝ }
+    ensures { λ r. ⌜ Written (moveLines (moveOf sizes (now (list .entry)) (now (sets .entry)))
         (runningOf (now (store .entry)) (now (marks .entry)) (now (work .entry)))) (now (out .entry)) (now (out .exit)) r ⌝ }
     ensures { λ _. ⌜ runningOf (now (store .exit)) (now (marks .exit)) (now (work .exit))
-        ≡ moved (moveOf z (now (list .entry)) (now (sets .entry)))
+        ≡ moved (moveOf sizes (now (list .entry)) (now (sets .entry)))
         (runningOf (now (store .entry)) (now (marks .entry)) (now (work .entry))) ⌝ }
 {
-    let shown = put_steps(out, z, list, sets, store, marks, work);
+    let shown = put_steps(out, sizes, list, sets, store, marks, work);
     put_end(out, shown.at, shown.writes, shown.erases)
 }

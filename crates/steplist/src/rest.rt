@@ -7,7 +7,7 @@ ghost use lib.Dec.{leb};
 ghost use lib.ListN.{length, replicate};
 ghost use Rattle.flash.specs.Lists.{all};
 use flash::ERASED;
-use flash::part::fill;
+use flash::bytes::fill;
 use listing::fit::put_bytes;
 
 // The pages of the spare become blank, and the originals' bytes follow.

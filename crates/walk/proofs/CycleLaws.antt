@@ -14,31 +14,12 @@ use Rattle.flash.proofs.Bounds.{product-le}
 use Rattle.flash.proofs.Comparisons.{lt-cases}
 use Rattle.split.specs.Split.{sourceBlock, destBlock, setOf}
 use Rattle.split.proofs.SplitLaws.{same-from, same-to, place-block}
-use Rattle.method.specs.Move.{Move}
+use Rattle.method.specs.Move.{Move, AcceptedMove}
 use Rattle.method.specs.Cycle.{D, dest, pred, sentTo}
 use Rattle.method.proofs.basics.Indexes.{slot-div, slot-mod, slot-lt}
 use Rattle.method.proofs.cycles.Orbits.{DataBlock}
-use Rattle.method.proofs.basics.MoveShape.{Accepted}
 use Rattle.method.proofs.cycles.SetCycles.{set-in, entry-in, block-in, D-page, D-is, dest-is, pred-in, dest-pred, pred-dest, sent-in, entry-sent, sent-entry}
-use Rattle.walk.specs.inner.Moving.{Given, entryOf, Tables, Leads}
-
--- what was given is an accepted move
-pub accepted : (M : Move) → Given M → Accepted M
-accepted M G = record {
-  ranges = record {
-    n-low = G .n-low;
-    n-high = G .n-high;
-    m-low = G .m-low;
-    m-high = G .m-high;
-    p-low = G .p-low;
-    p-high = G .p-high;
-    s-high = G .s-high;
-  };
-  list-length = G .list-length;
-  sets-length = G .sets-length;
-  one-to-one = G .one-to-one;
-  split = G .split;
-}
+use Rattle.walk.specs.inner.Moving.{entryOf, Tables, Leads}
 
 -- ---- an entry lies in a table of 4,096
 pub table-fits : (n m : ℕ) → n ≤ 64 → m ≤ 64 → (block set : ℕ) → block < n → set < m → block * m + set < 4096
@@ -80,15 +61,15 @@ one-more table at value k apart fits old j h =
     ap (λ (i : ℕ). getD (set table (at k) (value k)) (at i) 0) e ∙ getD-set-same table (at k) (value k) 0 fits ∙ ap value (sym e))
     (lt-cases j k)
 
-module _ (M : Move) (G : Given M) where
+module _ (M : Move) (G : AcceptedMove M) where
   open Sizes (M .sizes) using (n, m)
   open Move M using (list, sets)
 
-  abbrev A : Accepted M
-  A = accepted M G
+  abbrev A : AcceptedMove M
+  A = G
 
   entry-in-table : (block set : ℕ) → block < n → set < m → block * m + set < 4096
-  entry-in-table = table-fits n m (G .n-high) (G .m-high)
+  entry-in-table = table-fits n m (G .ranges .n-high) (G .ranges .m-high)
 
   -- ---- no two originals have the same entry
   apart : (block : ℕ → ℕ) (j k : ℕ) → j < n * m → k < n * m → block j * m + setOf sets j ≡ block k * m + setOf sets k → (block j ≡ block k) × (setOf sets j ≡ setOf sets k)
@@ -115,10 +96,10 @@ module _ (M : Move) (G : Given M) where
         omega arith
 
     pub source-in : k / m < n
-    source-in = div-lt-iff-lt-mul (G .m-low) .1 k-in
+    source-in = div-lt-iff-lt-mul (G .ranges .m-low) .1 k-in
 
     target-in : getD list k 0 / m < n
-    target-in = div-lt-iff-lt-mul (G .m-low) .1 (entry-in M A k k-in)
+    target-in = div-lt-iff-lt-mul (G .ranges .m-low) .1 (entry-in M A k k-in)
 
     module _ (source page : ℕ) (C : Counts m k source page) where
       source-is : source ≡ k / m
@@ -133,7 +114,7 @@ module _ (M : Move) (G : Given M) where
           let s = set-in M A k k-in in
           rw (e, q, source-is)
           (record {
-            source-low = omega (arith, source-in, G .n-high);
+            source-low = omega (arith, source-in, G .ranges .n-high);
             source-in = entry-in-table (k / m) (getD sets k 0) source-in s;
             target-in = entry-in-table (getD list k 0 / m) (getD sets k 0) target-in s;
           })
@@ -174,15 +155,15 @@ module _ (M : Move) (G : Given M) where
         told from set block (getD list k 0 / m) (setOf sets k) low (dest-pred M A set h block b) (p .in-set) ∙ F .from-is k (p .inside) ∙ p .at-block
 
     pub tables : Tables M pages from
-    tables = record { given = G; page-is = pages-tell; from-is = from-tells }
+    tables = record { given = G; bounds = G .ranges; page-is = pages-tell; from-is = from-tells }
 
 -- ---- what the tables tell
 module _ (M : Move) (pages from : List ℕ) (T : Tables M pages from) where
   open Sizes (M .sizes) using (n, m)
   open Move M using (list, sets)
 
-  abbrev T-accepted : Accepted M
-  T-accepted = accepted M (T .given)
+  abbrev T-accepted : AcceptedMove M
+  T-accepted = T .given
 
   pub leads : (set : ℕ) → set < m → Leads n m from set
   leads set set-ok = record {
@@ -197,7 +178,7 @@ module _ (M : Move) (pages from : List ℕ) (T : Tables M pages from) where
       let p = D-page M T-accepted set set-ok block (record { low = low; high = high }) in
       let b : k / m ≡ block - 1 = omega (arith, p .at-block) in
       let parts : (block - 1) * m + k % m ≡ k = rw (← b) (div-add-mod' k m) in
-      omega (arith, T .page-is set block set-ok low high, mod-lt k (T .given .m-low))
+      omega (arith, T .page-is set block set-ok low high, mod-lt k (T .given .ranges .m-low))
 
   -- the originals that go to a block, one for each set
   module _ (block page : ℕ) (b : DataBlock n block) (page-ok : page < m) where

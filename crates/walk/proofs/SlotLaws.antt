@@ -12,14 +12,12 @@ use Rattle.flash.specs.declared.sizes.Sizes.{Sizes}
 use Rattle.flash.specs.Geometry.{blockOf, slotCount}
 use Rattle.flash.proofs.Bounds.{slot-in-marks}
 use Rattle.split.specs.Split.{setOf}
-use Rattle.method.specs.Move.{Move}
+use Rattle.method.specs.Move.{Move, AcceptedMove}
 use Rattle.method.specs.Cycle.{D, dest, pred, top, isTop}
 use Rattle.method.specs.Read.{fullOf, codedSlot, plainSlot, finalSlot, goBack, goOn, readSlots}
 use Rattle.method.proofs.basics.EachNumber.{Each, each-cons, each-one}
 use Rattle.method.proofs.cycles.Orbits.{DataBlock}
 use Rattle.method.proofs.cycles.SetCycles.{entry-in, set-in, block-in, D-page, dest-in, pred-in}
-use Rattle.walk.specs.inner.Moving.{Given}
-use Rattle.walk.proofs.CycleLaws.{accepted}
 
 module _ (Q : ℕ → Type 0) where
   pub each-none : Each Q []
@@ -33,7 +31,7 @@ module _ (Q : ℕ → Type 0) where
   each-append [] ys a b = b
   each-append (x ∷ xs) ys a b = each-cons Q x (xs ++ ys) (a 0 (omega arith)) (each-append xs ys (λ i h. a (suc i) (omega arith)) b)
 
-module _ (M : Move) (G : Given M) (marks : List ℕ) where
+module _ (M : Move) (G : AcceptedMove M) (marks : List ℕ) where
   open Sizes (M .sizes) using (n, m)
 
   abbrev Stored : ℕ → Type 0
@@ -41,11 +39,11 @@ module _ (M : Move) (G : Given M) (marks : List ℕ) where
 
   plain-in : (k : ℕ) → k < n * m → Stored (plainSlot M marks k)
   unfolding plainSlot
-  plain-in k h = slot-in-marks (M .sizes) (blockOf m k) (k % m) (block-in M (accepted M G) k h .high) (mod-lt k (G .m-low))
+  plain-in k h = slot-in-marks (M .sizes) (blockOf m k) (k % m) (block-in M G k h .high) (mod-lt k (G .ranges .m-low))
 
   final-in : (k : ℕ) → k < n * m → Stored (finalSlot M marks k)
   unfolding finalSlot plainSlot
-  final-in k h = plain-in (getD (M .list) k 0) (entry-in M (accepted M G) k h)
+  final-in k h = plain-in (getD (M .list) k 0) (entry-in M G k h)
 
   module _ (set : ℕ) (set-ok : set < m) where
     coded-in : (v : ℕ) → DataBlock n v → Stored (codedSlot M marks set v)
@@ -53,14 +51,14 @@ module _ (M : Move) (G : Given M) (marks : List ℕ) where
     coded-in v b = slot-in-marks (M .sizes) (v - 1) set (omega arith) set-ok
 
     pub page-lt : (v : ℕ) → DataBlock n v → D M set v < n * m
-    page-lt v b = D-page M (accepted M G) set set-ok v b .inside
+    page-lt v b = D-page M G set set-ok v b .inside
 
     back-in : (bound v : ℕ) → DataBlock n v → Each Stored (goBack M marks set bound v)
     unfolding goBack
     back-in zero v b = each-none Stored
     back-in (suc bound) v b =
         let u = pred M set v in
-        let u-in = pred-in M (accepted M G) set set-ok v b in
+        let u-in = pred-in M G set set-ok v b in
         let last : List ℕ = plainSlot M marks (D M set u) ∷ [] in
         let rest : List ℕ = cond (fullOf M marks 0 u) last (goBack M marks set bound u) in
         let rest-in : Each Stored rest = each-cond Stored (fullOf M marks 0 u) last (goBack M marks set bound u) (each-one Stored (plainSlot M marks (D M set u)) (plain-in (D M set u) (page-lt u u-in))) (back-in bound u u-in) in
@@ -71,7 +69,7 @@ module _ (M : Move) (G : Given M) (marks : List ℕ) where
     on-in zero v b = each-none Stored
     on-in (suc bound) v b =
         let u = dest M set v in
-        let u-in = dest-in M (accepted M G) set set-ok v b in
+        let u-in = dest-in M G set set-ok v b in
         let last : List ℕ = finalSlot M marks (D M set u) ∷ [] in
         let t : Bool = fullOf M marks 2 (dest M set u) in
         each-cons Stored (codedSlot M marks set u) (cond t last (goOn M marks set bound u)) (coded-in u u-in)
@@ -82,8 +80,8 @@ module _ (M : Move) (G : Given M) (marks : List ℕ) where
   read-in k h =
       let v : ℕ = blockOf m k in
       let set : ℕ = setOf (M .sets) k in
-      let set-ok = set-in M (accepted M G) k h in
-      let v-in = block-in M (accepted M G) k h in
+      let set-ok = set-in M G k h in
+      let v-in = block-in M G k h in
       let back : Bool = fullOf M marks 1 (top M set v - 1) || any (fullOf M marks 0) (range 0 (n + 1)) in
       let walk : List ℕ = cond back (goBack M marks set n v) (goOn M marks set n v) in
       let walk-in : Each Stored walk = each-cond Stored back (goBack M marks set n v) (goOn M marks set n v) (back-in set set-ok n v v-in) (on-in set set-ok n v v-in) in

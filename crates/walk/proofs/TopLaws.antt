@@ -10,14 +10,12 @@ use lib.ListN.{length, getD}
 use Rattle.flash.specs.Lists.{iterates}
 use Rattle.flash.specs.declared.sizes.Sizes.{Sizes}
 use Rattle.flash.proofs.Comparisons.{lt-cases}
-use Rattle.method.specs.Move.{Move}
+use Rattle.method.specs.Move.{Move, AcceptedMove}
 use Rattle.method.specs.Cycle.{highest, pred, top}
 use Rattle.method.proofs.cycles.Orbits.{DataBlock, iterate, iterate-last, length-iterates, iterates-at}
-use Rattle.method.proofs.basics.MoveShape.{Accepted}
 use Rattle.method.proofs.cycles.SetCycles.{pred-in}
 use Rattle.method.proofs.cycles.Tops.{highest-ge, highest-is, top-ge-self, top-pred, top-behind}
 use Rattle.walk.specs.inner.Moving.{entryOf, Tables}
-use Rattle.walk.proofs.CycleLaws.{accepted}
 
 -- ---- a way that comes back to its start meets nothing new after that
 module _ (f : ℕ → ℕ) where
@@ -40,7 +38,7 @@ module _ (f : ℕ → ℕ) where
   highest-more zero x b = refl
   highest-more (suc count) x b = highest-more count (max x b) (f b)
 
-module _ (M : Move) (A : Accepted M) (set : ℕ) (set-ok : set < M .sizes .m) (v : ℕ) (b : DataBlock (M .sizes .n) v) where
+module _ (M : Move) (A : AcceptedMove M) (set : ℕ) (set-ok : set < M .sizes .m) (v : ℕ) (b : DataBlock (M .sizes .n) v) where
   open Sizes (M .sizes) using (n)
 
   back-in : (steps : ℕ) → DataBlock n (iterate (pred M set) steps v)
@@ -95,8 +93,8 @@ module _ (f : ℕ → ℕ) (v : ℕ) where
 module _ (M : Move) (pages from : List ℕ) (T : Tables M pages from) (set : ℕ) (set-ok : set < M .sizes .m) where
   open Sizes (M .sizes) using (n, m)
 
-  abbrev A : Accepted M
-  A = accepted M (T .given)
+  abbrev A : AcceptedMove M
+  A = T .given
 
   abbrev f : ℕ → ℕ
   f = entryOf m from set

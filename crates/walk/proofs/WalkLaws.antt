@@ -19,14 +19,13 @@ use Rattle.flash.specs.Chip.{isFull}
 use Rattle.flash.proofs.Bounds.{product-le}
 use Rattle.flash.proofs.Sums.{⊕-assoc, sum-more}
 use Rattle.split.specs.Split.{destBlock, setOf}
-use Rattle.method.specs.Move.{Move}
+use Rattle.method.specs.Move.{Move, AcceptedMove}
 use Rattle.method.specs.Cycle.{D, dest, pred, top, isTop}
 use Rattle.method.specs.Read.{fullOf, codedSlot, plainSlot, finalSlot, goBack, goOn, readSlots}
 use Rattle.method.proofs.cycles.Orbits.{DataBlock}
 use Rattle.method.proofs.cycles.SetCycles.{set-in, block-in, D-page, D-is, dest-in, pred-in}
 use Rattle.method.proofs.cycles.Tops.{top-in, top-pred}
-use Rattle.walk.specs.inner.Moving.{Given, Tables}
-use Rattle.walk.proofs.CycleLaws.{accepted}
+use Rattle.walk.specs.inner.Moving.{Tables}
 
 -- the slot of a page number
 pub home-is : (m k : ℕ) → k + m ≡ slotOf m k
@@ -79,7 +78,7 @@ pub record Next (f : ℕ → ℕ) (n v u : ℕ) : Type 0 where
   pub low : 1 ≤ u
   pub high : u ≤ n
 
-module _ (M : Move) (G : Given M) (set : ℕ) (set-ok : set < M .sizes .m) where
+module _ (M : Move) (G : AcceptedMove M) (set : ℕ) (set-ok : set < M .sizes .m) where
   open Sizes (M .sizes) using (n, m)
 
   next-in : (f : ℕ → ℕ) → ((i : ℕ) → DataBlock n i → DataBlock n (f i)) → (v u : ℕ) → 1 ≤ v → v ≤ n → u ≡ f v → Next f n v u
@@ -88,23 +87,23 @@ module _ (M : Move) (G : Given M) (set : ℕ) (set-ok : set < M .sizes .m) where
       record { is = is; low = rw is (b .low); high = rw is (b .high) }
 
   pub back-next : (pages from : List ℕ) → Tables M pages from → (v u : ℕ) → 1 ≤ v → v ≤ n → u ≡ getD from ((v - 1) * m + set) 0 → Next (pred M set) n v u
-  back-next pages from T v u low high e = next-in (pred M set) (pred-in M (accepted M G) set set-ok) v u low high (e ∙ T .from-is set v set-ok low high)
+  back-next pages from T v u low high e = next-in (pred M set) (pred-in M G set set-ok) v u low high (e ∙ T .from-is set v set-ok low high)
 
   pub on-next : (v k u : ℕ) → 1 ≤ v → v ≤ n → k ≡ D M set v → u ≡ destBlock m (M .list) k → Next (dest M set) n v u
   unfolding dest
-  on-next v k u low high d e = next-in (dest M set) (dest-in M (accepted M G) set set-ok) v u low high (e ∙ ap (destBlock m (M .list)) d)
+  on-next v k u low high d e = next-in (dest M set) (dest-in M G set set-ok) v u low high (e ∙ ap (destBlock m (M .list)) d)
 
   -- the original of a set from a block is in the list
   pub page-in : (block k : ℕ) → 1 ≤ block → block ≤ n → k ≡ D M set block → k < length (M .list)
   page-in block k low high e =
-      rw (e, G .list-length) (D-page M (accepted M G) set set-ok block (record { low = low; high = high }) .inside)
+      rw (e, G .list-length) (D-page M G set set-ok block (record { low = low; high = high }) .inside)
 
   pub list-short : length (M .list) ≤ 4096
-  list-short = rw (G .list-length) (product-le n m {c = 64} {d = 64} (G .n-high) (G .m-high))
+  list-short = rw (G .list-length) (product-le n m {c = 64} {d = 64} (G .ranges .n-high) (G .ranges .m-high))
 
   -- all blocks that are met have the same top
   pub same-top : (v u : ℕ) → 1 ≤ v → v ≤ n → Next (pred M set) n v u → top M set u ≡ top M set v
-  same-top v u low high N = ap (top M set) (N .is) ∙ top-pred M (accepted M G) set set-ok v (record { low = low; high = high })
+  same-top v u low high N = ap (top M set) (N .is) ∙ top-pred M G set set-ok v (record { low = low; high = high })
 
   -- ---- the turns of the rules
   module _ (marks : List ℕ) (v turns : ℕ) (on : turns < n) where
@@ -148,21 +147,21 @@ pub record TopIs (M : Move) (set v t : ℕ) : Type 0 where
   pub low : 1 ≤ t
   pub high : t ≤ M .sizes .n
 
-module _ (M : Move) (G : Given M) where
+module _ (M : Move) (G : AcceptedMove M) where
   open Sizes (M .sizes) using (n, m)
 
   pub starts : (k set : ℕ) → k < n * m → set ≡ getD (M .sets) k 0 → Starts M k set
   unfolding setOf
   starts k set h e = record {
     set-is = e;
-    set-ok = rw e (set-in M (accepted M G) k h);
-    page-is = sym (ap (λ (x : ℕ). D M x (blockOf m k)) e ∙ D-is M (accepted M G) k h);
-    block = block-in M (accepted M G) k h;
+    set-ok = rw e (set-in M G k h);
+    page-is = sym (ap (λ (x : ℕ). D M x (blockOf m k)) e ∙ D-is M G k h);
+    block = block-in M G k h;
   }
 
   pub top-is : (set v t : ℕ) → set < m → DataBlock n v → t ≡ top M set v → TopIs M set v t
   top-is set v t set-ok b is =
-      let in-blocks = top-in M (accepted M G) set set-ok v b in
+      let in-blocks = top-in M G set set-ok v b in
       record { is = is; low = rw is (in-blocks .low); high = rw is (in-blocks .high) }
 
   -- the four cases of the rules

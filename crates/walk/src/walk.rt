@@ -1,5 +1,5 @@
 // Read's rules 1 to 3: the slots whose pages are summed for an original. They follow from the marks; no byte is looked at.
-// A move is handed on whole, as `z`, `list` and `sets`, and so are its tables: contracts speak of all of it, also where the code
+// A move is handed on whole, as `sizes`, `list` and `sets`, and so are its tables: contracts speak of all of it, also where the code
 // needs a part only.
 ghost use mathlib.Core.Path.{_≡_};
 ghost use mathlib.Core.Bool.{cond, _||_};
@@ -17,18 +17,18 @@ use crate::cycles::goes_to;
 use crate::cycles::page_of;
 use crate::cycles::top_of;
 use flash::block::is_full;
+use flash::casts::entry;
+use flash::casts::wide;
 use flash::sizes::Sizes;
 use flash::sizes::letter_after;
-use flash::wide::entry;
-use flash::wide::wide;
 
 // Whether the block is full of the letter that comes i after s. Its first mark tells most blocks that are not.
-pub fn full_of(z: Sizes, marks: &[u8], i: usize, block: usize) -> bool
-    requires { ⌜ (1 ≤ z .m) × (z .s < 3) × (i < 3) × (block * z .m + z .m ≤ length (now marks)) ⌝ }
-    ensures { λ r. ⌜ r ≡ isFull (z .m) (now (marks .entry)) block (letter z i) ⌝ }
+pub fn full_of(sizes: Sizes, marks: &[u8], i: usize, block: usize) -> bool
+    requires { ⌜ (1 ≤ sizes .m) × (sizes .s < 3) × (i < 3) × (block * sizes .m + sizes .m ≤ length (now marks)) ⌝ }
+    ensures { λ r. ⌜ r ≡ isFull (sizes .m) (now (marks .entry)) block (letter sizes i) ⌝ }
 {
-    let m = z.m;
-    let letter = letter_after(z, i);
+    let m = sizes.m;
+    let letter = letter_after(sizes, i);
     if marks[block * m] == letter {
         is_full(marks, m, block, letter)
     } else {
@@ -45,17 +45,17 @@ fn home(list: &[u16], m: usize, k: usize, after: bool) -> usize
 }
 
 // Rule 2's test: c(top) lies in a block full of s + 1, or blocks full of s exist.
-fn goes_back(z: Sizes, marks: &[u8], top: usize) -> bool
-    requires { ⌜ (1 ≤ z .m) × (z .n ≤ 64) × (z .s < 3) × (1 ≤ top) × (top ≤ z .n) × (length (now marks) ≡ (z .n + 1) * z .m) ⌝ }
-    ensures { λ r. ⌜ r ≡ (isFull (z .m) (now (marks .entry)) (top - 1) (letter z 1) || any
-        (λ block. isFull (z .m) (now (marks .entry)) block (letter z 0)) (range 0 (z .n + 1))) ⌝ }
+fn goes_back(sizes: Sizes, marks: &[u8], top: usize) -> bool
+    requires { ⌜ (1 ≤ sizes .m) × (sizes .n ≤ 64) × (sizes .s < 3) × (1 ≤ top) × (top ≤ sizes .n) × (length (now marks) ≡ (sizes .n + 1) * sizes .m) ⌝ }
+    ensures { λ r. ⌜ r ≡ (isFull (sizes .m) (now (marks .entry)) (top - 1) (letter sizes 1) || any
+        (λ block. isFull (sizes .m) (now (marks .entry)) block (letter sizes 0)) (range 0 (sizes .n + 1))) ⌝ }
 {
-    if full_of(z, marks, 1, top - 1) {
+    if full_of(sizes, marks, 1, top - 1) {
         return true;
     }
     let mut block = 0;
-    while block <= z.n {
-        if full_of(z, marks, 0, block) {
+    while block <= sizes.n {
+        if full_of(sizes, marks, 0, block) {
             return true;
         }
         block += 1;
@@ -65,7 +65,7 @@ fn goes_back(z: Sizes, marks: &[u8], top: usize) -> bool
 
 // Rule 2, from block v of a set on: goes back until the top, or a block that is full of s.
 fn go_back(
-    z: Sizes,
+    sizes: Sizes,
     list: &[u16],
     sets: &[u8],
     pages: &[u8; 4096],
@@ -77,17 +77,17 @@ fn go_back(
     slots: &mut [usize],
     at: usize,
 ) -> usize
-    requires { ⌜ Tables (moveOf z (now list) (now sets)) (now pages) (now from) ⌝ }
-    requires { ⌜ (length (now marks) ≡ (z .n + 1) * z .m) × (set < z .m) × (1 ≤ start) × (start ≤ z .n) ⌝ }
-    requires { ⌜ (method.top (moveOf z (now list) (now sets)) set start ≡ top) × (length (now slots) ≡ 130) × (at ≤ 65) ⌝ }
+    requires { ⌜ Tables (moveOf sizes (now list) (now sets)) (now pages) (now from) ⌝ }
+    requires { ⌜ (length (now marks) ≡ (sizes .n + 1) * sizes .m) × (set < sizes .m) × (1 ≤ start) × (start ≤ sizes .n) ⌝ }
+    requires { ⌜ (method.top (moveOf sizes (now list) (now sets)) set start ≡ top) × (length (now slots) ≡ 130) × (at ≤ 65) ⌝ }
     ensures { λ r. ⌜ Appends (now (slots .entry)) at
-        (goBack (moveOf z (now (list .entry)) (now (sets .entry))) (now (marks .entry)) set (z .n) start) (now (slots .exit)) r ⌝ }
+        (goBack (moveOf sizes (now (list .entry)) (now (sets .entry))) (now (marks .entry)) set (sizes .n) start) (now (slots .exit)) r ⌝ }
 {
-    let m = z.m;
+    let m = sizes.m;
     let mut v = start;
     let mut count = at;
     let mut turns = 0;
-    while turns < z.n {
+    while turns < sizes.n {
         let entry = (v - 1) * m + set;
         slots[count] = entry;
         count += 1;
@@ -95,8 +95,8 @@ fn go_back(
             return count;
         }
         v = wide(from[entry]);
-        if full_of(z, marks, 0, v) {
-            slots[count] = home(list, m, page_of(z, pages, set, v), false);
+        if full_of(sizes, marks, 0, v) {
+            slots[count] = home(list, m, page_of(sizes, pages, set, v), false);
             return count + 1;
         }
         turns += 1;
@@ -106,7 +106,7 @@ fn go_back(
 
 // Rule 3, from block v of a set on: goes on until the next destination block is full of s + 2.
 fn go_on(
-    z: Sizes,
+    sizes: Sizes,
     list: &[u16],
     sets: &[u8],
     pages: &[u8; 4096],
@@ -117,24 +117,24 @@ fn go_on(
     slots: &mut [usize],
     at: usize,
 ) -> usize
-    requires { ⌜ Tables (moveOf z (now list) (now sets)) (now pages) (now from) ⌝ }
-    requires { ⌜ (length (now marks) ≡ (z .n + 1) * z .m) × (set < z .m) × (1 ≤ start) × (start ≤ z .n) ⌝ }
+    requires { ⌜ Tables (moveOf sizes (now list) (now sets)) (now pages) (now from) ⌝ }
+    requires { ⌜ (length (now marks) ≡ (sizes .n + 1) * sizes .m) × (set < sizes .m) × (1 ≤ start) × (start ≤ sizes .n) ⌝ }
     requires { ⌜ (length (now slots) ≡ 130) × (at ≤ 65) ⌝ }
     ensures { λ r. ⌜ Appends (now (slots .entry)) at
-        (goOn (moveOf z (now (list .entry)) (now (sets .entry))) (now (marks .entry)) set (z .n) start) (now (slots .exit)) r ⌝ }
+        (goOn (moveOf sizes (now (list .entry)) (now (sets .entry))) (now (marks .entry)) set (sizes .n) start) (now (slots .exit)) r ⌝ }
 {
-    let m = z.m;
+    let m = sizes.m;
     let mut v = start;
-    let mut next = goes_to(list, m, page_of(z, pages, set, v));
+    let mut next = goes_to(list, m, page_of(sizes, pages, set, v));
     let mut count = at;
     let mut turns = 0;
-    while turns < z.n {
+    while turns < sizes.n {
         v = next;
         slots[count] = (v - 1) * m + set;
         count += 1;
-        let k = page_of(z, pages, set, v);
+        let k = page_of(sizes, pages, set, v);
         next = goes_to(list, m, k);
-        if full_of(z, marks, 2, next) {
+        if full_of(sizes, marks, 2, next) {
             slots[count] = home(list, m, k, true);
             return count + 1;
         }
@@ -145,7 +145,7 @@ fn go_on(
 
 // The slots of original k are put behind the first `at`; how many there are then. "Start with v = k's block, in k's set."
 pub fn read_slots(
-    z: Sizes,
+    sizes: Sizes,
     list: &[u16],
     sets: &[u8],
     pages: &[u8; 4096],
@@ -155,27 +155,39 @@ pub fn read_slots(
     slots: &mut [usize],
     at: usize,
 ) -> usize
-    requires { ⌜ Tables (moveOf z (now list) (now sets)) (now pages) (now from) ⌝ }
-    requires { ⌜ (length (now marks) ≡ (z .n + 1) * z .m) × (k < z .n * z .m) × (length (now slots) ≡ 130) × (at ≤ 65) ⌝ }
-    ensures { λ r. ⌜ Appends (now (slots .entry)) at (readSlots (moveOf z (now (list .entry)) (now (sets .entry))) (now (marks .entry)) k)
+    requires { ⌜ Tables (moveOf sizes (now list) (now sets)) (now pages) (now from) ⌝ }
+    requires { ⌜ (length (now marks) ≡ (sizes .n + 1) * sizes .m) × (k < sizes .n * sizes .m) × (length (now slots) ≡ 130) × (at ≤ 65) ⌝ }
+    ensures { λ r. ⌜ Appends (now (slots .entry)) at (readSlots (moveOf sizes (now (list .entry)) (now (sets .entry))) (now (marks .entry)) k)
         (now (slots .exit)) r ⌝ }
 {
-    let m = z.m;
+    let m = sizes.m;
     let v = k / m + 1;
     let set = wide(sets[k]);
-    if full_of(z, marks, 0, v) {
+    if full_of(sizes, marks, 0, v) {
         slots[at] = home(list, m, k, false);
         return at + 1;
     }
     let next = goes_to(list, m, k);
-    if full_of(z, marks, 2, next) {
+    if full_of(sizes, marks, 2, next) {
         slots[at] = home(list, m, k, true);
         return at + 1;
     }
-    let top = top_of(z, from, set, v);
-    if goes_back(z, marks, top) {
-        go_back(z, list, sets, pages, from, marks, top, set, v, slots, at)
+    let top = top_of(sizes, from, set, v);
+    if goes_back(sizes, marks, top) {
+        go_back(
+            sizes,
+            list,
+            sets,
+            pages,
+            from,
+            marks,
+            top,
+            set,
+            v,
+            slots,
+            at,
+        )
     } else {
-        go_on(z, list, sets, pages, from, marks, set, v, slots, at)
+        go_on(sizes, list, sets, pages, from, marks, set, v, slots, at)
     }
 }

@@ -19,10 +19,9 @@ use Rattle.flash.proofs.Bounds.{in-range, range-in}
 use Rattle.flash.proofs.Ranges.{none-in, none-is}
 use Rattle.flash.proofs.Same.{same-eq, eq-same}
 use Rattle.split.specs.OneToOne.{isOneToOne}
-use Rattle.method.specs.Move.{Move}
+use Rattle.method.specs.Move.{Move, AcceptedMove}
 use Rattle.method.specs.Place.{lastPlace, marksOf}
 use Rattle.method.specs.Answers.{badChip, badParts, isElsewhere, moveRows, runRows}
-use Rattle.method.proofs.basics.MoveShape.{Accepted}
 
 -- lent parts of their exact lengths
 pub record Lent (M : Move) (chip : Chip) (work : List ℕ) : Type 0 where
@@ -77,7 +76,7 @@ module _ (M : Move) (chip : Chip) (work : List ℕ) where
     length-same (length work) (workLength Z) (L .work-length),
   )
 
-  pub move-accepted : (rest : List (Row ℕ)) → refusal (moveRows M chip work rest) ≡ 0 → Accepted M × Lent M chip work × (refusal rest ≡ 0)
+  pub move-accepted : (rest : List (Row ℕ)) → refusal (moveRows M chip work rest) ≡ 0 → AcceptedMove M × Lent M chip work × (refusal rest ≡ 0)
   unfolding moveRows isOneToOne
   move-accepted rest e =
       let one = refusal-zero _ _ (omega arith) e in
@@ -96,7 +95,7 @@ module _ (M : Move) (chip : Chip) (work : List ℕ) where
         four .1,
       )
 
-  pub accepted-move : (rest : List (Row ℕ)) → Accepted M → Lent M chip work → refusal rest ≡ 0 → refusal (moveRows M chip work rest) ≡ 0
+  pub accepted-move : (rest : List (Row ℕ)) → AcceptedMove M → Lent M chip work → refusal rest ≡ 0 → refusal (moveRows M chip work rest) ≡ 0
   unfolding moveRows isOneToOne
   accepted-move rest A L e =
       refusal-skip _ _ (ap not (range-in Z (A .ranges))) (refusal-skip _ _ (ok-parts (A .list-length) (A .sets-length) L)
@@ -137,7 +136,7 @@ module _ (M : Move) (chip : Chip) (place : ℕ) where
 
 -- what a run that is not refused was given
 pub record RunTaken (M : Move) (chip : Chip) (work : List ℕ) (place : ℕ) : Type 0 where
-  pub accepted : Accepted M
+  pub accepted : AcceptedMove M
   pub lent : Lent M chip work
   pub stands : StandsAt M chip place
 

@@ -7,22 +7,13 @@ use Prim.Native.Nat.{ℕ, suc, _-_, _≤_, _<_}
 use lib.ListN.{length, getD}
 use Rattle.flash.specs.Lists.{part}
 use Rattle.flash.specs.declared.sizes.Sizes.{Sizes}
-use Rattle.flash.specs.Geometry.{slot, slotOf, originalCount, listLength, setsLength, letter}
+use Rattle.flash.specs.Geometry.{Bounds, slot, slotOf, originalCount, listLength, setsLength, letter}
 use Rattle.flash.specs.PageSum.{sum}
 use Rattle.flash.specs.Chip.{Chip, pageAt, markAt, isFull}
-use Rattle.flash.proofs.Bounds.{Bounds}
 use Rattle.split.specs.OneToOne.{isOneToOne}
 use Rattle.split.specs.Split.{isSplit}
 use Rattle.method.specs.Move.{Move}
 use Rattle.method.specs.Cycle.{coded}
-
--- what is known of a move that rows 1 to 4 of the table do not refuse
-pub record Accepted (M : Move) : Type 0 where
-  pub ranges : Bounds (M .sizes)
-  pub list-length : length (M .list) ≡ listLength (M .sizes)
-  pub sets-length : length (M .sets) ≡ setsLength (M .sizes)
-  pub one-to-one : isOneToOne (originalCount (M .sizes)) (M .list) ≡ true
-  pub split : isSplit (M .sizes .n) (M .sizes .m) (M .list) (M .sets) ≡ true
 
 -- Marks that fit the move: blocks below `low` are full of s + 1, blocks from `high` on full of s + i, and the one between, if
 -- there is one, is full of nothing.

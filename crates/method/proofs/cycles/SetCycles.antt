@@ -12,13 +12,12 @@ use Rattle.flash.proofs.Ranges.{First, first-hit}
 use Rattle.split.specs.Split.{sourceBlock, destBlock, setOf}
 use Rattle.split.proofs.OneToOneLaws.{entry-lt, entry-same, entry-onto}
 use Rattle.split.proofs.SplitLaws.{PageOf, set-lt, page-from, page-to, same-from, same-to, block-range}
-use Rattle.method.specs.Move.{Move}
+use Rattle.method.specs.Move.{Move, AcceptedMove}
 use Rattle.method.specs.Cycle.{D, dest, pred, sentTo}
-use Rattle.method.proofs.basics.MoveShape.{Accepted}
 use Rattle.method.proofs.basics.Indexes.{slot-div}
 use Rattle.method.proofs.cycles.Orbits.{DataBlock, OneToOne}
 
-module _ (M : Move) (A : Accepted M) where
+module _ (M : Move) (A : AcceptedMove M) where
   open Sizes (M .sizes) using (n, m)
   open Move M using (list, sets)
 

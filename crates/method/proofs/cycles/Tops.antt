@@ -11,9 +11,8 @@ use borrow.Author.Tests.{eqb-true, eq-eqb}
 use Rattle.flash.specs.Lists.{iterates}
 use Rattle.flash.specs.declared.sizes.Sizes.{Sizes}
 use Rattle.flash.proofs.Comparisons.{lt-cases}
-use Rattle.method.specs.Move.{Move}
+use Rattle.method.specs.Move.{Move, AcceptedMove}
 use Rattle.method.specs.Cycle.{highest, dest, pred, cycle, top, isTop}
-use Rattle.method.proofs.basics.MoveShape.{Accepted}
 use Rattle.method.proofs.cycles.Orbits.{DataBlock, OneToOne, iterate, iterate-last, iterate-add, length-iterates, iterates-at, undone, iterate-in, among, leads-back}
 use Rattle.method.proofs.cycles.SetCycles.{dest-one, dest-pred, pred-dest, pred-in}
 
@@ -42,7 +41,7 @@ highest-is x (y ∷ ys) =
     (λ (r : (i : ℕ) × (i < length ys) × (highest (max x y) ys ≡ getD ys i 0)). inr (suc (r .0), omega (arith, r .1), r .2))
     (highest-is (max x y) ys)
 
-module _ (M : Move) (A : Accepted M) (set : ℕ) (set-ok : set < M .sizes .m) where
+module _ (M : Move) (A : AcceptedMove M) (set : ℕ) (set-ok : set < M .sizes .m) where
   open Sizes (M .sizes) using (n)
 
   one-to-one : OneToOne n (dest M set)

@@ -17,7 +17,7 @@ use Rattle.flash.specs.Geometry.{originalCount}
 use Rattle.flash.specs.PageSum.{sum}
 use Rattle.flash.specs.Chip.{Chip, pageAt}
 use Rattle.flash.proofs.Bools.{bool-cases}
-use Rattle.method.specs.Move.{Move}
+use Rattle.method.specs.Move.{Move, AcceptedMove}
 use Rattle.method.specs.Place.{Operation, filled}
 use Rattle.method.specs.Step.{operationsFrom}
 use Rattle.method.specs.State.{originalsIn}
@@ -27,7 +27,6 @@ use Rattle.method.specs.Answers.{RunAnswer, runRows, stepsTaken, runRefu
 use Rattle.method.specs.Runs.{Start}
 use Rattle.method.specs.Events.{Call, run, mend, read, CutPoint, Event, History, numberOf, mendSteps, stepsOf, chipAfter, chipReturned, returnsFinished, starting, during, after, stepsFinished, moments}
 use Rattle.method.specs.Demand3.{CutObeys, Allowed, AllAllowed, goes, Keeps, AtEach, none, more, Demand3}
-use Rattle.method.proofs.basics.MoveShape.{Accepted}
 use Rattle.method.proofs.basics.AcceptedCalls.{StandsAt}
 use Rattle.method.proofs.states.AtRest.{rest-stands, rest-holds, rest-length}
 use Rattle.method.proofs.states.RunsAddUp.{answerOf, run-answer, start-accepted}
@@ -68,7 +67,7 @@ mend-refused Z chip ne = ⊎-elim
 
 -- ---- one event
 module _ (M : Move) (chip₀ : Chip) (S : Start M chip₀) where
-  A : Accepted M
+  A : AcceptedMove M
   A = start-accepted M chip₀ S
 
   abbrev originals : List ℕ

@@ -14,7 +14,7 @@ use Rattle.flash.specs.Geometry.{slotOf, blockOf, pageOf, originalCount, storeL
 use Rattle.flash.specs.Chip.{Chip, pageAt}
 use Rattle.flash.proofs.Searches.{count-append}
 use Rattle.flash.proofs.Tables.{refusal-skip, refusal-nil}
-use Rattle.method.specs.Move.{Move}
+use Rattle.method.specs.Move.{Move, AcceptedMove}
 use Rattle.method.specs.Place.{operations, lastPlace, filled}
 use Rattle.method.specs.Read.{readPage}
 use Rattle.method.specs.State.{originalsIn}
@@ -23,7 +23,7 @@ use Rattle.method.specs.Answers.{readRows, stepsTaken, mendAnswer, readA
 use Rattle.method.specs.Runs.{Start}
 use Rattle.method.specs.Events.{History}
 use Rattle.method.specs.Demand3.{Stays, Keeps}
-use Rattle.method.proofs.basics.MoveShape.{Accepted, Holding}
+use Rattle.method.proofs.basics.MoveShape.{Holding}
 use Rattle.method.proofs.basics.AcceptedCalls.{Lent, StandsAt, RunTaken, accepted-move, run-taken, taken-run}
 use Rattle.method.proofs.basics.Indexes.{Order, less, same, more, order}
 use Rattle.method.proofs.places.StepsAtPlaces.{last-stands}
@@ -81,7 +81,7 @@ module _ (M : Move) (chip₀ : Chip) (S : Start M chip₀) where
   abbrev W : Sizes
   W = M .sizes
 
-  A : Accepted M
+  A : AcceptedMove M
   A = start-accepted M chip₀ S
 
   abbrev originals : List ℕ

@@ -11,7 +11,7 @@ use Rattle.flash.specs.Lists.{count}
 use Rattle.flash.specs.declared.sizes.Sizes.{Sizes}
 use Rattle.flash.specs.Chip.{Chip}
 use Rattle.flash.proofs.Searches.{count-append}
-use Rattle.method.specs.Move.{Move}
+use Rattle.method.specs.Move.{Move, AcceptedMove}
 use Rattle.method.specs.Place.{Operation, erase, done, filling, filled}
 use Rattle.method.specs.Step.{isErase}
 use Rattle.method.specs.Cut.{CutInside}
@@ -19,7 +19,7 @@ use Rattle.method.specs.Mend.{Reading, reading}
 use Rattle.method.specs.Answers.{MendAnswer, mendAnswer}
 use Rattle.method.specs.Events.{Call, mend, CutPoint, uncut, between, inside, History, numberOf, mendSteps, stepsOf, chipAfter, chipReturned, returnsFinished, isMend, during, returned, cutShort, afterCall, stepsFinished, sizesOf}
 use Rattle.method.specs.Demand3.{CutObeys}
-use Rattle.method.proofs.basics.MoveShape.{Accepted, Holding}
+use Rattle.method.proofs.basics.MoveShape.{Holding}
 use Rattle.method.proofs.places.Turns.{turn}
 use Rattle.method.proofs.recovery.Moments.{Moment}
 use Rattle.method.proofs.recovery.MendAnswers.{Mends, erases, keeps, Recovered, mends, recovers}
@@ -28,7 +28,7 @@ use Rattle.method.proofs.recovery.CutsLeave.{mend-cut}
 use Rattle.method.proofs.demand.KeptByHistories.{Bounded, within, once-more, Kept}
 use Rattle.method.proofs.demand.CallsWithoutSteps.{EventKept, idle}
 
-module _ (M : Move) (A : Accepted M) (originals : List ℕ) (h : History) (K : Kept M originals h) where
+module _ (M : Move) (A : AcceptedMove M) (originals : List ℕ) (h : History) (K : Kept M originals h) where
   abbrev Z : Sizes
   Z = M .sizes
 

@@ -18,7 +18,7 @@ use Rattle.flash.specs.Chip.{Chip}
 use Rattle.flash.proofs.Bools.{bool-cases}
 use Rattle.flash.proofs.Bounds.{range-in}
 use Rattle.flash.proofs.Searches.{count-append}
-use Rattle.method.specs.Move.{Move}
+use Rattle.method.specs.Move.{Move, AcceptedMove}
 use Rattle.method.specs.Place.{Operation, write, erase, done, operations, operationAt, lastPlace, filled}
 use Rattle.method.specs.Step.{Running, steps, isErase, tallied, tally, operationsFrom}
 use Rattle.method.specs.Cut.{CutInside}
@@ -27,7 +27,7 @@ use Rattle.method.specs.Events.{Call, run, CutPoint, uncut, between, ins
 use Rattle.method.specs.Demand3.{CutObeys}
 use Rattle.method.specs.Claims.{StepsCounted, PlacesDiffer}
 use Rattle.method.proofs.basics.AcceptedCalls.{StandsAt, RunTaken, run-taken}
-use Rattle.method.proofs.basics.MoveShape.{Accepted, Holding}
+use Rattle.method.proofs.basics.MoveShape.{Holding}
 use Rattle.method.proofs.places.StepsCounted.{steps-counted}
 use Rattle.method.proofs.places.StepsAtPlaces.{last-stands}
 use Rattle.method.proofs.places.PlacesDiffer.{places-differ}
@@ -58,7 +58,7 @@ run-number M chip work place budget e = ⊎-elim
     (λ (q : eqb (refusal (runRows M chip work place)) 0 ≡ false). rw q at e)
     (bool-cases (eqb (refusal (runRows M chip work place)) 0))
 
-module _ (M : Move) (A : Accepted M) (originals : List ℕ) (full : length originals ≡ originalCount (M .sizes) * M .sizes .p)
+module _ (M : Move) (A : AcceptedMove M) (originals : List ℕ) (full : length originals ≡ originalCount (M .sizes) * M .sizes .p)
     (h : History) (K : Kept M originals h) (work : List ℕ) (place budget : ℕ)
     (ok : refusal (runRows M (h .chip) work place) ≡ 0) (mended : h .unmended ≡ false) where
   abbrev Z : Sizes

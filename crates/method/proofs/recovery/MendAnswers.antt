@@ -9,10 +9,10 @@ use lib.ListN.{length}
 use borrow.Author.Tests.{eq-eqb}
 use Rattle.flash.specs.Tables.{refusal}
 use Rattle.flash.specs.declared.sizes.Sizes.{Sizes}
-use Rattle.flash.specs.Geometry.{slot, storeLength, marksLength, letter}
+use Rattle.flash.specs.Geometry.{Bounds, slot, storeLength, marksLength, letter}
 use Rattle.flash.specs.Chip.{Chip, erased, markAt, isBlank, eraseBlock}
 use Rattle.flash.proofs.Blocks.{full-at}
-use Rattle.flash.proofs.Bounds.{Bounds, range-in, block-in-marks, block-in-store}
+use Rattle.flash.proofs.Bounds.{range-in, block-in-marks, block-in-store}
 use Rattle.flash.proofs.Chips.{erase-store-length, erase-marks-length, erase-mark, erase-mark-other, erase-blank}
 use Rattle.flash.proofs.Tables.{refusal-skip, refusal-nil}
 use Rattle.method.specs.Move.{Move}

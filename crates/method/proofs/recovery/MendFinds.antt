@@ -8,7 +8,7 @@ use Prim.Native.Nat.{ℕ, zero, suc, _+_, _-_, _*_, _≤_, _<_}
 use native.Mathlib.Omega.{arith}
 use lib.Dec.{eqb}
 use borrow.Author.Tests.{eqb-true, eqb-false}
-use Rattle.flash.specs.Geometry.{letter}
+use Rattle.flash.specs.Geometry.{Bounds, letter}
 use Rattle.flash.specs.Lists.{range, all}
 use Rattle.flash.specs.Tables.{Row, firstFit}
 use Rattle.flash.specs.declared.sizes.Sizes.{Sizes}
@@ -16,7 +16,7 @@ use Rattle.flash.specs.Chip.{isMark, isFull, isUnfinished}
 use Rattle.flash.proofs.Bools.{bool-cases, never-both}
 use Rattle.flash.proofs.Ranges.{all-is}
 use Rattle.flash.proofs.Blocks.{unfinished-of}
-use Rattle.flash.proofs.Bounds.{Bounds, range-in}
+use Rattle.flash.proofs.Bounds.{range-in}
 use Rattle.method.specs.Place.{Pass, forward, backward, lastPlace, passAt, filling, filled}
 use Rattle.method.specs.Mend.{Reading, fullFrom, forwardTorn, backwardTorn, forwardFull, backwardFull, lines, legalMarks, reading}
 use Rattle.method.specs.Answers.{marksAnswer, fitsNone}

@@ -11,11 +11,11 @@ use lib.Dec.{eqb, leb}
 use borrow.Author.Tests.{eqb-true, leb-true, not-false}
 use Rattle.flash.specs.Tables.{Row, refusal}
 use Rattle.flash.specs.declared.sizes.Sizes.{Sizes}
-use Rattle.flash.specs.Geometry.{inRange}
+use Rattle.flash.specs.Geometry.{Bounds, inRange}
 use Rattle.flash.specs.Chip.{Chip}
 use Rattle.flash.proofs.Bools.{bool-cases, both}
 use Rattle.flash.proofs.Tables.{refusal-hit, refusal-miss, refusal-nil, refusal-zero}
-use Rattle.flash.proofs.Bounds.{Bounds, in-range}
+use Rattle.flash.proofs.Bounds.{in-range}
 use Rattle.method.specs.Mend.{Reading, reading, lines, legalMarks, forwardTorn, backwardTorn, forwardFull, backwardFull}
 use Rattle.method.specs.Answers.{MendAnswer, mendRows, mended, mendAnswer}
 use Rattle.method.proofs.recovery.LinesAgree.{Fit, torn-forth, torn-back, full-forth, full-back, fit}

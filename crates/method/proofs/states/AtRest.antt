@@ -9,17 +9,17 @@ use lib.ListN.{length, getD, take, drop, length-drop}
 use lib.Seq.{drop-drop}
 use Rattle.flash.specs.Lists.{range, all, part}
 use Rattle.flash.specs.declared.sizes.Sizes.{Sizes}
-use Rattle.flash.specs.Geometry.{slot, slotOf, blockOf, pageOf, originalCount, slotCount, storeLength, marksLength, letter}
+use Rattle.flash.specs.Geometry.{Bounds, slot, slotOf, blockOf, pageOf, originalCount, slotCount, storeLength, marksLength, letter}
 use Rattle.flash.specs.Chip.{Chip, erased, pageAt, markAt, isBlank, isFull}
 use Rattle.flash.proofs.Bools.{and-left, and-right}
-use Rattle.flash.proofs.Bounds.{Bounds, slot-in-marks}
+use Rattle.flash.proofs.Bounds.{slot-in-marks}
 use Rattle.flash.proofs.Ranges.{all-in}
 use Rattle.flash.proofs.Blocks.{full-at}
 use Rattle.flash.proofs.Chips.{page-is, blank-mark}
-use Rattle.method.specs.Move.{Move}
+use Rattle.method.specs.Move.{Move, AcceptedMove}
 use Rattle.method.specs.Place.{forward, blank, plain, above, heldAt, heldMark}
 use Rattle.method.specs.State.{isAtRest, originalsIn}
-use Rattle.method.proofs.basics.MoveShape.{Accepted, Holding}
+use Rattle.method.proofs.basics.MoveShape.{Holding}
 use Rattle.method.proofs.basics.AcceptedCalls.{StandsAt}
 use Rattle.method.proofs.states.NextPlace.{by-slot}
 use Rattle.method.proofs.places.PagesHeld.{held-above, held-blank, marks-eq}
@@ -31,7 +31,7 @@ part-after : (size i t : ℕ) (xs : List ℕ) → part size t (drop (i * size) x
 unfolding part
 part-after size i t xs = ap (take size) (drop-drop (t * size) (i * size) xs ∙ ap (λ (k : ℕ). drop k xs) (sym (add-mul i t size)))
 
-module _ (M : Move) (A : Accepted M) (chip : Chip) (store-length : length (chip .store) ≡ storeLength (M .sizes)) (marks-length : length (chip .marks) ≡ marksLength (M .sizes)) (rest : isAtRest (M .sizes) chip ≡ true) where
+module _ (M : Move) (A : AcceptedMove M) (chip : Chip) (store-length : length (chip .store) ≡ storeLength (M .sizes)) (marks-length : length (chip .marks) ≡ marksLength (M .sizes)) (rest : isAtRest (M .sizes) chip ≡ true) where
   open Sizes (M .sizes) using (n, m, p as P, s)
 
   abbrev Z : Sizes

@@ -8,9 +8,9 @@ use native.Mathlib.Nat.{div-lt-iff-lt-mul, mod-lt, div-add-mod'}
 use native.Mathlib.Omega.{arith}
 use lib.ListN.{length, replicate}
 use Rattle.flash.specs.declared.sizes.Sizes.{Sizes}
-use Rattle.flash.specs.Geometry.{slot, slotCount, letter}
+use Rattle.flash.specs.Geometry.{Bounds, slot, slotCount, letter}
 use Rattle.flash.specs.Chip.{Chip, erased, pageAt, markAt, isBlank, eraseBlock, writePage}
-use Rattle.flash.proofs.Bounds.{Bounds, block-in-marks, block-in-store, slot-in-marks, slot-in-store}
+use Rattle.flash.proofs.Bounds.{block-in-marks, block-in-store, slot-in-marks, slot-in-store}
 use Rattle.flash.proofs.Chips.{blank-of, blank-page, erase-store-length, erase-marks-length, erase-mark, erase-blank, erase-mark-other, erase-page-other, write-marks-length, write-mark, write-mark-other, write-store-length, write-page-other}
 use Rattle.method.specs.Move.{Move}
 use Rattle.method.specs.Place.{Pass, forward, backward, markOf, blank, lastPlace, heldAt, heldMark}

@@ -17,12 +17,12 @@ use Rattle.flash.proofs.Bounds.{slot-in-store}
 use Rattle.flash.proofs.Parts.{length-part}
 use Rattle.flash.proofs.Sums.{sum-append, sum-same, length-sum}
 use Rattle.flash.proofs.Chips.{page-is}
-use Rattle.method.specs.Move.{Move}
+use Rattle.method.specs.Move.{Move, AcceptedMove}
 use Rattle.method.specs.Cycle.{D, pred, isTop, coded}
 use Rattle.method.specs.Place.{Pass}
 use Rattle.method.specs.Read.{readSlots, readPage}
 use Rattle.method.specs.Step.{originalsOf, writeSlots, writtenPage}
-use Rattle.method.proofs.basics.MoveShape.{Accepted, Shape, Holding}
+use Rattle.method.proofs.basics.MoveShape.{Shape, Holding}
 use Rattle.method.proofs.cycles.Orbits.{DataBlock}
 use Rattle.method.proofs.cycles.SetCycles.{D-page, pred-in}
 use Rattle.method.proofs.walks.ReadsOriginals.{reads, reads-original}
@@ -35,7 +35,7 @@ pub originals-one : (M : Move) (x : ℕ) → x < originalCount (M .sizes) → Or
 originals-one M x h zero l = h
 originals-one M x h (suc i) l = absurd (omega arith)
 
-module _ (M : Move) (A : Accepted M) where
+module _ (M : Move) (A : AcceptedMove M) where
   open Sizes (M .sizes) using (n, m, p as P)
 
   abbrev Z : Sizes

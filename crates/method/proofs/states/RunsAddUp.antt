@@ -17,13 +17,13 @@ use Rattle.flash.proofs.Tables.{refusal-zero}
 use Rattle.flash.proofs.Bounds.{in-range, slot-in-marks}
 use Rattle.split.specs.OneToOne.{isOneToOne}
 use Rattle.split.specs.Answer.{splitRows, splitAnswer}
-use Rattle.method.specs.Move.{Move}
+use Rattle.method.specs.Move.{Move, AcceptedMove}
 use Rattle.method.specs.Place.{Pass, write, operationAt, above, heldMark, marksOf, lastPlace}
 use Rattle.method.specs.State.{originalsIn, stateOf}
 use Rattle.method.specs.Step.{Running, steps, tally, operationsFrom}
 use Rattle.method.specs.Answers.{RunAnswer, runRows, stepsTaken, runCarriedOut, runAnswer}
 use Rattle.method.specs.Runs.{joined, runsOfOne, RunsAddUp, Start, StatesReached}
-use Rattle.method.proofs.basics.MoveShape.{Accepted, Holding}
+use Rattle.method.proofs.basics.MoveShape.{Holding}
 use Rattle.method.proofs.basics.AcceptedCalls.{RunTaken, run-taken, taken-run}
 use Rattle.method.proofs.states.StepsAddUp.{steps-add, taken-add}
 use Rattle.method.proofs.places.Tallies.{tally-split}
@@ -160,7 +160,7 @@ module _ (M : Move) (chip : Chip) (S : Start M chip) where
   abbrev W : Sizes
   W = M .sizes
 
-  pub start-accepted : Accepted M
+  pub start-accepted : AcceptedMove M
   unfolding splitAnswer splitRows isOneToOne
   start-accepted =
       let one = refusal-zero _ _ (omega arith) (S .list-accepted) in

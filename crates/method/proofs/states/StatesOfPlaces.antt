@@ -19,11 +19,11 @@ use Rattle.flash.proofs.Bounds.{slot-in-marks, slot-in-store}
 use Rattle.flash.proofs.Parts.{length-part, parts-ext}
 use Rattle.flash.proofs.Sums.{sum-one}
 use Rattle.flash.proofs.Chips.{page-is, blank-page}
-use Rattle.method.specs.Move.{Move}
+use Rattle.method.specs.Move.{Move, AcceptedMove}
 use Rattle.method.specs.Cycle.{sentTo}
 use Rattle.method.specs.Place.{Pass, forward, backward, Held, blank, plain, code, final, written, above, lastPlace, passAt, filling, filled, heldAt, heldMark}
 use Rattle.method.specs.State.{heldOriginals, heldPage, stateOf}
-use Rattle.method.proofs.basics.MoveShape.{Accepted, Holding}
+use Rattle.method.proofs.basics.MoveShape.{Holding}
 use Rattle.method.proofs.basics.AcceptedCalls.{StandsAt}
 use Rattle.method.proofs.basics.Indexes.{Order, less, same, more, order, slot-div, slot-mod}
 use Rattle.method.proofs.cycles.SetCycles.{sent-in, entry-sent}
@@ -63,7 +63,7 @@ slot-number m b q l h =
     let block : (b - 1) + 1 ≡ b = omega arith in
     ap₂ (slot m) (ap (λ (x : ℕ). x + 1) (slot-div m (b - 1) q h) ∙ block) (slot-mod m (b - 1) q h)
 
-module _ (M : Move) (A : Accepted M) (originals : List ℕ) (chip : Chip) (place : ℕ) (S : StandsAt M chip place) (size : length (chip .store) ≡ storeLength (M .sizes)) (H : Holding M originals chip) where
+module _ (M : Move) (A : AcceptedMove M) (originals : List ℕ) (chip : Chip) (place : ℕ) (S : StandsAt M chip place) (size : length (chip .store) ≡ storeLength (M .sizes)) (H : Holding M originals chip) where
   open Sizes (M .sizes) using (n, m, p as P)
 
   abbrev Z : Sizes

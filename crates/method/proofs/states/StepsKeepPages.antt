@@ -18,12 +18,12 @@ use Rattle.flash.proofs.Bools.{bool-cases}
 use Rattle.flash.proofs.Bounds.{slot-in-marks, slot-in-store}
 use Rattle.flash.proofs.Sums.{sum-one}
 use Rattle.flash.proofs.Chips.{write-mark, write-mark-other, write-page, write-page-other}
-use Rattle.method.specs.Move.{Move}
+use Rattle.method.specs.Move.{Move, AcceptedMove}
 use Rattle.method.specs.Cycle.{coded, sentTo}
 use Rattle.method.specs.Place.{Pass, forward, backward, written, markOf, lastPlace, operationAt, passAt, filling, filled}
 use Rattle.method.specs.State.{heldOriginals}
 use Rattle.method.specs.Step.{Running, originalsOf, writtenPage, perform, step, steps}
-use Rattle.method.proofs.basics.MoveShape.{Accepted, Holding}
+use Rattle.method.proofs.basics.MoveShape.{Holding}
 use Rattle.method.proofs.basics.AcceptedCalls.{Lent}
 use Rattle.method.proofs.basics.Indexes.{slot-div, slot-mod}
 use Rattle.method.proofs.cycles.SetCycles.{sent-entry}
@@ -39,7 +39,7 @@ module _ (Z : Sizes) where
   not-plain forward e = absurd (omega arith)
   not-plain backward e = absurd (omega arith)
 
-module _ (M : Move) (A : Accepted M) (originals : List ℕ) (full : length originals ≡ originalCount (M .sizes) * M .sizes .p) where
+module _ (M : Move) (A : AcceptedMove M) (originals : List ℕ) (full : length originals ≡ originalCount (M .sizes) * M .sizes .p) where
   open Sizes (M .sizes) using (n, m, p as P)
 
   abbrev Z : Sizes

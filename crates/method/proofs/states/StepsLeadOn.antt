@@ -10,12 +10,12 @@ use Rattle.flash.specs.declared.sizes.Sizes.{Sizes}
 use Rattle.flash.specs.Geometry.{numberAt, originalCount}
 use Rattle.flash.specs.PageSum.{sum}
 use Rattle.flash.specs.Chip.{Chip}
-use Rattle.method.specs.Move.{Move}
+use Rattle.method.specs.Move.{Move, AcceptedMove}
 use Rattle.method.specs.Cycle.{sentTo}
 use Rattle.method.specs.Place.{Pass, forward, backward, written, write, erase, lastPlace, operationAt, passAt, filling, filled}
 use Rattle.method.specs.State.{heldOriginals}
 use Rattle.method.specs.Step.{Running, originalsOf, writtenPage, perform, step, steps}
-use Rattle.method.proofs.basics.MoveShape.{Accepted, Shape, Holding}
+use Rattle.method.proofs.basics.MoveShape.{Shape, Holding}
 use Rattle.method.proofs.basics.AcceptedCalls.{Lent, StandsAt}
 use Rattle.method.proofs.cycles.SetCycles.{sent-in}
 use Rattle.method.proofs.places.StepsAtPlaces.{nextBlock, forward-high, filling-in, backward-low}
@@ -24,7 +24,7 @@ use Rattle.method.proofs.places.PlaceShape.{letterAbove, which-pass, sh
 use Rattle.method.proofs.states.NextPlace.{write-lent, write-stands, erase-lent, erase-stands}
 use Rattle.method.proofs.states.PagesWritten.{Originals, originals-one, number-in, coded-in, coded-some, length-written, written-sum}
 
-module _ (M : Move) (A : Accepted M) where
+module _ (M : Move) (A : AcceptedMove M) where
   open Sizes (M .sizes) using (n, m, p as P)
 
   abbrev Z : Sizes

@@ -10,11 +10,11 @@ use Rattle.flash.specs.Geometry.{letter}
 use Rattle.flash.specs.declared.sizes.Sizes.{Sizes}
 use Rattle.flash.proofs.Bools.{bool-cases, or-false-left, fails}
 use Rattle.split.specs.Split.{sourceBlock}
-use Rattle.method.specs.Move.{Move}
+use Rattle.method.specs.Move.{Move, AcceptedMove}
 use Rattle.method.specs.Cycle.{D, dest, pred, top, isTop, coded}
 use Rattle.method.specs.Read.{fullOf, codedSlot, plainSlot, finalSlot, goBack, goOn}
 use Rattle.method.proofs.basics.EachNumber.{Each, each-one}
-use Rattle.method.proofs.basics.MoveShape.{Accepted, Shape}
+use Rattle.method.proofs.basics.MoveShape.{Shape}
 use Rattle.method.proofs.basics.Indexes.{slot-div}
 use Rattle.method.proofs.cycles.Orbits.{DataBlock, iterate}
 use Rattle.method.proofs.cycles.SetCycles.{D-page, dest-in, pred-in, pred-dest}
@@ -24,7 +24,7 @@ use Rattle.method.proofs.walks.WalkBounds.{back-ends, on-ends}
 use Rattle.method.proofs.walks.StoredPages.{Stored, Reads, Adds, pair-adds, swap-adds, reads-one, reads-add, reads-within, stored-apart, plain-stored, final-stored, code-stored}
 
 -- ---- what a coded page sums
-module _ (M : Move) (A : Accepted M) (set : ℕ) (set-ok : set < M .sizes .m) (v : ℕ) (v-in : DataBlock (M .sizes .n) v) where
+module _ (M : Move) (A : AcceptedMove M) (set : ℕ) (set-ok : set < M .sizes .m) (v : ℕ) (v-in : DataBlock (M .sizes .n) v) where
   coded-top : isTop M set v ≡ true → coded M set v ≡ D M set v ∷ []
   unfolding coded
   coded-top e = rw e
@@ -40,7 +40,7 @@ pub record Met (M : Move) (low set tip b : ℕ) : Type 0 where
   pub under : b ≤ low
   pub of-cycle : top M set b ≡ tip
 
-module _ (M : Move) (A : Accepted M) (marks : List ℕ) (low high i : ℕ) (S : Shape (M .sizes) marks low high i) where
+module _ (M : Move) (A : AcceptedMove M) (marks : List ℕ) (low high i : ℕ) (S : Shape (M .sizes) marks low high i) where
   open Sizes (M .sizes) using (n, m)
 
   -- ---- a walk over coded pages of a set

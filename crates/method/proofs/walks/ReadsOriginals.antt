@@ -15,10 +15,10 @@ use Rattle.flash.proofs.Ranges.{any-is, none-is}
 use Rattle.flash.proofs.Blocks.{full-same}
 use Rattle.flash.proofs.Comparisons.{lt-cases}
 use Rattle.split.specs.Split.{setOf}
-use Rattle.method.specs.Move.{Move}
+use Rattle.method.specs.Move.{Move, AcceptedMove}
 use Rattle.method.specs.Cycle.{dest, pred, top, isTop}
 use Rattle.method.specs.Read.{fullOf, plainSlot, finalSlot, goBack, goOn, readSlots, readPage}
-use Rattle.method.proofs.basics.MoveShape.{Accepted, Shape, Holding}
+use Rattle.method.proofs.basics.MoveShape.{Shape, Holding}
 use Rattle.method.proofs.cycles.Orbits.{DataBlock}
 use Rattle.method.proofs.cycles.SetCycles.{set-in, block-in, D-is, dest-in, dest-is, pred-in}
 use Rattle.method.proofs.cycles.Tops.{top-in, top-ge-self, top-pred}
@@ -27,7 +27,7 @@ use Rattle.method.proofs.walks.WalkBounds.{on-bound}
 use Rattle.method.proofs.walks.StoredPages.{Stored, Reads, reads-one, reads-within, full-clear, plain-stored, final-stored}
 use Rattle.method.proofs.walks.CodedWalks.{Met, reads-back, reads-on}
 
-module _ (M : Move) (A : Accepted M) (marks : List ℕ) (low high i : ℕ) (S : Shape (M .sizes) marks low high i) where
+module _ (M : Move) (A : AcceptedMove M) (marks : List ℕ) (low high i : ℕ) (S : Shape (M .sizes) marks low high i) where
   open Sizes (M .sizes) using (n, m)
 
   -- a block that is not full of s + i lies below `high`
@@ -44,7 +44,7 @@ module _ (M : Move) (A : Accepted M) (marks : List ℕ) (low high i : ℕ) (S : 
       (full-clear M marks low high A i S j b e))
 
 -- "Start with v = k's block, in k's set."
-module _ (M : Move) (A : Accepted M) (marks : List ℕ) (low high : ℕ) (k : ℕ) (k-in : k < originalCount (M .sizes)) where
+module _ (M : Move) (A : AcceptedMove M) (marks : List ℕ) (low high : ℕ) (k : ℕ) (k-in : k < originalCount (M .sizes)) where
   open Sizes (M .sizes) using (n, m)
 
   abbrev v : ℕ
@@ -172,7 +172,7 @@ module _ (M : Move) (A : Accepted M) (marks : List ℕ) (low high : ℕ) (k : �
       which
 
 -- "Read puts original k in the work page"
-pub reads-original : (M : Move) (A : Accepted M) (low high i k : ℕ) (originals : List ℕ) (chip : Chip) → (i ≡ 0) ⊎ (i ≡ 2) → Shape (M .sizes) (chip .marks) low high i
+pub reads-original : (M : Move) (A : AcceptedMove M) (low high i k : ℕ) (originals : List ℕ) (chip : Chip) → (i ≡ 0) ⊎ (i ≡ 2) → Shape (M .sizes) (chip .marks) low high i
     → length originals ≡ originalCount (M .sizes) * M .sizes .p → Holding M originals chip → k < originalCount (M .sizes) → readPage M chip k ≡ part (M .sizes .p) k originals
 unfolding readPage
 reads-original M A low high i k originals chip which S size H h =

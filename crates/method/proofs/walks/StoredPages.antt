@@ -20,11 +20,11 @@ use Rattle.flash.proofs.Sums.{⊕-nil, ⊕-comm, ⊕-cancel, sum-one}
 use Rattle.flash.proofs.Comparisons.{lt-cases}
 use Rattle.split.specs.Split.{destBlock}
 use Rattle.split.proofs.OneToOneLaws.{Distinct}
-use Rattle.method.specs.Move.{Move}
+use Rattle.method.specs.Move.{Move, AcceptedMove}
 use Rattle.method.specs.Cycle.{coded}
 use Rattle.method.specs.Read.{fullOf, codedSlot, plainSlot, finalSlot}
 use Rattle.method.proofs.basics.EachNumber.{Each, each-cons, each-one, distinct-cons}
-use Rattle.method.proofs.basics.MoveShape.{Accepted, Shape, Holding}
+use Rattle.method.proofs.basics.MoveShape.{Shape, Holding}
 use Rattle.method.proofs.basics.Indexes.{slot-div, slot-lt}
 use Rattle.method.proofs.cycles.Orbits.{DataBlock}
 use Rattle.method.proofs.cycles.SetCycles.{block-in, entry-in}
@@ -109,7 +109,7 @@ module _ (M : Move) (marks : List ℕ) (low high : ℕ) where
   pub stored-apart : (i j t u : ℕ) (xs ys : List ℕ) → letter (M .sizes) i ≢ letter (M .sizes) j → Stored i t xs → Stored j u ys → t ≢ u
   stored-apart i j t u xs ys ne a b e = ne (sym (a .marked) ∙ ap (markAt marks) e ∙ b .marked)
 
-  module _ (A : Accepted M) (i : ℕ) (S : Shape (M .sizes) marks low high i) where
+  module _ (A : AcceptedMove M) (i : ℕ) (S : Shape (M .sizes) marks low high i) where
     -- a full block is below `low` or from `high` on
     pub full-clear : (j b : ℕ) → isFull m marks b (letter (M .sizes) j) ≡ true → (b < low) ⊎ (high ≤ b)
     full-clear j b e = ⊎-elim

@@ -6,15 +6,14 @@ use Prim.Native.Nat.{ℕ, zero, suc, _+_, _<_}
 use native.Mathlib.Omega.{arith}
 use Rattle.flash.specs.declared.sizes.Sizes.{Sizes}
 use Rattle.flash.proofs.Bools.{never-both}
-use Rattle.method.specs.Move.{Move}
+use Rattle.method.specs.Move.{Move, AcceptedMove}
 use Rattle.method.specs.Cycle.{dest, pred, top, isTop}
 use Rattle.method.specs.Read.{fullOf, codedSlot, goBack, goOn}
-use Rattle.method.proofs.basics.MoveShape.{Accepted}
 use Rattle.method.proofs.cycles.Orbits.{DataBlock, iterate}
 use Rattle.method.proofs.cycles.Tops.{top-top, top-behind, top-ahead, top-isTop}
 use Rattle.method.proofs.walks.WalkSlots.{Ends, ends-by, walk-more, backEnds, backLast, back-walk, onEnds, onLast, on-walk}
 
-module _ (M : Move) (A : Accepted M) (marks : List ℕ) (set : ℕ) (set-ok : set < M .sizes .m) where
+module _ (M : Move) (A : AcceptedMove M) (marks : List ℕ) (set : ℕ) (set-ok : set < M .sizes .m) where
   open Sizes (M .sizes) using (n)
 
   -- going back: within n blocks, the top being the last of them

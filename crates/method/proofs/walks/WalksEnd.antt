@@ -3,28 +3,17 @@ use mathlib.Core.Path.{_≡_, refl, sym, ap, _∙_, subst}
 use Prim.Native.Nat.{ℕ, zero, suc}
 use native.Mathlib.Omega.{arith}
 use Rattle.flash.specs.Geometry.{blockOf, letter}
-use Rattle.flash.proofs.Bounds.{in-range}
 use Rattle.flash.proofs.Blocks.{full-finished}
 use Rattle.split.specs.Split.{setOf}
-use Rattle.method.specs.Move.{Move}
+use Rattle.method.specs.Move.{Move, AcceptedMove}
 use Rattle.method.specs.Cycle.{dest}
-use Rattle.method.specs.Claims.{AcceptedMove, InCycle, start, next, TopIsHighest, WalksEnd}
-use Rattle.method.proofs.basics.MoveShape.{Accepted}
+use Rattle.method.specs.Claims.{InCycle, start, next, TopIsHighest, WalksEnd}
 use Rattle.method.proofs.cycles.Orbits.{iterate, iterate-last}
 use Rattle.method.proofs.cycles.SetCycles.{set-in, block-in}
 use Rattle.method.proofs.cycles.Tops.{top-is, top-ge}
 use Rattle.method.proofs.walks.WalkBounds.{back-bound}
 use Rattle.method.proofs.walks.ReadsOriginals.{reads, reads-on-bound}
 use Rattle.method.proofs.recovery.FittingMarks.{shaped}
-
-pub accepted : (M : Move) → AcceptedMove M → Accepted M
-accepted M A = record {
-  ranges = in-range (M .sizes) (A .ranges);
-  list-length = A .list-length;
-  sets-length = A .sets-length;
-  one-to-one = A .one-to-one;
-  split = A .split;
-}
 
 -- the blocks of a cycle are the iterates of dest
 iterate-cycle : (M : Move) (set i steps : ℕ) → InCycle M set i (iterate (dest M set) steps i)
@@ -42,20 +31,19 @@ cycle-iterate M set i _ (next {j} c) =
 pub top-is-highest : TopIsHighest
 top-is-highest = record {
   in-cycle = λ M A set i h l u.
-      let r = top-is M (accepted M A) set h i (record { low = l; high = u }) in
+      let r = top-is M A set h i (record { low = l; high = u }) in
       subst (InCycle M set i) (sym (r .2)) (iterate-cycle M set i (r .0));
   highest = λ M A set i j h l u c.
       let r = cycle-iterate M set i j c in
-      rw (r .1) (top-ge M (accepted M A) set h (r .0) i (record { low = l; high = u }));
+      rw (r .1) (top-ge M A set h (r .0) i (record { low = l; high = u }));
 }
 
 pub walks-end : WalksEnd
 unfolding WalksEnd letter
 walks-end M A marks found e k h =
     let Z = M .sizes in
-    let A′ = accepted M A in
-    let shape = shaped Z (A′ .ranges .m-low) marks found e in
-    let r = reads M A′ marks (shape .low) (shape .high) k h (shape .i) (shape .pass) (shape .shape) in
+    let shape = shaped Z (A .ranges .m-low) marks found e in
+    let r = reads M A marks (shape .low) (shape .high) k h (shape .i) (shape .pass) (shape .shape) in
     record {
       slots = record {
         some = r .some;
@@ -67,6 +55,6 @@ walks-end M A marks found e k h =
             let t = r .sited i l in
             full-finished (Z .m) marks _ (letter Z (t .index)) (omega arith) (t .full);
       };
-      back = λ extra. back-bound M A′ marks (setOf (M .sets) k) (set-in M A′ k h) (blockOf (Z .m) k) extra (block-in M A′ k h);
-      on = reads-on-bound M A′ marks (shape .low) (shape .high) k h (shape .i) (shape .pass) (shape .shape);
+      back = λ extra. back-bound M A marks (setOf (M .sets) k) (set-in M A k h) (blockOf (Z .m) k) extra (block-in M A k h);
+      on = reads-on-bound M A marks (shape .low) (shape .high) k h (shape .i) (shape .pass) (shape .shape);
     }

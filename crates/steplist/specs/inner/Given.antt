@@ -11,7 +11,7 @@ use Rattle.flash.specs.Geometry.{originalCount, storeLength, marksLength}
 use Rattle.split.specs.OneToOne.{badList}
 use Rattle.split.specs.Rule.{splitByRule}
 use Rattle.split.specs.Answer.{splitAnswer}
-use Rattle.listing.specs.Request.{isAllowed, numbersDue}
+use Rattle.listing.specs.Input.{isAllowed, numbersDue}
 
 -- a request within the limits whose numbers stand at the front of an area
 pub record Asked (Z : Sizes) (numbers : List ℕ) : Type 0 where

@@ -4,7 +4,7 @@ use Rattle.flash.proofs.sizes.original_count.Statement.{statement}
 use Rattle.flash.proofs.sizes.original_count.Tie as tie
 
 mul-result : tie.Need-mul-result
-mul-result c = omega (arith, product-le (c .before .args .z .n) (c .before .args .z .m) {c = 64} {d = 64} (omega arith) (omega arith))
+mul-result c = omega (arith, product-le (c .before .args .sizes .n) (c .before .args .sizes .m) {c = 64} {d = 64} (omega arith) (omega arith))
 
 returns : tie.Need-returns
 returns c = omega arith

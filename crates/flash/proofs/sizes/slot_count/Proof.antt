@@ -8,7 +8,7 @@ add-result : tie.Need-add-result
 add-result c = omega arith
 
 mul-result : tie.Need-mul-result
-mul-result c = omega (arith, product-le (c .before .before .args .z .n + 1) (c .before .before .args .z .m) {c = 65} {d = 64} (omega arith) (omega arith))
+mul-result c = omega (arith, product-le (c .before .before .args .sizes .n + 1) (c .before .before .args .sizes .m) {c = 65} {d = 64} (omega arith) (omega arith))
 
 returns : tie.Need-returns
 returns c = omega arith

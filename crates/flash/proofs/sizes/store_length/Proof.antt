@@ -11,11 +11,11 @@ slot-count-requires c κs = omega arith
 mul-result : tie.Need-mul-result
 mul-result c =
     let a = c .before .before .args in
-    let slots : c .before .slot-count .result ≤ 65 * 64 = omega (arith, product-le (a .z .n + 1) (a .z .m) {c = 65} {d = 64} (omega arith) (omega arith)) in
-    omega (arith, product-le (c .before .slot-count .result) (a .z .p) {c = 65 * 64} {d = 4096} slots (omega arith))
+    let slots : c .before .slot-count .result ≤ 65 * 64 = omega (arith, product-le (a .sizes .n + 1) (a .sizes .m) {c = 65} {d = 64} (omega arith) (omega arith)) in
+    omega (arith, product-le (c .before .slot-count .result) (a .sizes .p) {c = 65 * 64} {d = 4096} slots (omega arith))
 
 returns : tie.Need-returns
-returns c = ap (λ (slots : ℕ). slots * c .before .before .args .z .p) (c .before .slot-count .ensures)
+returns c = ap (λ (slots : ℕ). slots * c .before .before .args .sizes .p) (c .before .slot-count .ensures)
 
 pub store-length-spec : {M : Type 1} → statement M
 store-length-spec = tie.close (tie.spec slot-count-requires mul-result returns)

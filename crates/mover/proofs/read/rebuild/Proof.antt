@@ -41,10 +41,10 @@ sum-pages-requires c κs =
     let start = c .before .before .before .before .before .before .before .before .before .before .before .before .before .before .before .before .before in
     let a = start .args in
     let pre = start .pre in
-    let M = moveOf (a .z) (a .list .now) (a .sets .now) in
+    let M = moveOf (a .sizes) (a .list .now) (a .sets .now) in
     let r = c .before .before .before .read-slots in
-    let inside = among (λ t. t < slotCount (a .z)) _ _ (r .result) (omega (arith, r .ensures .few)) (r .ensures .slots-are) (read-in M (pre .0) (a .marks .now) (a .k) (pre .2)) in
-    ((r .ensures .some, omega (arith, r .ensures .few), pre .1 .work-length), (λ j h. rw (pre .1 .store-length) (slot-in-store (a .z) _ (inside j h))))
+    let inside = among (λ t. t < slotCount (a .sizes)) _ _ (r .result) (omega (arith, r .ensures .few)) (r .ensures .slots-are) (read-in M (pre .0) (a .marks .now) (a .k) (pre .2)) in
+    ((r .ensures .some, omega (arith, r .ensures .few), pre .1 .work-length), (λ j h. rw (pre .1 .store-length) (slot-in-store (a .sizes) _ (inside j h))))
 
 same-length : tie.Need-same-length
 same-length c = search needs
@@ -55,7 +55,7 @@ returns c =
     let r = c .before .before .before .before .before .before .read-slots in
     let s = c .before .before .sum-pages in
     let a = c .before .before .before .before .before .before .before .before .before .before .before .before .before .before .before .before .before .before .before .before .args in
-    (((sym (length-take-le (r .result) _ (omega (arith, r .ensures .few))) ∙ ap length (r .ensures .slots-are), omega (arith, r .ensures .few))), s .ensures ∙ ap (sum (λ t. part (a .z .p) t (a .store .now))) (r .ensures .slots-are))
+    (((sym (length-take-le (r .result) _ (omega (arith, r .ensures .few))) ∙ ap length (r .ensures .slots-are), omega (arith, r .ensures .few))), s .ensures ∙ ap (sum (λ t. part (a .sizes .p) t (a .store .now))) (r .ensures .slots-are))
 
 pub rebuild-spec : {M : Type 1} → statement M
 rebuild-spec =

@@ -6,8 +6,8 @@ use borrow.Author.Needs.{needs}
 use borrow.Author.Tests.{not-true, not-false}
 use Rattle.method.specs.Move.{moveOf}
 use Rattle.flash.specs.Tables.{refusal}
-use Rattle.flash.specs.Geometry.{inRange}
-use Rattle.flash.proofs.Bounds.{Bounds, in-range}
+use Rattle.flash.specs.Geometry.{Bounds, inRange}
+use Rattle.flash.proofs.Bounds.{in-range}
 use Rattle.split.specs.OneToOne.{isOneToOne}
 use Rattle.method.specs.Answers.{moveRows}
 use Rattle.mover.proofs.RefusalLaws.{move-number, move-split}
@@ -20,17 +20,17 @@ in-range-requires c κs = search needs
 returns : tie.Need-returns
 returns c =
     let a = c .before .before .before .before .before .before .before .args in
-    let M = moveOf (a .z) (a .list .now) (a .sets .now) in
+    let M = moveOf (a .sizes) (a .list .now) (a .sets .now) in
     let N = move-number M (record { store = a .store .now; marks = a .marks .now }) (a .work .now) in
     sym (N ∙ rw (← c .before .in-range .ensures, c .if1 .taken))
 
 -- the sizes are in their ranges
 ranged : (c : tie.Else1)
-    → (let a = c .before .before .before .before .before .before .before .args in not (inRange (a .z)) ≡ false)
+    → (let a = c .before .before .before .before .before .before .before .args in not (inRange (a .sizes)) ≡ false)
 ranged c = rw (← c .before .in-range .ensures) (c .if1 .left)
 
-ranges : (c : tie.Else1) → (let a = c .before .before .before .before .before .before .before .args in Bounds (a .z))
-ranges c = in-range (c .before .before .before .before .before .before .before .args .z) (not-false _ (ranged c))
+ranges : (c : tie.Else1) → (let a = c .before .before .before .before .before .before .before .args in Bounds (a .sizes))
+ranges c = in-range (c .before .before .before .before .before .before .before .args .sizes) (not-false _ (ranged c))
 
 bad-parts-requires : tie.Need-bad-parts-requires
 bad-parts-requires c κs = let B = ranges c in (B .n-high, B .m-high, B .p-high)
@@ -38,7 +38,7 @@ bad-parts-requires c κs = let B = ranges c in (B .n-high, B .m-high, B .p-high)
 returns-2 : tie.Need-returns-2
 returns-2 c =
     let a = c .before .before .before .before .before .before .before .before .before .args in
-    let M = moveOf (a .z) (a .list .now) (a .sets .now) in
+    let M = moveOf (a .sizes) (a .list .now) (a .sets .now) in
     let N = move-number M (record { store = a .store .now; marks = a .marks .now }) (a .work .now) in
     sym (N ∙ rw (ranged (c .before .before), ← c .before .bad-parts .ensures, c .if2 .taken))
 
@@ -48,11 +48,11 @@ is-split-requires c κs = search needs
 -- past rows 1 and 2 the split decides, and else the list
 decided : (c : tie.After-is-split)
     → (let a = c .before .before .before .before .before .before .before .before .before .before .args in
-    let M = moveOf (a .z) (a .list .now) (a .sets .now) in
-    refusal (moveRows M (record { store = a .store .now; marks = a .marks .now }) (a .work .now) []) ≡ cond (c .is-split .result) 0 (cond (isOneToOne (a .z .n * a .z .m) (a .list .now)) 4 3))
+    let M = moveOf (a .sizes) (a .list .now) (a .sets .now) in
+    refusal (moveRows M (record { store = a .store .now; marks = a .marks .now }) (a .work .now) []) ≡ cond (c .is-split .result) 0 (cond (isOneToOne (a .sizes .n * a .sizes .m) (a .list .now)) 4 3))
 decided c =
     let a = c .before .before .before .before .before .before .before .before .before .before .args in
-    let M = moveOf (a .z) (a .list .now) (a .sets .now) in
+    let M = moveOf (a .sizes) (a .list .now) (a .sets .now) in
     rw (c .is-split .ensures)
     (move-split M (record { store = a .store .now; marks = a .marks .now }) (a .work .now) (not-false _ (ranged (c .before .before .before)))
     (sym (c .before .before .bad-parts .ensures) ∙ c .before .if2 .left))
@@ -67,7 +67,7 @@ check-requires : tie.Need-check-requires
 check-requires c κs = search needs
 
 -- what the check of the list answers
-checked : (c : tie.After-check) → (let a = c .before .before .before .before .before .before .before .before .before .before .before .before .before .args in c .check .result ≡ isOneToOne (a .z .n * a .z .m) (a .list .now))
+checked : (c : tie.After-check) → (let a = c .before .before .before .before .before .before .before .before .before .before .before .before .before .args in c .check .result ≡ isOneToOne (a .sizes .n * a .sizes .m) (a .list .now))
 checked c = rw (← c .before .original-count .ensures) (c .check .ensures)
 
 returns-4 : tie.Need-returns-4

@@ -35,7 +35,7 @@ inside : (c : tie.After-slice-known6) → c .before .before .before .before .bef
 inside c =
     let start = c .before .before .before .before .before .before .before .before .before .before .before .before .before .before .before .before .before .before .before .before .before .before .before .before in
     let a = start .args in
-    omega (arith, start .pre .2, c .before .before .before .before .before .before .before .before .before .before .before .before .before .last-place .ensures, c .before .before .before .before .before .before .before .before .before .before .before .before .smaller .ensures, last-small (moveOf (a .z) (a .list .now) (a .sets .now)) (start .pre .0))
+    omega (arith, start .pre .2, c .before .before .before .before .before .before .before .before .before .before .before .before .before .last-place .ensures, c .before .before .before .before .before .before .before .before .before .before .before .before .smaller .ensures, last-small (moveOf (a .sizes) (a .list .now) (a .sets .now)) (start .pre .0))
 
 add-reached : tie.Need-add-reached
 add-reached c = omega (arith, inside c)
@@ -59,7 +59,7 @@ returns : tie.Need-returns
 returns c =
     let a = c .before .before .before .before .before .before .before .before .before .before .before .before .before .before .before .before .before .before .before .before .before .before .before .before .before .args in
     let t = c .before .before .before .before .before .before .before .take-steps in
-    carried (moveOf (a .z) (a .list .now) (a .sets .now)) (a .store .now) (a .marks .now) (a .work .now) (a .place) (a .budget) (c .before .before .before .before .before .before .before .before .before .before .before .before .before .before .last-place .result) (c .before .before .before .before .before .before .before .before .before .before .before .before .before .smaller .result) _ _ _ _ _ _ _
+    carried (moveOf (a .sizes) (a .list .now) (a .sets .now)) (a .store .now) (a .marks .now) (a .work .now) (a .place) (a .budget) (c .before .before .before .before .before .before .before .before .before .before .before .before .before .before .last-place .result) (c .before .before .before .before .before .before .before .before .before .before .before .before .before .smaller .result) _ _ _ _ _ _ _
     (c .before .before .before .before .before .before .before .before .before .before .before .before .before .before .last-place .ensures) (c .before .before .before .before .before .before .before .before .before .before .before .before .before .smaller .ensures) (c .same .ensures) (t .ensures .0) (t .ensures .1)
 
 pub carry-out-spec : {M : Type 1} → statement M

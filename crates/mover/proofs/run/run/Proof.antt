@@ -24,7 +24,7 @@ same-length-3 c = search needs
 returns : tie.Need-returns
 returns c =
     let a = c .before .before .before .before .before .before .before .before .before .before .before .args in
-    let M = moveOf (a .z) (a .list .now) (a .sets .now) in
+    let M = moveOf (a .sizes) (a .list .now) (a .sets .now) in
     let chip : Chip = record { store = a .store .now; marks = a .marks .now } in
     let r = c .before .before .move-refusal in
     refused-by-move M chip (a .work .now) (a .place) (a .budget) (r .result) (r .ensures) (c .before .if1 .taken) _ (c .refused .ensures)
@@ -32,11 +32,11 @@ returns c =
 is-elsewhere-requires : tie.Need-is-elsewhere-requires
 is-elsewhere-requires c κs =
     let a = c .before .before .before .before .before .before .before .before .before .before .before .before .args in
-    let M = moveOf (a .z) (a .list .now) (a .sets .now) in
+    let M = moveOf (a .sizes) (a .list .now) (a .sets .now) in
     let chip : Chip = record { store = a .store .now; marks = a .marks .now } in
     let g = given M chip (a .work .now) (sym (c .before .before .before .move-refusal .ensures) ∙ c .before .before .if1 .left) in
     let G = g .0 in
-    (record { n-high = G .n-high; m-low = G .m-low; m-high = G .m-high; s-high = G .s-high }, g .1 .marks-length, g .1 .store-length)
+    (record { n-high = G .ranges .n-high; m-low = G .ranges .m-low; m-high = G .ranges .m-high; s-high = G .ranges .s-high }, g .1 .marks-length, g .1 .store-length)
 
 refused-requires-2 : tie.Need-refused-requires-2
 refused-requires-2 c κs = search needs
@@ -53,7 +53,7 @@ same-length-6 c = search needs
 returns-2 : tie.Need-returns-2
 returns-2 c =
     let a = c .before .before .before .before .before .before .before .before .before .before .before .before .before .before .before .args in
-    let M = moveOf (a .z) (a .list .now) (a .sets .now) in
+    let M = moveOf (a .sizes) (a .list .now) (a .sets .now) in
     let chip : Chip = record { store = a .store .now; marks = a .marks .now } in
     refused-by-place M chip (a .work .now) (a .place) (a .budget) (sym (c .before .before .before .before .before .if1 .left) ∙ c .before .before .before .before .before .before .move-refusal .ensures)
     (sym (c .before .if2 .taken) ∙ c .before .before .is-elsewhere .ensures (a .list .now) (a .sets .now)) _ (c .refused2 .ensures)
@@ -61,7 +61,7 @@ returns-2 c =
 carry-out-requires : tie.Need-carry-out-requires
 carry-out-requires c κs =
     let a = c .before .before .before .before .before .before .before .before .before .before .before .before .before .before .before .before .before .args in
-    let M = moveOf (a .z) (a .list .now) (a .sets .now) in
+    let M = moveOf (a .sizes) (a .list .now) (a .sets .now) in
     let chip : Chip = record { store = a .store .now; marks = a .marks .now } in
     let none = sym (c .before .before .before .before .before .before .before .if1 .left) ∙ c .before .before .before .before .before .before .before .before .move-refusal .ensures in
     let g = given M chip (a .work .now) (sym none) in
@@ -79,7 +79,7 @@ same-length-9 c = search needs
 returns-3 : tie.Need-returns-3
 returns-3 c =
     let a = c .before .before .before .before .before .before .before .before .before .before .before .before .before .before .before .before .before .before .before .before .before .before .before .before .args in
-    let M = moveOf (a .z) (a .list .now) (a .sets .now) in
+    let M = moveOf (a .sizes) (a .list .now) (a .sets .now) in
     let chip : Chip = record { store = a .store .now; marks = a .marks .now } in
     let none = sym (c .before .before .before .before .before .before .before .before .before .before .before .before .before .before .if1 .left) ∙ c .before .before .before .before .before .before .before .before .before .before .before .before .before .before .before .move-refusal .ensures in
     not-refused M chip (a .work .now) (a .place) (a .budget) none (sym (c .before .before .before .before .before .before .before .before .before .before .if2 .left) ∙ c .before .before .before .before .before .before .before .before .before .before .before .is-elsewhere .ensures (a .list .now) (a .sets .now)) _ (c .before .before .before .before .before .before .carry-out .ensures)

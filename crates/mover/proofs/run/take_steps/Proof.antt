@@ -11,19 +11,19 @@ use Rattle.mover.proofs.run.take_steps.Statement.{statement}
 use Rattle.mover.proofs.run.take_steps.Tie as tie
 
 abbrev Inv-loop : tie.InvT-loop
-Inv-loop z list sets pages from store₀ marks₀ work₀ place taken at₀ done₀ writes₀ erases₀ i₀ store marks work at done writes erases i =
-    Leaves (steps (moveOf z list sets) i place (runningOf store₀ marks₀ work₀)) store marks work
-    × Counted (tally (operationsFrom (moveOf z list sets) place i)) done writes erases
-    × Lent (moveOf z list sets) store marks work × (at .at ≡ place + i) × (i ≤ taken) × (done ≤ i) × (writes ≤ i) × (erases ≤ i)
+Inv-loop sizes list sets pages from store₀ marks₀ work₀ place taken at₀ done₀ writes₀ erases₀ i₀ store marks work at done writes erases i =
+    Leaves (steps (moveOf sizes list sets) i place (runningOf store₀ marks₀ work₀)) store marks work
+    × Counted (tally (operationsFrom (moveOf sizes list sets) place i)) done writes erases
+    × Lent (moveOf sizes list sets) store marks work × (at .at ≡ place + i) × (i ≤ taken) × (done ≤ i) × (writes ≤ i) × (erases ≤ i)
 
 abbrev μ-loop : tie.MeasureT-loop
-μ-loop z list sets pages from store₀ marks₀ work₀ place taken at₀ done₀ writes₀ erases₀ i₀ store marks work at done writes erases i = taken - i
+μ-loop sizes list sets pages from store₀ marks₀ work₀ place taken at₀ done₀ writes₀ erases₀ i₀ store marks work at done writes erases i = taken - i
 
 loop-holds : tie.Need-loop-holds Inv-loop μ-loop
 loop-holds c =
     let start = c .before .before .before .before .before in
     let a = start .args in
-    let M = moveOf (a .z) (a .list .now) (a .sets .now) in
+    let M = moveOf (a .sizes) (a .list .now) (a .sets .now) in
     (none-taken M (a .place) (a .store .now) (a .marks .now) (a .work .now), none-counted M (a .place), start .pre .1, omega arith, omega arith, omega arith, omega arith, omega arith)
 
 step-requires : tie.Need-step-requires Inv-loop μ-loop
@@ -33,17 +33,17 @@ step-requires c κs = (c .before .before .before .before .before .before .before
 small : (c : tie.In-loop Inv-loop μ-loop)
     → (let a = c .before .before .before .before .before .before .before .args in
     let l = c .before .loop in
-    (a .place + l .i < lastPlace (a .z)) × (lastPlace (a .z) ≤ 8320) × (l .at .at ≡ a .place + l .i) × (l .i < a .taken)
+    (a .place + l .i < lastPlace (a .sizes)) × (lastPlace (a .sizes) ≤ 8320) × (l .at .at ≡ a .place + l .i) × (l .i < a .taken)
     × (l .steps ≤ l .i) × (l .writes ≤ l .i) × (l .erases ≤ l .i))
 small c =
     let start = c .before .before .before .before .before .before .before in
     let a = start .args in
     let l = c .before .loop in
-    (omega arith, last-small (moveOf (a .z) (a .list .now) (a .sets .now)) (start .pre .0 .given), l .inv .3, omega arith, l .inv .5, l .inv .6, l .inv .7)
+    (omega arith, last-small (moveOf (a .sizes) (a .list .now) (a .sets .now)) (start .pre .0 .given), l .inv .3, omega arith, l .inv .5, l .inv .6, l .inv .7)
 
 -- the step counts at most one of each
 ones : (c : tie.After-step Inv-loop μ-loop) → (let r = c .step .result in (r .steps ≤ 1) × (r .writes ≤ 1) × (r .erases ≤ 1))
-ones c = at-most-one (operationAt ((c .before .before .before .before .before .before .before .before .before .before .before .args .z)) (c .before .before .before .before .before .loop .at .at)) _ _ _ (c .step .ensures .1)
+ones c = at-most-one (operationAt ((c .before .before .before .before .before .before .before .before .before .before .before .args .sizes)) (c .before .before .before .before .before .loop .at .at)) _ _ _ (c .step .ensures .1)
 
 add-steps : tie.Need-add-steps Inv-loop μ-loop
 add-steps c = omega (arith, small (c .before .before .before .before .before .before .before .before .before .before .before), ones (c .before .before .before .before .before .before .before))
@@ -67,7 +67,7 @@ loop-again : tie.Need-loop-again Inv-loop μ-loop
 loop-again c =
     let start = c .before .before .before .before .before .before .before .before .before .before .before .before .before .before .before .before .before .before .before .before .before in
     let a = start .args in
-    let M = moveOf (a .z) (a .list .now) (a .sets .now) in
+    let M = moveOf (a .sizes) (a .list .now) (a .sets .now) in
     let l = c .before .before .before .before .before .before .before .before .before .before .before .before .before .before .before .loop in
     let s = c .before .before .before .before .before .before .before .before .before .before .step in
     let one = ones (c .before .before .before .before .before .before .before .before .before .before) in

@@ -19,10 +19,10 @@ enum-known-backward c = search needs
 writes : (c : tie.After-write-arg3)
     → (let a = c .before .before .before .before .before .before .before .before .before .before .before .before .args in
     let v = c .before .before .before .before .backward .given .0 in
-    IsWrite (a .z) (a .place .at) (v .0) (v .1 .0) (v .1 .1 .0) (v .1 .1 .1 .0))
+    IsWrite (a .sizes) (a .place .at) (v .0) (v .1 .0) (v .1 .1 .0) (v .1 .1 .1 .0))
 writes c =
     let a = c .before .before .before .before .before .before .before .before .before .before .before .before .args in
-    is-write (a .z) (a .place .at) _ _ _ _ (sym (c .before .before .before .before .backward .given .1) ∙ c .before .before .before .before .before .before .operation .ensures)
+    is-write (a .sizes) (a .place .at) _ _ _ _ (sym (c .before .before .before .before .backward .given .1) ∙ c .before .before .before .before .before .before .operation .ensures)
 
 write-requires : tie.Need-write-requires
 write-requires c κs =
@@ -38,15 +38,15 @@ enum-known-block c = search needs
 -- the step at the place is this erase
 erases : (c : tie.After-erase-block-arg2)
     → (let a = c .before .before .before .before .before .before .before .before .before .before .before .args in
-    IsErase (a .z) (a .place .at) (c .before .before .before .block .given .0 .0))
+    IsErase (a .sizes) (a .place .at) (c .before .before .before .block .given .0 .0))
 erases c =
     let a = c .before .before .before .before .before .before .before .before .before .before .before .args in
-    is-erase (a .z) (a .place .at) _ (sym (c .before .before .before .block .given .1) ∙ c .before .before .before .before .before .operation .ensures)
+    is-erase (a .sizes) (a .place .at) _ (sym (c .before .before .before .block .given .1) ∙ c .before .before .before .before .before .operation .ensures)
 
 erase-block-requires : tie.Need-erase-block-requires
 erase-block-requires c κs =
     let start = c .before .before .before .before .before .before .before .before .before .before .before in
-    let Z = (start .args .z) in
+    let Z = (start .args .sizes) in
     let E = erases c in
     (rw (start .pre .1 .store-length) (block-in-store Z (c .before .before .before .block .given .0 .0) (E .block-in)), rw (start .pre .1 .marks-length) (block-in-marks Z (c .before .before .before .block .given .0 .0) (E .block-in)))
 
@@ -72,7 +72,7 @@ returns : tie.Need-returns
 returns c =
     let d = c .before in
     let a = d .before .before .before .before .before .before .before .before .before .before .before .before .before .before .before .before .before .before .before .args in
-    let M = moveOf (a .z) (a .list .now) (a .sets .now) in
+    let M = moveOf (a .sizes) (a .list .now) (a .sets .now) in
     let v = d .before .before .before .before .before .before .before .before .before .before .before .backward .given .0 in
     let op = write (passOf (v .0)) (v .1 .0) (v .1 .1 .0) in
     let is = writes (d .before .before .before .before .before .before .before) .is in
@@ -88,7 +88,7 @@ returns-2 : tie.Need-returns-2
 returns-2 c =
     let d = c .before in
     let a = d .before .before .before .before .before .before .before .before .before .before .before .before .before .before .before .before .args in
-    let M = moveOf (a .z) (a .list .now) (a .sets .now) in
+    let M = moveOf (a .sizes) (a .list .now) (a .sets .now) in
     let b = d .before .before .before .before .before .before .before .before .block .given .0 .0 in
     let is = erases (d .before .before .before .before .before) .is in
     (stepped M (a .place .at) (erase b) is _ _ _ _ (erased M b (a .store .now) (a .marks .now) (a .work .now) _ _ (d .before .before .before .before .erase-block .ensures)), rw (c .counted2 .ensures) (counted M (a .place .at) (erase b) is 1 0 1 (one-erase b)))
@@ -97,8 +97,8 @@ returns-3 : tie.Need-returns-3
 returns-3 c =
     let d = c .before in
     let a = d .before .before .before .before .before .before .before .before .args in
-    let M = moveOf (a .z) (a .list .now) (a .sets .now) in
-    let Z = (a .z) in
+    let M = moveOf (a .sizes) (a .list .now) (a .sets .now) in
+    let Z = (a .sizes) in
     let is = told-done Z (operationAt Z (a .place .at)) (sym (d .enum-told .given .1) ∙ d .before .before .operation .ensures) in
     (stepped M (a .place .at) done is _ _ _ _ (nothing M (a .store .now) (a .marks .now) (a .work .now)), rw (c .counted3 .ensures) (counted M (a .place .at) done is 0 0 0 no-step))
 

@@ -23,14 +23,14 @@ refused-requires c κs = search needs
 returns : tie.Need-returns
 returns c =
     let a = c .before .before .before .args in
-    c .refused .ensures ∙ sym (refused-1 (a .z) (a .place) (sym (c .before .before .in-range .ensures) ∙ not-true _ (c .before .if1 .taken)))
+    c .refused .ensures ∙ sym (refused-1 (a .sizes) (a .place) (sym (c .before .before .in-range .ensures) ∙ not-true _ (c .before .if1 .taken)))
 
 -- the sizes are in range
-sizes : (c : tie.Else1) → (let a = c .before .before .args in inRange (a .z)) ≡ true
-sizes c = sym (c .before .in-range .ensures) ∙ not-false _ (c .if1 .left)
+in-ranges : (c : tie.Else1) → (let a = c .before .before .args in inRange (a .sizes)) ≡ true
+in-ranges c = sym (c .before .in-range .ensures) ∙ not-false _ (c .if1 .left)
 
 last-place-requires : tie.Need-last-place-requires
-last-place-requires c κs = let B = in-range _ (sizes c) in (B .n-high, B .m-high)
+last-place-requires c κs = let B = in-range _ (in-ranges c) in (B .n-high, B .m-high)
 
 refused-requires-2 : tie.Need-refused-requires-2
 refused-requires-2 c κs = search needs
@@ -38,29 +38,29 @@ refused-requires-2 c κs = search needs
 returns-2 : tie.Need-returns-2
 returns-2 c =
     let a = c .before .before .before .before .before .args in
-    c .refused2 .ensures ∙ sym (refused-5 (a .z) (a .place) (sizes (c .before .before .before)) (lt-ltb (lastPlace (a .z)) (a .place) (omega (arith, c .before .before .last-place .ensures, c .before .if2 .taken))))
+    c .refused2 .ensures ∙ sym (refused-5 (a .sizes) (a .place) (in-ranges (c .before .before .before)) (lt-ltb (lastPlace (a .sizes)) (a .place) (omega (arith, c .before .before .last-place .ensures, c .before .if2 .taken))))
 
 -- and the place is one of the move
-inside : (c : tie.Else2) → (let a = c .before .before .before .before .args in ltb (lastPlace (a .z)) (a .place)) ≡ false
-inside c = let a = c .before .before .before .before .args in le-ltb (lastPlace (a .z)) (a .place) (omega (arith, c .before .last-place .ensures, c .if2 .left))
+inside : (c : tie.Else2) → (let a = c .before .before .before .before .args in ltb (lastPlace (a .sizes)) (a .place)) ≡ false
+inside c = let a = c .before .before .before .before .args in le-ltb (lastPlace (a .sizes)) (a .place) (omega (arith, c .before .last-place .ensures, c .if2 .left))
 
 operation-requires : tie.Need-operation-requires
-operation-requires c κs = let B = in-range _ (sizes (c .before .before)) in (B .n-low, B .n-high, B .m-low, B .m-high, B .s-high)
+operation-requires c κs = let B = in-range _ (in-ranges (c .before .before)) in (B .n-low, B .n-high, B .m-low, B .m-high, B .s-high)
 
 enum-known-block : tie.Need-enum-known-block
 enum-known-block c = search needs
 
 -- the step at the place is this write
-writes : (c : tie.After-block) → (let a = c .before .before .before .before .before .before .before .args in let v = c .block .given .0 in IsWrite (a .z) (a .place) (v .0) (v .1 .0) (v .1 .1 .0) (v .1 .1 .1 .0))
+writes : (c : tie.After-block) → (let a = c .before .before .before .before .before .before .before .args in let v = c .block .given .0 in IsWrite (a .sizes) (a .place) (v .0) (v .1 .0) (v .1 .1 .0) (v .1 .1 .1 .0))
 writes c =
     let a = c .before .before .before .before .before .before .before .args in
-    is-write (a .z) (a .place) _ _ _ _ (sym (c .block .given .1) ∙ c .before .before .operation .ensures)
+    is-write (a .sizes) (a .place) _ _ _ _ (sym (c .block .given .1) ∙ c .before .before .operation .ensures)
 
 cast-t13 : tie.Need-cast-t13
-cast-t13 c = let W = writes (c .before) in omega (arith, W .block-in, in-range _ (sizes (c .before .before .before .before .before .before)) .n-high)
+cast-t13 c = let W = writes (c .before) in omega (arith, W .block-in, in-range _ (in-ranges (c .before .before .before .before .before .before)) .n-high)
 
 cast-t14 : tie.Need-cast-t14
-cast-t14 c = let W = writes (c .before) in omega (arith, W .page-in, in-range _ (sizes (c .before .before .before .before .before .before)) .m-high)
+cast-t14 c = let W = writes (c .before) in omega (arith, W .page-in, in-range _ (in-ranges (c .before .before .before .before .before .before)) .m-high)
 
 cast-t15 : tie.Need-cast-t15
 cast-t15 c = search needs
@@ -69,13 +69,13 @@ enum-known-block-2 : tie.Need-enum-known-block-2
 enum-known-block-2 c = search needs
 
 -- the step at the place is this erase
-erases : (c : tie.After-block2) → (let a = c .before .before .before .before .before .before .before .args in IsErase (a .z) (a .place) (c .block2 .given .0 .0))
+erases : (c : tie.After-block2) → (let a = c .before .before .before .before .before .before .before .args in IsErase (a .sizes) (a .place) (c .block2 .given .0 .0))
 erases c =
     let a = c .before .before .before .before .before .before .before .args in
-    is-erase (a .z) (a .place) _ (sym (c .block2 .given .1) ∙ c .before .before .operation .ensures)
+    is-erase (a .sizes) (a .place) _ (sym (c .block2 .given .1) ∙ c .before .before .operation .ensures)
 
 cast-t16 : tie.Need-cast-t16
-cast-t16 c = let E = erases (c .before) in omega (arith, E .block-in, in-range _ (sizes (c .before .before .before .before .before .before)) .n-high)
+cast-t16 c = let E = erases (c .before) in omega (arith, E .block-in, in-range _ (in-ranges (c .before .before .before .before .before .before)) .n-high)
 
 enum-told : tie.Need-enum-told
 enum-told c = search needs
@@ -86,21 +86,21 @@ returns-3 c =
     let a = c .before .before .before .before .before .before .before .before .args in
     let W = writes (c .before) in
     let v = c .before .block .given .0 in
-    rw (W .mark-is) (sym (told (a .z) (a .place) (sizes (c .before .before .before .before .before .before)) (inside (c .before .before .before .before)) (write (passOf (v .0)) (v .1 .0) (v .1 .1 .0)) (W .is)))
+    rw (W .mark-is) (sym (told (a .sizes) (a .place) (in-ranges (c .before .before .before .before .before .before)) (inside (c .before .before .before .before)) (write (passOf (v .0)) (v .1 .0) (v .1 .1 .0)) (W .is)))
 
 returns-4 : tie.Need-returns-4
 unfolding toldOf
 returns-4 c =
     let a = c .before .before .before .before .before .before .before .before .args in
     let E = erases (c .before) in
-    sym (told (a .z) (a .place) (sizes (c .before .before .before .before .before .before)) (inside (c .before .before .before .before)) (erase (c .before .block2 .given .0 .0)) (E .is))
+    sym (told (a .sizes) (a .place) (in-ranges (c .before .before .before .before .before .before)) (inside (c .before .before .before .before)) (erase (c .before .block2 .given .0 .0)) (E .is))
 
 returns-5 : tie.Need-returns-5
 unfolding toldOf
 returns-5 c =
     let a = c .before .before .before .before .before .before .before .args in
-    let z = a .z in
-    sym (told z (a .place) (sizes (c .before .before .before .before .before)) (inside (c .before .before .before)) done (told-done z _ (sym (c .enum-told .given .1) ∙ c .before .before .operation .ensures)))
+    let sizes = a .sizes in
+    sym (told sizes (a .place) (in-ranges (c .before .before .before .before .before)) (inside (c .before .before .before)) done (told-done sizes _ (sym (c .enum-told .given .1) ∙ c .before .before .operation .ensures)))
 
 pub operation-spec : {M : Type 1} → statement M
 operation-spec =

@@ -13,7 +13,7 @@ add-result : tie.Need-add-result
 add-result c = search needs
 
 mul-result-2 : tie.Need-mul-result-2
-mul-result-2 c = let a = c .before .before .args in omega (arith, product-le (2 * a .z .n) (a .z .m + 1) {c = 128} {d = 65} (omega arith) (omega arith))
+mul-result-2 c = let a = c .before .before .args in omega (arith, product-le (2 * a .sizes .n) (a .sizes .m + 1) {c = 128} {d = 65} (omega arith) (omega arith))
 
 returns : tie.Need-returns
 unfolding lastPlace

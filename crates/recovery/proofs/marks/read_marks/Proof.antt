@@ -18,18 +18,18 @@ use Rattle.recovery.proofs.marks.read_marks.Statement.{statement}
 use Rattle.recovery.proofs.marks.read_marks.Tie as tie
 
 abbrev Inv-loop : tie.InvT-loop
-Inv-loop z marks n m blocks unfinished₀ torn₀ top change block first letter known whole₀ page₀ unfinished torn whole page =
-    (page ≤ m) × Block z marks block page letter unfinished₀ torn₀ unfinished torn whole × LegalBelow z marks (block * m + page)
+Inv-loop sizes marks n m blocks unfinished₀ torn₀ top change block first letter known whole₀ page₀ unfinished torn whole page =
+    (page ≤ m) × Block sizes marks block page letter unfinished₀ torn₀ unfinished torn whole × LegalBelow sizes marks (block * m + page)
 
 abbrev μ-loop : tie.MeasureT-loop
-μ-loop z marks n m blocks unfinished₀ torn₀ top change block first letter known whole₀ page₀ unfinished torn whole page = m - page
+μ-loop sizes marks n m blocks unfinished₀ torn₀ top change block first letter known whole₀ page₀ unfinished torn whole page = m - page
 
 abbrev Inv-search : tie.InvT-search
-Inv-search z marks n m blocks unfinished₀ torn₀ top₀ change₀ block₀ unfinished torn top change block =
-    (block ≤ n + 1) × (torn ≤ n) × Upto z marks block unfinished torn top change × LegalBelow z marks (block * m)
+Inv-search sizes marks n m blocks unfinished₀ torn₀ top₀ change₀ block₀ unfinished torn top change block =
+    (block ≤ n + 1) × (torn ≤ n) × Upto sizes marks block unfinished torn top change × LegalBelow sizes marks (block * m)
 
 abbrev μ-search : tie.MeasureT-search
-μ-search z marks n m blocks unfinished₀ torn₀ top₀ change₀ block₀ unfinished torn top change block = n + 1 - block
+μ-search sizes marks n m blocks unfinished₀ torn₀ top₀ change₀ block₀ unfinished torn top change block = n + 1 - block
 
 add-blocks : tie.Need-add-blocks Inv-loop μ-loop Inv-search μ-search
 add-blocks c = search needs
@@ -40,16 +40,16 @@ letter-after-requires c κs = search needs
 search-holds : tie.Need-search-holds Inv-loop μ-loop Inv-search μ-search
 search-holds c =
     let a = c .before .before .args in
-    let z = a .z in
-    let top : c .letter-after .result ≡ letter z 1 = c .letter-after .ensures in
-    (omega arith, omega arith, rw top (upto-none z (omega arith) (a .marks .now) 0), λ i h. absurd (omega arith))
+    let sizes = a .sizes in
+    let top : c .letter-after .result ≡ letter sizes 1 = c .letter-after .ensures in
+    (omega arith, omega arith, rw top (upto-none sizes (omega arith) (a .marks .now) 0), λ i h. absurd (omega arith))
 
 -- the block that is looked at lies within the marks
-room : (c : tie.In-search Inv-loop μ-loop Inv-search μ-search) → c .before .search .block * c .before .before .before .before .args .z .m + c .before .before .before .before .args .z .m ≤ length (c .before .before .before .before .args .marks .now)
+room : (c : tie.In-search Inv-loop μ-loop Inv-search μ-search) → c .before .search .block * c .before .before .before .before .args .sizes .m + c .before .before .before .before .args .sizes .m ≤ length (c .before .before .before .before .args .marks .now)
 room c =
     let a = c .before .before .before .before .args in
-    let z = a .z in
-    rw (c .before .before .before .before .pre .1) (block-in-marks z (c .before .search .block) (omega arith))
+    let sizes = a .sizes in
+    rw (c .before .before .before .before .pre .1) (block-in-marks sizes (c .before .search .block) (omega arith))
 
 mul-first : tie.Need-mul-first Inv-loop μ-loop Inv-search μ-search
 mul-first c = omega (arith, room c)
@@ -65,10 +65,10 @@ loop-holds c =
     let b = c .before .before in
     let o = b .before .search in
     let a = b .before .before .before .before .args in
-    let z = a .z in
-    let pages : 0 < a .z .m = omega arith in
+    let sizes = a .sizes in
+    let pages : 0 < a .sizes .m = omega arith in
     rw (c .pages-known .ensures)
-    (known-in z pages (a .marks .now) (o .block) _, block-known z pages (a .marks .now) (o .block) _ _ _, legal-known z pages (a .marks .now) (o .block) _ (room b) (o .inv .3))
+    (known-in sizes pages (a .marks .now) (o .block) _, block-known sizes pages (a .marks .now) (o .block) _ _ _, legal-known sizes pages (a .marks .now) (o .block) _ (room b) (o .inv .3))
 
 add-mark : tie.Need-add-mark Inv-loop μ-loop Inv-search μ-search
 add-mark c = omega (arith, room (c .before .before .before .before))
@@ -86,10 +86,10 @@ returns c =
     let b = p .before .before .before .before in
     let o = b .before .search in
     let a = b .before .before .before .before .args in
-    let z = a .z in
-    let pages : 0 < a .z .m = omega arith in
-    let illegal : isMark (getD (a .marks .now) (o .block * a .z .m + l .page) 0) ≡ false = sym (c .before .is-mark .ensures) ∙ not-true _ (c .if1 .taken) in
-    answered _ _ (reads-nothing ∙ sym (reads-illegal z pages (a .marks .now) (o .block * a .z .m + l .page) (omega (arith, room b)) illegal))
+    let sizes = a .sizes in
+    let pages : 0 < a .sizes .m = omega arith in
+    let illegal : isMark (getD (a .marks .now) (o .block * a .sizes .m + l .page) 0) ≡ false = sym (c .before .is-mark .ensures) ∙ not-true _ (c .if1 .taken) in
+    answered _ _ (reads-nothing ∙ sym (reads-illegal sizes pages (a .marks .now) (o .block * a .sizes .m + l .page) (omega (arith, room b)) illegal))
 
 add-unfinished : tie.Need-add-unfinished Inv-loop μ-loop Inv-search μ-search
 add-unfinished c =
@@ -98,9 +98,9 @@ add-unfinished c =
     let b = p .before .before .before .before in
     let o = b .before .search in
     let a = b .before .before .before .before .args in
-    let z = a .z in
-    let pages : 0 < a .z .m = omega arith in
-    let e = page-opens z pages (a .marks .now) (o .block) (l .page) _ _ _ _ (l .whole) (room b) (p .loop-test .taken) (l .inv .1) (c .if2 .taken) in
+    let sizes = a .sizes in
+    let pages : 0 < a .sizes .m = omega arith in
+    let e = page-opens sizes pages (a .marks .now) (o .block) (l .page) _ _ _ _ (l .whole) (room b) (p .loop-test .taken) (l .inv .1) (c .if2 .taken) in
     omega (arith, o .inv .2 .few)
 
 add-page : tie.Need-add-page Inv-loop μ-loop Inv-search μ-search
@@ -116,13 +116,13 @@ loop-again c =
     let b = p .before .before .before .before in
     let o = b .before .search in
     let a = b .before .before .before .before .args in
-    let z = a .z in
-    let pages : 0 < a .z .m = omega arith in
-    let legal : isMark (getD (a .marks .now) (o .block * a .z .m + l .page) 0) ≡ true = sym (c .before .before .is-mark .ensures) ∙ not-false _ (c .before .if1 .left) in
-    let more = legal-more z (a .marks .now) (o .block * a .z .m) (l .page) (l .inv .2) legal in
+    let sizes = a .sizes in
+    let pages : 0 < a .sizes .m = omega arith in
+    let legal : isMark (getD (a .marks .now) (o .block * a .sizes .m + l .page) 0) ≡ true = sym (c .before .before .is-mark .ensures) ∙ not-false _ (c .before .if1 .left) in
+    let more = legal-more sizes (a .marks .now) (o .block * a .sizes .m) (l .page) (l .inv .2) legal in
     ⊎-elim
-    (λ w. (omega arith, rw (w .2, w .3, w .4) (page-first z pages (a .marks .now) (o .block) (l .page) _ _ _ _ (l .whole) (room b) (p .loop-test .taken) (l .inv .1) (o .inv .2 .few) (w .1 .left) (w .0 .taken)), more))
-    (λ w. (omega arith, rw (w .1, w .2, w .3) (page-same z pages (a .marks .now) (o .block) (l .page) _ _ _ _ (l .whole) (room b) (p .loop-test .taken) (l .inv .1) legal (w .0 .left)), more))
+    (λ w. (omega arith, rw (w .2, w .3, w .4) (page-first sizes pages (a .marks .now) (o .block) (l .page) _ _ _ _ (l .whole) (room b) (p .loop-test .taken) (l .inv .1) (o .inv .2 .few) (w .1 .left) (w .0 .taken)), more))
+    (λ w. (omega arith, rw (w .1, w .2, w .3) (page-same sizes pages (a .marks .now) (o .block) (l .page) _ _ _ _ (l .whole) (room b) (p .loop-test .taken) (l .inv .1) legal (w .0 .left)), more))
     (c .if2 .came)
 
 returns-2 : tie.Need-returns-2 Inv-loop μ-loop Inv-search μ-search
@@ -132,11 +132,11 @@ returns-2 c =
     let b = e .before .before .before .before in
     let o = b .before .search in
     let a = b .before .before .before .before .args in
-    let z = a .z in
-    let pages : 0 < a .z .m = omega arith in
+    let sizes = a .sizes in
+    let pages : 0 < a .sizes .m = omega arith in
     answered _ _
     (reads-nothing
-    ∙ sym (block-astray z pages (a .marks .now) (o .block) (l .page) _ _ _ _ _ _ _ (l .whole) (omega arith) (e .loop-test .left) (o .inv .2) (l .inv .1) (omega arith) (c .before .if4 .taken)))
+    ∙ sym (block-astray sizes pages (a .marks .now) (o .block) (l .page) _ _ _ _ _ _ _ (l .whole) (omega arith) (e .loop-test .left) (o .inv .2) (l .inv .1) (omega arith) (c .before .if4 .taken)))
 
 add-block : tie.Need-add-block Inv-loop μ-loop Inv-search μ-search
 add-block c = search needs
@@ -151,14 +151,14 @@ search-again c =
     let b = e .before .before .before .before in
     let o = b .before .search in
     let a = b .before .before .before .before .args in
-    let z = a .z in
-    let pages : 0 < a .z .m = omega arith in
-    let h : o .block ≤ a .z .n = omega arith in
-    let torn = torn-in z (a .marks .now) (o .block) (l .page) _ _ _ _ _ (l .whole) (l .inv .1) h (o .inv .1) in
-    let legal : LegalBelow z (a .marks .now) ((o .block + 1) * a .z .m) = λ i k. l .inv .2 i (omega arith) in
+    let sizes = a .sizes in
+    let pages : 0 < a .sizes .m = omega arith in
+    let h : o .block ≤ a .sizes .n = omega arith in
+    let torn = torn-in sizes (a .marks .now) (o .block) (l .page) _ _ _ _ _ (l .whole) (l .inv .1) h (o .inv .1) in
+    let legal : LegalBelow sizes (a .marks .now) ((o .block + 1) * a .sizes .m) = λ i k. l .inv .2 i (omega arith) in
     ⊎-elim
-    (λ w. (omega arith, torn, rw (w .2, w .3) (block-changes z pages (a .marks .now) (o .block) (l .page) _ _ _ _ _ _ _ (l .whole) h (e .loop-test .left) (o .inv .2) (l .inv .1) (omega arith) (w .0 .taken)), legal))
-    (λ w. (omega arith, torn, rw (w .1, w .2) (block-kept z pages (a .marks .now) (o .block) (l .page) _ _ _ _ _ _ _ (l .whole) h (e .loop-test .left) (o .inv .2) (l .inv .1) (w .0 .left)), legal))
+    (λ w. (omega arith, torn, rw (w .2, w .3) (block-changes sizes pages (a .marks .now) (o .block) (l .page) _ _ _ _ _ _ _ (l .whole) h (e .loop-test .left) (o .inv .2) (l .inv .1) (omega arith) (w .0 .taken)), legal))
+    (λ w. (omega arith, torn, rw (w .1, w .2) (block-kept sizes pages (a .marks .now) (o .block) (l .page) _ _ _ _ _ _ _ (l .whole) h (e .loop-test .left) (o .inv .2) (l .inv .1) (w .0 .left)), legal))
     (c .if4 .came)
 
 letter-after-requires-2 : tie.Need-letter-after-requires-2 Inv-loop μ-loop Inv-search μ-search
@@ -168,8 +168,8 @@ found-at-requires : tie.Need-found-at-requires Inv-loop μ-loop Inv-search μ-se
 found-at-requires c κs =
     let t = c .before .before in
     let a = t .before .before .before .args in
-    let z = a .z in
-    let change = change-in z (a .marks .now) _ _ _ _ _ (t .search .inv .2) in
+    let sizes = a .sizes in
+    let change = change-in sizes (a .marks .now) _ _ _ _ _ (t .search .inv .2) in
     ⊎-elim (λ w. (omega arith, omega arith, omega arith, change)) (λ w. (omega arith, omega arith, omega arith, change)) (c .before .search-test .came)
 
 returns-3 : tie.Need-returns-3 Inv-loop μ-loop Inv-search μ-search
@@ -177,22 +177,22 @@ returns-3 c =
     let t = c .before .before .before in
     let o = t .search in
     let a = t .before .before .before .args in
-    let z = a .z in
-    let pages : 0 < a .z .m = omega arith in
-    let start : c .before .letter-after2 .result ≡ letter z 0 = c .before .letter-after2 .ensures in
+    let sizes = a .sizes in
+    let pages : 0 < a .sizes .m = omega arith in
+    let start : c .before .letter-after2 .result ≡ letter sizes 0 = c .before .letter-after2 .ensures in
     answered _ _ (rw (c .found-at .ensures)
     (⊎-elim
     (λ w.
-    let end : o .block ≡ a .z .n + 1 = omega arith in
-    let U : Upto z (a .marks .now) (a .z .n + 1) (o .unfinished) (o .torn) (o .top) (o .change) = rw end at (o .inv .2) in
-    let legal = legal-all z (a .marks .now) (rw (c .before .before .before .before .before .before .pre .1, ← end) (o .inv .3)) in
+    let end : o .block ≡ a .sizes .n + 1 = omega arith in
+    let U : Upto sizes (a .marks .now) (a .sizes .n + 1) (o .unfinished) (o .torn) (o .top) (o .change) = rw end at (o .inv .2) in
+    let legal = legal-all sizes (a .marks .now) (rw (c .before .before .before .before .before .before .pre .1, ← end) (o .inv .3)) in
     rw (w .1, w .2, start)
-    (tells z pages (a .marks .now) _ _ _ _ U legal (eqb (o .top) (letter z 0)) (λ e. eqb-true _ _ e) (λ e. eqb-false _ _ e)))
+    (tells sizes pages (a .marks .now) _ _ _ _ U legal (eqb (o .top) (letter sizes 0)) (λ e. eqb-true _ _ e) (λ e. eqb-false _ _ e)))
     (λ w.
     let l = w .3 in
     rw (w .10, w .9 .taken)
     (ap readingOf (found-second _ _ _ _ _) ∙ reads-nothing
-    ∙ sym (page-second z pages (a .marks .now) (o .block) (l .page) _ _ _ _ (l .whole) (room (record { before = t; search-test = w .0 })) (w .4 .taken) (l .inv .1) _ _ (o .inv .2) (omega arith) (w .9 .taken) (w .8 .taken))))
+    ∙ sym (page-second sizes pages (a .marks .now) (o .block) (l .page) _ _ _ _ (l .whole) (room (record { before = t; search-test = w .0 })) (w .4 .taken) (l .inv .1) _ _ (o .inv .2) (omega arith) (w .9 .taken) (w .8 .taken))))
     (c .before .before .search-test .came)))
 
 pub read-marks-spec : {M : Type 1} → statement M

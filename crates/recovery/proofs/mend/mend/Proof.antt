@@ -36,20 +36,20 @@ returns c =
     (sym (refused-1 _ _ (sym (c .before .before .in-range .ensures) ∙ not-true _ (c .before .if1 .taken))))
 
 -- the sizes are in range
-sizes : (c : tie.Else1) → (let a = c .before .before .before .before .args in inRange (a .z)) ≡ true
-sizes c = sym (c .before .in-range .ensures) ∙ not-false _ (c .if1 .left)
+in-ranges : (c : tie.Else1) → (let a = c .before .before .before .before .args in inRange (a .sizes)) ≡ true
+in-ranges c = sym (c .before .in-range .ensures) ∙ not-false _ (c .if1 .left)
 
 store-length-requires : tie.Need-store-length-requires
-store-length-requires c κs = let B = in-range _ (sizes c) in (B .n-high, B .m-high, B .p-high)
+store-length-requires c κs = let B = in-range _ (in-ranges c) in (B .n-high, B .m-high, B .p-high)
 
 slot-count-requires : tie.Need-slot-count-requires
-slot-count-requires c κs = let B = in-range _ (sizes (c .before)) in (B .n-high, B .m-high)
+slot-count-requires c κs = let B = in-range _ (in-ranges (c .before)) in (B .n-high, B .m-high)
 
 refused-requires-2 : tie.Need-refused-requires-2
 refused-requires-2 c κs = search needs
 
 -- the test of the lengths is the table's
-lengths : (c : tie.After-slot-count) → (let a = c .before .before .before .before .before .before .args in (not (eqb (length (a .store .now)) (c .before .store-length .result)) || not (eqb (length (a .marks .now)) (c .slot-count .result))) ≡ badChip (a .z) (chip (a .store .now) (a .marks .now)))
+lengths : (c : tie.After-slot-count) → (let a = c .before .before .before .before .before .before .args in (not (eqb (length (a .store .now)) (c .before .store-length .result)) || not (eqb (length (a .marks .now)) (c .slot-count .result))) ≡ badChip (a .sizes) (chip (a .store .now) (a .marks .now)))
 unfolding badChip
 lengths c = rw (c .before .store-length .ensures, c .slot-count .ensures)
 
@@ -57,20 +57,20 @@ returns-2 : tie.Need-returns-2
 returns-2 c =
     let a = c .before .before .before .before .before .before .before .before .args in
     let k = c .before .before in
-    let bad : badChip (a .z) (chip (a .store .now) (a .marks .now)) ≡ true = sym (lengths k) ∙ c .before .if2 .taken in
+    let bad : badChip (a .sizes) (chip (a .store .now) (a .marks .now)) ≡ true = sym (lengths k) ∙ c .before .if2 .taken in
     rw (c .refused2 .ensures)
-    (sym (refused-2 _ _ (sizes (k .before .before)) bad))
+    (sym (refused-2 _ _ (in-ranges (k .before .before)) bad))
 
 -- the lengths are right
-good : (c : tie.Else2) → (let a = c .before .before .before .before .before .before .before .args in badChip (a .z) (chip (a .store .now) (a .marks .now))) ≡ false
+good : (c : tie.Else2) → (let a = c .before .before .before .before .before .before .before .args in badChip (a .sizes) (chip (a .store .now) (a .marks .now))) ≡ false
 good c = sym (lengths (c .before)) ∙ c .if2 .left
 
 read-marks-requires : tie.Need-read-marks-requires
 read-marks-requires c κs =
     let a = c .before .before .before .before .before .before .before .before .args in
     let k = c .before .before in
-    let B = in-range _ (sizes (k .before .before)) in
-    ((B .n-high, B .m-low, B .m-high, B .s-high), chip-lengths (a .z) (chip (a .store .now) (a .marks .now)) (good (c .before)) .1)
+    let B = in-range _ (in-ranges (k .before .before)) in
+    ((B .n-high, B .m-low, B .m-high, B .s-high), chip-lengths (a .sizes) (chip (a .store .now) (a .marks .now)) (good (c .before)) .1)
 
 enum-told : tie.Need-enum-told
 enum-told c = search needs
@@ -85,11 +85,11 @@ enum-known-place-2 : tie.Need-enum-known-place-2
 enum-known-place-2 c = search needs
 
 -- what the search tells
-told : (c : tie.After-read-marks) → (let a = c .before .before .before .before .before .before .before .before .before .args in readingOf (c .read-marks .result) ≡ reading (a .z) (a .marks .now))
+told : (c : tie.After-read-marks) → (let a = c .before .before .before .before .before .before .before .before .before .args in readingOf (c .read-marks .result) ≡ reading (a .sizes) (a .marks .now))
 told c = what-is-told _ _ (c .read-marks .ensures)
 
 -- and where a block is unfinished
-torn-told : (c : tie.After-place2) → (let a = c .before .before .before .before .before .before .before .before .before .before .before .args in reading (a .z) (a .marks .now) ≡ some (record { place = c .place2 .given .0 .0; toErase = some (c .place2 .given .0 .1 .0) }))
+torn-told : (c : tie.After-place2) → (let a = c .before .before .before .before .before .before .before .before .before .before .before .args in reading (a .sizes) (a .marks .now) ≡ some (record { place = c .place2 .given .0 .0; toErase = some (c .place2 .given .0 .1 .0) }))
 unfolding answerOf
 torn-told c = sym (told (c .before .before)) ∙ ap readingOf (c .place2 .given .1)
 
@@ -98,11 +98,11 @@ erase-block-requires c κs =
     let t = c .before .before .before in
     let k = t .before .before .before .before in
     let a = k .before .before .before .before .before .before .before .args in
-    let z = a .z in
-    let B = in-range z (sizes (k .before .before .before)) in
-    let L = chip-lengths z (chip (a .store .now) (a .marks .now)) (good k) in
-    let h = torn-inside z (B .m-low) (a .marks .now) (t .place2 .given .0 .0) (t .place2 .given .0 .1 .0) (torn-told t) in
-    (omega (arith, L .0, block-in-store z (t .place2 .given .0 .1 .0) h), omega (arith, L .1, block-in-marks z (t .place2 .given .0 .1 .0) h))
+    let sizes = a .sizes in
+    let B = in-range sizes (in-ranges (k .before .before .before)) in
+    let L = chip-lengths sizes (chip (a .store .now) (a .marks .now)) (good k) in
+    let h = torn-inside sizes (B .m-low) (a .marks .now) (t .place2 .given .0 .0) (t .place2 .given .0 .1 .0) (torn-told t) in
+    (omega (arith, L .0, block-in-store sizes (t .place2 .given .0 .1 .0) h), omega (arith, L .1, block-in-marks sizes (t .place2 .given .0 .1 .0) h))
 
 same-length : tie.Need-same-length
 same-length c = search needs
@@ -114,7 +114,7 @@ returns-3 c =
     let k = r .before .before in
     let a = k .before .before .before .before .before .before .before .args in
     rw (c .refused3 .ensures)
-    (sym (refused-6 _ _ (sizes (k .before .before .before)) (good k) (sym (told r) ∙ ap readingOf (c .before .enum-told .given .1))))
+    (sym (refused-6 _ _ (in-ranges (k .before .before .before)) (good k) (sym (told r) ∙ ap readingOf (c .before .enum-told .given .1))))
 
 same-length-2 : tie.Need-same-length-2
 same-length-2 c = search needs
@@ -125,7 +125,7 @@ returns-4 c =
     let r = c .before .before .before in
     let k = r .before .before in
     let a = k .before .before .before .before .before .before .before .args in
-    sym (mended-full _ _ (sizes (k .before .before .before)) (good k) _ (sym (told r) ∙ ap readingOf (c .before .place .given .1)))
+    sym (mended-full _ _ (in-ranges (k .before .before .before)) (good k) _ (sym (told r) ∙ ap readingOf (c .before .place .given .1)))
 
 same-length-3 : tie.Need-same-length-3
 same-length-3 c = search needs
@@ -139,10 +139,10 @@ returns-5 c =
     let t = e .before .before .before .before in
     let k = t .before .before .before .before in
     let a = k .before .before .before .before .before .before .before .args in
-    let z = a .z in
+    let sizes = a .sizes in
     let block = t .place2 .given .0 .1 .0 in
     rw (e .erase-block .ensures .store-is, e .erase-block .ensures .marks-is)
-    (sym (mended-torn _ _ (sizes (k .before .before .before)) (good k) _ _ (torn-told t)))
+    (sym (mended-torn _ _ (in-ranges (k .before .before .before)) (good k) _ _ (torn-told t)))
 
 pub mend-spec : {M : Type 1} → statement M
 mend-spec =

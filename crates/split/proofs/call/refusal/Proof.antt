@@ -16,7 +16,7 @@ returns c = sym (gives-1 _ _ _ (sym (c .before .in-range .ensures) ∙ not-true 
 
 -- the sizes are in range
 ranged : (c : tie.Else1)
-    → (let a = c .before .before .before .before .args in inRange (a .z) ≡ true)
+    → (let a = c .before .before .before .before .args in inRange (a .sizes) ≡ true)
 ranged c = sym (c .before .in-range .ensures) ∙ not-false (c .before .in-range .result) (c .if1 .left)
 
 original-count-requires : tie.Need-original-count-requires

@@ -20,7 +20,7 @@ returns : tie.Need-returns
 returns c = sym (wrong-sizes _ _ _ (sym (c .before .in-range .ensures) ∙ not-true _ (c .if1 .taken)))
 
 -- the sizes are in range
-ranged : (c : tie.Else1) → (let a = c .before .before .before .before .args in inRange (a .z) ≡ true)
+ranged : (c : tie.Else1) → (let a = c .before .before .before .before .args in inRange (a .sizes) ≡ true)
 ranged c = sym (c .before .in-range .ensures) ∙ not-false _ (c .if1 .left)
 
 original-count-requires : tie.Need-original-count-requires
@@ -31,19 +31,19 @@ returns-2 c = sym (wrong-lengths _ _ _ (rw (← c .before .original-count .ensur
 
 -- the lengths are right
 of-length : (c : tie.Else2) → (let a = c .before .before .before .before .before .before .args in
-    (not (eqb (length (a .list .now)) (originalCount (a .z))) || not (eqb (length (a .sets .now)) (originalCount (a .z)))) ≡ false)
+    (not (eqb (length (a .list .now)) (originalCount (a .sizes))) || not (eqb (length (a .sets .now)) (originalCount (a .sizes)))) ≡ false)
 of-length c = rw (← c .before .original-count .ensures) (c .if2 .left)
 
 check-requires : tie.Need-check-requires
 check-requires c κs = search needs
 
 -- what the check of the list answers
-checked : (c : tie.After-check) → (let a = c .before .before .before .before .before .before .before .args in c .check .result ≡ isOneToOne (originalCount (a .z)) (a .list .now))
+checked : (c : tie.After-check) → (let a = c .before .before .before .before .before .before .before .args in c .check .result ≡ isOneToOne (originalCount (a .sizes)) (a .list .now))
 checked c = rw (← c .before .before .original-count .ensures) (c .check .ensures)
 
 -- so the list and its sets decide
 decided : (c : tie.After-check) → (let a = c .before .before .before .before .before .before .before .args in
-    isCorrectSplit (a .z) (a .list .now) (a .sets .now) ≡ (c .check .result && isSplit (a .z .n) (a .z .m) (a .list .now) (a .sets .now)))
+    isCorrectSplit (a .sizes) (a .list .now) (a .sets .now) ≡ (c .check .result && isSplit (a .sizes .n) (a .sizes .m) (a .list .now) (a .sets .now)))
 decided c = rw (checked c) (left-to-sets _ _ _ (ranged (c .before .before .before)) (of-length (c .before)))
 
 returns-3 : tie.Need-returns-3

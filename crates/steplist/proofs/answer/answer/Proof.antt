@@ -2,8 +2,8 @@ use native.Mathlib.Omega.{arith}
 use mathlib.Core.Path.{_≡_, sym, ap, _∙_}
 use lib.Seq.{length-take-le}
 use Rattle.listing.specs.Lines.{unreadableLine}
-use Rattle.listing.specs.Request.{reading, withinLimit}
-use Rattle.listing.specs.inner.Found.{askedAs}
+use Rattle.listing.specs.Input.{inputOf, withinLimit}
+use Rattle.listing.specs.ReaderAnswers.{askedAs}
 use Rattle.steplist.specs.Output.{answered}
 use Rattle.steplist.proofs.LengthLaws.{refused-short}
 use Rattle.listing.proofs.AreaLaws.{over-front, over-room}
@@ -14,7 +14,7 @@ use Rattle.steplist.proofs.answer.answer.Statement.{statement}
 use Rattle.steplist.proofs.answer.answer.Tie as tie
 
 -- what was read is what the input within its limit asks for
-told : (c : tie.After-read) → askedAs (c .read .last .1 .0) (c .read .result) ≡ reading (withinLimit (c .before .before .before .before .before .before .before .before .args .input .now))
+told : (c : tie.After-read) → askedAs (c .read .last .1 .0) (c .read .result) ≡ inputOf (withinLimit (c .before .before .before .before .before .before .before .before .args .input .now))
 told c =
     let l = c .before .before .before .before .before .limit in
     let input = c .before .before .before .before .before .before .before .before .args .input .now in
@@ -51,11 +51,11 @@ enum-told-2 c = search needs
 put-refused-requires : tie.Need-put-refused-requires
 put-refused-requires c κs = omega (arith, refused-short 1 (omega arith))
 
-enum-known-z : tie.Need-enum-known-z
-enum-known-z c = search needs
+enum-known-sizes : tie.Need-enum-known-sizes
+enum-known-sizes c = search needs
 
 put-request-requires : tie.Need-put-request-requires
-put-request-requires c κs = asked _ (withinLimit (c .before .before .before .before .before .before .before .before .before .before .before .before .before .args .input .now)) (c .before .before .before .before .before .read .last .1 .0) (ap (askedAs (c .before .before .before .before .before .read .last .1 .0)) (sym (c .before .before .before .z .given .1)) ∙ told (c .before .before .before .before .before))
+put-request-requires c κs = asked _ (withinLimit (c .before .before .before .before .before .before .before .before .before .before .before .before .before .args .input .now)) (c .before .before .before .before .before .read .last .1 .0) (ap (askedAs (c .before .before .before .before .before .read .last .1 .0)) (sym (c .before .before .before .sizes .given .1)) ∙ told (c .before .before .before .before .before))
 
 same-length : tie.Need-same-length
 same-length c = search needs
@@ -86,8 +86,8 @@ returns-3 : tie.Need-returns-3
 returns-3 c =
     let r = c .before .before .before .before .before .before in
     let a = r .before .before .before .before .before .before .before .before .args in
-    let done = answers (a .input .now) (r .read .last .1 .0) (a .out .now) _ _ (r .read .result) _ (told r) (c .before .before .before .before .z .given .1) (c .put-request .ensures) in
+    let done = answers (a .input .now) (r .read .last .1 .0) (a .out .now) _ _ (r .read .result) _ (told r) (c .before .before .before .before .sizes .given .1) (c .put-request .ensures) in
     (done .0, (done .1, r .before .before .before .before .before .limit .ensures .1))
 
 pub answer-spec : {M : Type 1} → statement M
-answer-spec = tie.close (tie.spec limit-requires slice-reshare-prefix-read slice-aggregate-read read-requires enum-told put-unreadable-requires enum-told-2 put-refused-requires enum-known-z put-request-requires same-length returns same-length-2 returns-2 same-length-3 returns-3)
+answer-spec = tie.close (tie.spec limit-requires slice-reshare-prefix-read slice-aggregate-read read-requires enum-told put-unreadable-requires enum-told-2 put-refused-requires enum-known-sizes put-request-requires same-length returns same-length-2 returns-2 same-length-3 returns-3)

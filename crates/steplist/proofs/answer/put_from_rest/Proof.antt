@@ -4,7 +4,7 @@ use Prim.Native.Nat.{ℕ}
 use lib.ListN.{replicate, length-replicate}
 use Rattle.method.specs.State.{atRest}
 use Rattle.method.specs.Step.{Running}
-use Rattle.listing.proofs.RequestLaws.{bounded}
+use Rattle.listing.proofs.InputLaws.{bounded}
 use Rattle.steplist.specs.Output.{listed}
 use Rattle.steplist.specs.inner.Listing.{runningOf}
 use Rattle.steplist.proofs.StartLaws.{listable, filled}
@@ -16,11 +16,11 @@ use Rattle.steplist.proofs.answer.put_from_rest.Tie as tie
 at-rest : (c : tie.After-put-marks)
     → (let a = c .before .before .before .before .before .before .before .before .before .before .before .before .before .args in
     _≡_ {A = Running} (runningOf (c .before .before .before .before .put-store .last .1 .1 .0) (c .put-marks .last .1 .1 .0) (a .work .now))
-    (record { chip = atRest (a .z) (a .originals .now); work = replicate (a .z .p) 0 }))
+    (record { chip = atRest (a .sizes) (a .originals .now); work = replicate (a .sizes .p) 0 }))
 at-rest c =
     let start = c .before .before .before .before .before .before .before .before .before .before .before .before .before in
     let a = start .args in
-    filled (a .z) (a .list .now) (a .sets .now) (a .originals .now) (start .pre .0) _ _ _ (a .marks .now) (c .before .before .before .before .put-store .ensures) (c .put-marks .ensures) (start .pre .1 .marks-length) (start .pre .1 .work-is)
+    filled (a .sizes) (a .list .now) (a .sets .now) (a .originals .now) (start .pre .0) _ _ _ (a .marks .now) (c .before .before .before .before .put-store .ensures) (c .put-marks .ensures) (start .pre .1 .marks-length) (start .pre .1 .work-is)
 
 mul-put-store : tie.Need-mul-put-store
 mul-put-store c = search needs
@@ -31,7 +31,7 @@ put-store-requires c κs = search needs
 cast-put-marks : tie.Need-cast-put-marks
 cast-put-marks c =
     let a = c .before .before .before .before .before .before .before .before .before .before .before .args in
-    omega (arith, bounded (a .z) (c .before .before .before .before .before .before .before .before .before .before .before .pre .0 .readable .allowed))
+    omega (arith, bounded (a .sizes) (c .before .before .before .before .before .before .before .before .before .before .before .pre .0 .readable .allowed))
 
 put-marks-requires : tie.Need-put-marks-requires
 put-marks-requires c κs = search needs
@@ -40,7 +40,7 @@ put-listing-requires : tie.Need-put-listing-requires
 put-listing-requires c κs =
     let start = c .before .before .before .before .before .before .before .before .before .before .before .before .before .before .before .before .before .before .before in
     let a = start .args in
-    (rw (at-rest (c .before .before .before .before .before .before)) (listable (a .z) (a .list .now) (a .sets .now) (a .originals .now) (start .pre .0) (replicate (a .z .p) 0) (length-replicate {A = ℕ} (a .z .p) 0)), omega arith)
+    (rw (at-rest (c .before .before .before .before .before .before)) (listable (a .sizes) (a .list .now) (a .sets .now) (a .originals .now) (start .pre .0) (replicate (a .sizes .p) 0) (length-replicate {A = ℕ} (a .sizes .p) 0)), omega arith)
 
 same-length : tie.Need-same-length
 same-length c = search needs

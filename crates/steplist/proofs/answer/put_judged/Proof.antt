@@ -12,14 +12,14 @@ use Rattle.steplist.proofs.answer.put_judged.Tie as tie
 
 -- the split call's answer, about the numbers as they were read
 judged : (c : tie.After-split)
-    → (let a = c .before .before .before .before .before .before .before .before .before .before .before .before .before .before .args in record { number = c .split .result; sets = c .split .last .1 .1 .0 } ≡ splitAnswer (a .z) (a .entries .now) (a .sets .now))
+    → (let a = c .before .before .before .before .before .before .before .before .before .before .before .before .before .before .args in record { number = c .split .result; sets = c .split .last .1 .1 .0 } ≡ splitAnswer (a .sizes) (a .entries .now) (a .sets .now))
 judged c = rw (c .before .before .before .before .before .put-entries .ensures) at (c .split .ensures)
 
 -- what the areas of the list and of the set bytes hold from here on
 left : (c : tie.After-split)
     → (let a = c .before .before .before .before .before .before .before .before .before .before .before .before .before .before .args in
     (c .before .before .before .before .before .put-entries .last .1 .0 ≡ judgedList (a .entries .now) (a .list .now))
-    × (c .split .last .1 .1 .0 ≡ judgedSets (a .z) (a .entries .now) (a .sets .now)))
+    × (c .split .last .1 .1 .0 ≡ judgedSets (a .sizes) (a .entries .now) (a .sets .now)))
 left c =
     let p = c .before .before .before .before .before in
     let fits = sym (p .before .before .before .fit .ensures) ∙ not-false _ (p .before .before .if1 .left) in
@@ -40,7 +40,7 @@ returns c =
     let a = start .args in
     let line = c .before .before .put-refused .ensures in
     let large = sym (c .before .before .before .before .before .fit .ensures) ∙ not-true _ (c .before .before .before .before .if1 .taken) in
-    (rw (too-large (a .z) (start .pre .0 .allowed) (a .entries .now) (a .originals .now) large) (first-printed line), (rw large, rw large))
+    (rw (too-large (a .sizes) (start .pre .0 .allowed) (a .entries .now) (a .originals .now) large) (first-printed line), (rw large, rw large))
 
 put-entries-requires : tie.Need-put-entries-requires
 put-entries-requires c κs =
@@ -68,14 +68,14 @@ returns-2 c =
     let a = start .args in
     let split = c .before .before .before .before .before .before .before .split in
     let line = c .before .before .put-refused2 .ensures in
-    (rw (not-split (a .z) (start .pre .0 .allowed) (a .entries .now) (a .originals .now) (a .sets .now) (split .last .1 .1 .0) (split .result) (start .pre .0 .list-length) (start .pre .2) (judged (c .before .before .before .before .before .before .before)) (c .before .before .before .before .if2 .taken)) (first-printed line), left (c .before .before .before .before .before .before .before))
+    (rw (not-split (a .sizes) (start .pre .0 .allowed) (a .entries .now) (a .originals .now) (a .sets .now) (split .last .1 .1 .0) (split .result) (start .pre .0 .list-length) (start .pre .2) (judged (c .before .before .before .before .before .before .before)) (c .before .before .before .before .if2 .taken)) (first-printed line), left (c .before .before .before .before .before .before .before))
 
 put-accepted-requires : tie.Need-put-accepted-requires
 put-accepted-requires c κs =
     let start = c .before .before .before .before .before .before .before .before .before .before .before .before .before .before .before .before .before .before .before .before in
     let a = start .args in
     let split = c .before .before .before .before .before .before .split in
-    (rw (c .before .before .before .before .before .before .before .before .before .before .before .put-entries .ensures) (is-split (a .z) (start .pre .0 .allowed) (a .entries .now) (a .originals .now) (a .sets .now) (split .last .1 .1 .0) (split .result) (start .pre .0 .list-length) (start .pre .2) (judged (c .before .before .before .before .before .before)) (c .before .before .before .if2 .left) (start .pre .0)), omega arith)
+    (rw (c .before .before .before .before .before .before .before .before .before .before .before .put-entries .ensures) (is-split (a .sizes) (start .pre .0 .allowed) (a .entries .now) (a .originals .now) (a .sets .now) (split .last .1 .1 .0) (split .result) (start .pre .0 .list-length) (start .pre .2) (judged (c .before .before .before .before .before .before)) (c .before .before .before .if2 .left) (start .pre .0)), omega arith)
 
 same-length-5 : tie.Need-same-length-5
 same-length-5 c = search needs
@@ -92,7 +92,7 @@ returns-3 c =
     let a = start .args in
     let split = c .before .before .before .before .before .before .before .before .before .split in
     let listing = c .before .before .put-accepted .ensures in
-    (rw (is-listed (a .z) (start .pre .0 .allowed) (a .entries .now) (a .originals .now) (a .sets .now) (split .last .1 .1 .0) (split .result) (start .pre .0 .list-length) (start .pre .2) (judged (c .before .before .before .before .before .before .before .before .before)) (c .before .before .before .before .before .before .if2 .left)) (rw (c .before .before .before .before .before .before .before .before .before .before .before .before .before .before .put-entries .ensures) at listing), left (c .before .before .before .before .before .before .before .before .before))
+    (rw (is-listed (a .sizes) (start .pre .0 .allowed) (a .entries .now) (a .originals .now) (a .sets .now) (split .last .1 .1 .0) (split .result) (start .pre .0 .list-length) (start .pre .2) (judged (c .before .before .before .before .before .before .before .before .before)) (c .before .before .before .before .before .before .if2 .left)) (rw (c .before .before .before .before .before .before .before .before .before .before .before .before .before .before .put-entries .ensures) at listing), left (c .before .before .before .before .before .before .before .before .before))
 
 pub put-judged-spec : {M : Type 1} → statement M
 put-judged-spec = tie.close (tie.spec fit-requires put-refused-requires same-length returns put-entries-requires split-requires put-refused-requires-2 same-length-2 same-length-3 same-length-4 returns-2 put-accepted-requires same-length-5 same-length-6 same-length-7 returns-3)

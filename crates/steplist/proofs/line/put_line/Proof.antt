@@ -15,7 +15,7 @@ enum-known-block c = search needs
 put-write-requires : tie.Need-put-write-requires
 put-write-requires c κs =
     let a = c .before .before .before .before .before .before .before .args in
-    let Z = a .z in
+    let Z = a .sizes in
     let e = line-told Z (operationAt Z (a .place)) (a .place) (a .work .now) (c .before .before .before .before .operation .result) _ (c .before .before .before .before .operation .ensures) (c .before .before .block .given .1) in
     rw e at (c .before .before .before .before .before .before .before .pre .1)
 
@@ -25,7 +25,7 @@ enum-known-block-2 c = search needs
 put-erase-requires : tie.Need-put-erase-requires
 put-erase-requires c κs =
     let a = c .before .before .before .before .before .before .before .args in
-    let Z = a .z in
+    let Z = a .sizes in
     let e = line-told Z (operationAt Z (a .place)) (a .place) (a .work .now) (c .before .before .before .before .operation .result) _ (c .before .before .before .before .operation .ensures) (c .before .before .block2 .given .1) in
     rw e at (c .before .before .before .before .before .before .before .pre .1)
 
@@ -38,7 +38,7 @@ same-length c = search needs
 returns : tie.Need-returns
 returns c =
     let a = c .before .before .before .before .before .before .before .before .before .before .args in
-    let Z = a .z in
+    let Z = a .sizes in
     let e = line-told Z (operationAt Z (a .place)) (a .place) (a .work .now) (c .before .before .before .before .before .before .before .operation .result) _ (c .before .before .before .before .before .before .before .operation .ensures) (c .before .before .before .before .before .block .given .1) in
     rw e (c .before .before .put-write .ensures)
 
@@ -48,14 +48,14 @@ same-length-2 c = search needs
 returns-2 : tie.Need-returns-2
 returns-2 c =
     let a = c .before .before .before .before .before .before .before .before .before .before .args in
-    let Z = a .z in
+    let Z = a .sizes in
     let e = line-told Z (operationAt Z (a .place)) (a .place) (a .work .now) (c .before .before .before .before .before .before .before .operation .result) _ (c .before .before .before .before .before .before .before .operation .ensures) (c .before .before .before .before .before .block2 .given .1) in
     rw e (c .before .before .put-erase .ensures)
 
 returns-3 : tie.Need-returns-3
 returns-3 c =
     let a = c .before .before .before .before .before .args in
-    let Z = a .z in
+    let Z = a .sizes in
     let e = line-told Z (operationAt Z (a .place)) (a .place) (a .work .now) (c .before .before .operation .result) _ (c .before .before .operation .ensures) (c .enum-told .given .1) in
     rw e (nothing-printed (a .out .now) (a .at) (omega (arith, c .before .before .before .before .before .pre .1)))
 

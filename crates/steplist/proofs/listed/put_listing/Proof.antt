@@ -17,8 +17,8 @@ room c =
     let start = c .before .before .before .before .before .before .before .before .before .before .before in
     let a = start .args in
     let shows = c .put-steps .ensures in
-    let last = few-steps (a .z) (start .pre .0 .few-blocks) (start .pre .0 .few-pages) in
-    let few = few-counted (moveOf (a .z) (a .list .now) (a .sets .now)) (runningOf (a .store .now) (a .marks .now) (a .work .now)) (lastPlace (a .z)) _ _ _ _ _ _ _ _ (omega arith) shows in
+    let last = few-steps (a .sizes) (start .pre .0 .few-blocks) (start .pre .0 .few-pages) in
+    let few = few-counted (moveOf (a .sizes) (a .list .now) (a .sets .now)) (runningOf (a .store .now) (a .marks .now) (a .work .now)) (lastPlace (a .sizes)) _ _ _ _ _ _ _ _ (omega arith) shows in
     omega (arith, shows .at-high, end-short (c .put-steps .result .writes) (c .put-steps .result .erases) (omega arith) (omega arith))
 
 put-steps-requires : tie.Need-put-steps-requires
@@ -44,7 +44,7 @@ returns c =
     let a = c .before .before .before .before .before .before .before .before .before .before .before .before .before .before .before .before .before .before .before .before .before .before .before .args in
     let steps = c .before .before .before .before .before .before .before .before .before .before .before .before .put-steps in
     let end = c .before .before .put-end in
-    (all-shown (moveOf (a .z) (a .list .now) (a .sets .now)) (runningOf (a .store .now) (a .marks .now) (a .work .now)) _ _ _ _ _ _ _ _ _ _ (steps .ensures) (end .ensures), steps .ensures .left)
+    (all-shown (moveOf (a .sizes) (a .list .now) (a .sets .now)) (runningOf (a .store .now) (a .marks .now) (a .work .now)) _ _ _ _ _ _ _ _ _ _ (steps .ensures) (end .ensures), steps .ensures .left)
 
 pub put-listing-spec : {M : Type 1} → statement M
 put-listing-spec = tie.close (tie.spec put-steps-requires put-end-requires same-length same-length-2 same-length-3 same-length-4 returns)

@@ -11,11 +11,11 @@ use Rattle.steplist.proofs.listed.put_step.Tie as tie
 -- what the run left and counted
 told : (c : tie.After-run)
     → (let a = c .before .before .before .before .before .before .before .before .before .before .args in let l = c .run .last in
-    OneStep (moveOf (a .z) (a .list .now) (a .sets .now)) (runningOf (a .store .now) (a .marks .now) (a .work .now)) (a .place) (c .run .result) (l .1 .1 .1 .0) (l .1 .1 .1 .1 .0) (l .1 .1 .1 .1 .1 .0))
+    OneStep (moveOf (a .sizes) (a .list .now) (a .sets .now)) (runningOf (a .store .now) (a .marks .now) (a .work .now)) (a .place) (c .run .result) (l .1 .1 .1 .0) (l .1 .1 .1 .1 .0) (l .1 .1 .1 .1 .1 .0))
 told c =
     let start = c .before .before .before .before .before .before .before .before .before .before in
     let a = start .args in
-    one-step (moveOf (a .z) (a .list .now) (a .sets .now)) (runningOf (a .store .now) (a .marks .now) (a .work .now)) (a .place) (start .pre .0) (start .pre .1 .0) _ _ _ _ (c .run .ensures)
+    one-step (moveOf (a .sizes) (a .list .now) (a .sets .now)) (runningOf (a .store .now) (a .marks .now) (a .work .now)) (a .place) (start .pre .0) (start .pre .1 .0) _ _ _ _ (c .run .ensures)
 
 run-requires : tie.Need-run-requires
 run-requires c κs = search needs
@@ -24,7 +24,7 @@ put-line-requires : tie.Need-put-line-requires
 put-line-requires c κs =
     let start = c .before .before .before .before .before .before .before .before .before .before .before .before .before .before .before .before .before .before in
     let a = start .args in
-    let given = run-taken (moveOf (a .z) (a .list .now) (a .sets .now)) _ _ (a .place) (start .pre .0 .taken) .accepted .ranges in
+    let given = run-taken (moveOf (a .sizes) (a .list .now) (a .sets .now)) _ _ (a .place) (start .pre .0 .taken) .accepted .ranges in
     (omega (arith, given), omega (arith, told (c .before .before .before .before .before .before .before .before) .short))
 
 word-requires : tie.Need-word-requires

@@ -12,29 +12,29 @@ use Rattle.steplist.proofs.listed.put_steps.Statement.{statement}
 use Rattle.steplist.proofs.listed.put_steps.Tie as tie
 
 abbrev Inv-loop : tie.InvT-loop
-Inv-loop out₀ z list sets store₀ marks₀ work₀ last at₀ writes₀ erases₀ place₀ out store marks work at writes erases place =
-    Shows (moveOf z list sets) (runningOf store₀ marks₀ work₀) place at writes erases out₀ out store marks work
+Inv-loop out₀ sizes list sets store₀ marks₀ work₀ last at₀ writes₀ erases₀ place₀ out store marks work at writes erases place =
+    Shows (moveOf sizes list sets) (runningOf store₀ marks₀ work₀) place at writes erases out₀ out store marks work
     × (place ≤ last) × (length out ≡ length out₀) × (length store ≡ length store₀) × (length marks ≡ length marks₀) × (length work ≡ length work₀)
 
 abbrev μ-loop : tie.MeasureT-loop
-μ-loop out₀ z list sets store₀ marks₀ work₀ last at₀ writes₀ erases₀ place₀ out store marks work at writes erases place = last - place
+μ-loop out₀ sizes list sets store₀ marks₀ work₀ last at₀ writes₀ erases₀ place₀ out store marks work at writes erases place = last - place
 
 -- a step more is shown
 shown : (c : tie.After-put-step Inv-loop μ-loop)
     → (let a = c .before .before .before .before .before .before .before .before .before .before .before .before .before .before .args in let l = c .before .before .before .before .before .before .loop in let r = c .put-step .result in
-    Shows (moveOf (a .z) (a .list .now) (a .sets .now)) (runningOf (a .store .now) (a .marks .now) (a .work .now)) (l .place + 1) (r .at) (l .writes + r .writes) (l .erases + r .erases) (a .out .now) (c .put-step .last .0) (c .put-step .last .1 .1 .1 .1 .1 .0) (c .put-step .last .1 .1 .1 .1 .1 .1 .0) (c .put-step .last .1 .1 .1 .1 .1 .1 .1 .0))
+    Shows (moveOf (a .sizes) (a .list .now) (a .sets .now)) (runningOf (a .store .now) (a .marks .now) (a .work .now)) (l .place + 1) (r .at) (l .writes + r .writes) (l .erases + r .erases) (a .out .now) (c .put-step .last .0) (c .put-step .last .1 .1 .1 .1 .1 .0) (c .put-step .last .1 .1 .1 .1 .1 .1 .0) (c .put-step .last .1 .1 .1 .1 .1 .1 .1 .0))
 shown c =
     let a = c .before .before .before .before .before .before .before .before .before .before .before .before .before .before .args in
     let l = c .before .before .before .before .before .before .loop in
-    shows-more (moveOf (a .z) (a .list .now) (a .sets .now)) (runningOf (a .store .now) (a .marks .now) (a .work .now)) (l .place) (l .at) (l .writes) (l .erases) _ _ _ _ _ _ _ _ _ (c .put-step .result) (l .inv .0) (c .put-step .ensures)
+    shows-more (moveOf (a .sizes) (a .list .now) (a .sets .now)) (runningOf (a .store .now) (a .marks .now) (a .work .now)) (l .place) (l .at) (l .writes) (l .erases) _ _ _ _ _ _ _ _ _ (c .put-step .result) (l .inv .0) (c .put-step .ensures)
 
 -- and few steps are counted
 counted : (c : tie.After-put-step Inv-loop μ-loop) → (let l = c .before .before .before .before .before .before .loop in let r = c .put-step .result in (l .writes + r .writes ≤ 144) × (l .erases + r .erases ≤ 144))
 counted c =
     let start = c .before .before .before .before .before .before .before .before .before .before .before .before .before .before in
     let a = start .args in
-    let last = few-steps (a .z) (start .pre .0 .few-blocks) (start .pre .0 .few-pages) in
-    let few = few-counted (moveOf (a .z) (a .list .now) (a .sets .now)) (runningOf (a .store .now) (a .marks .now) (a .work .now)) (c .before .before .before .before .before .before .loop .place + 1) _ _ _ _ _ _ _ _ (omega (arith, c .before .before .before .before .before .before .before .last-place .ensures)) (shown c) in
+    let last = few-steps (a .sizes) (start .pre .0 .few-blocks) (start .pre .0 .few-pages) in
+    let few = few-counted (moveOf (a .sizes) (a .list .now) (a .sets .now)) (runningOf (a .store .now) (a .marks .now) (a .work .now)) (c .before .before .before .before .before .before .loop .place + 1) _ _ _ _ _ _ _ _ (omega (arith, c .before .before .before .before .before .before .before .last-place .ensures)) (shown c) in
     (omega arith, omega arith)
 
 last-place-requires : tie.Need-last-place-requires Inv-loop μ-loop
@@ -43,15 +43,15 @@ last-place-requires c κs = (omega (arith, c .before .before .before .before .be
 loop-holds : tie.Need-loop-holds Inv-loop μ-loop
 loop-holds c =
     let a = c .before .before .before .before .before .before .before .args in
-    (shows-none (moveOf (a .z) (a .list .now) (a .sets .now)) (runningOf (a .store .now) (a .marks .now) (a .work .now)) (a .out .now), omega arith, refl, refl, refl, refl)
+    (shows-none (moveOf (a .sizes) (a .list .now) (a .sets .now)) (runningOf (a .store .now) (a .marks .now) (a .work .now)) (a .out .now), omega arith, refl, refl, refl, refl)
 
 put-step-requires : tie.Need-put-step-requires Inv-loop μ-loop
 put-step-requires c κs =
     let start = c .before .before .before .before .before .before .before .before .before .before .before .before .before in
     let a = start .args in
     let l = c .before .before .before .before .before .loop in
-    let last = few-steps (a .z) (start .pre .0 .few-blocks) (start .pre .0 .few-pages) in
-    (listable-at (moveOf (a .z) (a .list .now) (a .sets .now)) (runningOf (a .store .now) (a .marks .now) (a .work .now)) (l .place) _ (start .pre .0) (omega (arith, c .before .before .before .before .before .before .last-place .ensures)) (l .inv .0 .left), (omega (arith, c .before .before .before .before .before .before .last-place .ensures), omega (arith, l .inv .0 .at-high)))
+    let last = few-steps (a .sizes) (start .pre .0 .few-blocks) (start .pre .0 .few-pages) in
+    (listable-at (moveOf (a .sizes) (a .list .now) (a .sets .now)) (runningOf (a .store .now) (a .marks .now) (a .work .now)) (l .place) _ (start .pre .0) (omega (arith, c .before .before .before .before .before .before .last-place .ensures)) (l .inv .0 .left), (omega (arith, c .before .before .before .before .before .before .last-place .ensures), omega (arith, l .inv .0 .at-high)))
 
 add-writes : tie.Need-add-writes Inv-loop μ-loop
 add-writes c = omega (arith, counted (c .before .before .before .before .before .before .before .before .before))
@@ -85,7 +85,7 @@ returns : tie.Need-returns Inv-loop μ-loop
 returns c =
     let a = c .before .before .before .before .before .before .before .before .before .args in
     let l = c .before .loop in
-    let all : l .place ≡ lastPlace (a .z) = omega (arith, c .before .before .last-place .ensures) in
+    let all : l .place ≡ lastPlace (a .sizes) = omega (arith, c .before .before .last-place .ensures) in
     rw all at (l .inv .0)
 
 pub put-steps-spec : {M : Type 1} → statement M

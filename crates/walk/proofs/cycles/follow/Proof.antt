@@ -23,7 +23,7 @@ loop-holds : tie.Need-loop-holds Inv-loop μ-loop
 loop-holds c =
     let start = c .before .before .before .before .before in
     let a = start .args in
-    (omega arith, none-followed (a .z .m) (a .list .now) (a .sets .now) (a .pages .now) (a .from .now), omega arith, omega arith, record { is = omega arith; page-lt = start .pre .0 .m-low })
+    (omega arith, none-followed (a .sizes .m) (a .list .now) (a .sets .now) (a .pages .now) (a .from .now), omega arith, omega arith, record { is = omega arith; page-lt = start .pre .0 .ranges .m-low })
 
 shared-slice-read-wide : tie.Need-shared-slice-read-wide Inv-loop μ-loop
 shared-slice-read-wide c = search needs
@@ -43,17 +43,17 @@ entry-requires c κs = search needs
 quotient-requires : tie.Need-quotient-requires Inv-loop μ-loop
 quotient-requires c κs =
     let G = c .before .before .before .before .before .before .before .before .before .before .before .pre .0 in
-    (omega (arith, c .entry .ensures, c .before .shared-slice-known4 .given (c .before .before .before .before .before .loop .k)), G .m-low, G .m-high, c .before .before .before .before .before .before .reciprocal .ensures)
+    (omega (arith, c .entry .ensures, c .before .shared-slice-known4 .given (c .before .before .before .before .before .loop .k)), G .ranges .m-low, G .ranges .m-high, c .before .before .before .before .before .before .reciprocal .ensures)
 
 -- where the entries of original k lie
 inside : (c : tie.After-quotient Inv-loop μ-loop)
-    → (let l = c .before .before .before .before .before .before .loop in Fits (c .before .before .before .before .before .before .before .before .before .before .before .before .args .z .m) (l .source) (c .quotient .result) (c .before .before .before .wide .result) × (l .page < 64))
+    → (let l = c .before .before .before .before .before .before .loop in Fits (c .before .before .before .before .before .before .before .before .before .before .before .before .args .sizes .m) (l .source) (c .quotient .result) (c .before .before .before .wide .result) × (l .page < 64))
 inside c =
     let start = c .before .before .before .before .before .before .before .before .before .before .before .before in
     let l = c .before .before .before .before .before .before .loop in (
-      fits (moveOf (start .args .z) (start .args .list .now) (start .args .sets .now)) (start .pre .0) (l .k) (omega arith) (l .source) (l .page) (l .inv .4)
-          (c .quotient .result) (c .before .before .before .wide .result) (c .quotient .ensures ∙ ap (λ (x : ℕ). x / start .args .z .m) (c .before .entry .ensures)) (c .before .before .before .wide .ensures),
-      omega (arith, l .inv .4 .page-lt, start .pre .0 .m-high),
+      fits (moveOf (start .args .sizes) (start .args .list .now) (start .args .sets .now)) (start .pre .0) (l .k) (omega arith) (l .source) (l .page) (l .inv .4)
+          (c .quotient .result) (c .before .before .before .wide .result) (c .quotient .ensures ∙ ap (λ (x : ℕ). x / start .args .sizes .m) (c .before .entry .ensures)) (c .before .before .before .wide .ensures),
+      omega (arith, l .inv .4 .page-lt, start .pre .0 .ranges .m-high),
     )
 
 narrow-requires : tie.Need-narrow-requires Inv-loop μ-loop
@@ -96,14 +96,14 @@ add-source c = omega (arith, inside (c .before .before .before))
 more : (c : tie.After-narrow2 Inv-loop μ-loop)
     → (let a = c .before .before .before .before .before .before .before .before .before .before .before .before .before .before .args in
     let l = c .before .before .before .before .before .before .before .before .loop in
-    Followed (a .z .m) (a .list .now) (a .sets .now) (set (l .pages) (l .source * a .z .m + c .before .before .before .before .before .wide .result) (c .before .narrow .result)) (set (l .from) (c .before .before .quotient .result * a .z .m + c .before .before .before .before .before .wide .result) (c .narrow2 .result)) (l .k + 1))
+    Followed (a .sizes .m) (a .list .now) (a .sets .now) (set (l .pages) (l .source * a .sizes .m + c .before .before .before .before .before .wide .result) (c .before .narrow .result)) (set (l .from) (c .before .before .quotient .result * a .sizes .m + c .before .before .before .before .before .wide .result) (c .narrow2 .result)) (l .k + 1))
 unfolding setOf
 more c =
     let start = c .before .before .before .before .before .before .before .before .before .before .before .before .before .before in
     let a = start .args in
     let l = c .before .before .before .before .before .before .before .before .loop in
     rw (c .narrow2 .ensures, c .before .narrow .ensures, c .before .before .quotient .ensures, c .before .before .before .entry .ensures, c .before .before .before .before .before .wide .ensures)
-    (follow-more (moveOf (a .z) (a .list .now) (a .sets .now)) (start .pre .0) (l .k) (omega arith) (l .source) (l .page) (l .inv .4) (l .pages) (l .from) (l .inv .2) (l .inv .3) (l .inv .1))
+    (follow-more (moveOf (a .sizes) (a .list .now) (a .sets .now)) (start .pre .0) (l .k) (omega arith) (l .source) (l .page) (l .inv .4) (l .pages) (l .from) (l .inv .2) (l .inv .3) (l .inv .1))
 
 loop-less : tie.Need-loop-less Inv-loop μ-loop
 loop-less c = search needs
@@ -111,7 +111,7 @@ loop-less c = search needs
 loop-again : tie.Need-loop-again Inv-loop μ-loop
 loop-again c =
     let l = c .before .before .before .before .before .before .before .before .before .loop in
-    (omega arith, more (c .before), simp length-set (l .inv .2), simp length-set (l .inv .3), counts-turn (c .before .before .before .before .before .before .before .before .before .before .before .before .before .before .before .args .z .m) (l .k) (l .source) (l .page) (l .inv .4) (c .if1 .taken))
+    (omega arith, more (c .before), simp length-set (l .inv .2), simp length-set (l .inv .3), counts-turn (c .before .before .before .before .before .before .before .before .before .before .before .before .before .before .before .args .sizes .m) (l .k) (l .source) (l .page) (l .inv .4) (c .if1 .taken))
 
 loop-less-2 : tie.Need-loop-less-2 Inv-loop μ-loop
 loop-less-2 c = search needs
@@ -119,7 +119,7 @@ loop-less-2 c = search needs
 loop-again-2 : tie.Need-loop-again-2 Inv-loop μ-loop
 loop-again-2 c =
     let l = c .before .before .before .before .before .before .before .before .before .loop in
-    (omega arith, more (c .before), simp length-set (l .inv .2), simp length-set (l .inv .3), counts-more (c .before .before .before .before .before .before .before .before .before .before .before .before .before .before .before .args .z .m) (l .k) (l .source) (l .page) (l .inv .4) (c .if1 .left))
+    (omega arith, more (c .before), simp length-set (l .inv .2), simp length-set (l .inv .3), counts-more (c .before .before .before .before .before .before .before .before .before .before .before .before .before .before .before .args .sizes .m) (l .k) (l .source) (l .page) (l .inv .4) (c .if1 .left))
 
 same-length : tie.Need-same-length Inv-loop μ-loop
 same-length c = search needs
@@ -132,8 +132,8 @@ returns c =
     let start = c .before .before .before .before .before .before .before in
     let a = start .args in
     let l = c .before .loop in
-    let all : l .k ≡ a .z .n * a .z .m = omega arith in
-    tables (moveOf (a .z) (a .list .now) (a .sets .now)) (start .pre .0) (l .pages) (l .from) (rw all at (l .inv .1))
+    let all : l .k ≡ a .sizes .n * a .sizes .m = omega arith in
+    tables (moveOf (a .sizes) (a .list .now) (a .sets .now)) (start .pre .0) (l .pages) (l .from) (rw all at (l .inv .1))
 
 pub follow-spec : {M : Type 1} → statement M
 follow-spec =

@@ -12,22 +12,22 @@ use Rattle.walk.proofs.cycles.is_top.Statement.{statement}
 use Rattle.walk.proofs.cycles.is_top.Tie as tie
 
 abbrev Inv-loop : tie.InvT-loop
-Inv-loop z from set v m u₀ turns₀ u turns = Met (entryOf (z .m) from set) v v u turns × (turns ≤ z .n) × (1 ≤ u) × (u ≤ z .n)
+Inv-loop sizes from set v m u₀ turns₀ u turns = Met (entryOf (sizes .m) from set) v v u turns × (turns ≤ sizes .n) × (1 ≤ u) × (u ≤ sizes .n)
 
 abbrev μ-loop : tie.MeasureT-loop
-μ-loop z from set v m u₀ turns₀ u turns = z .n - turns
+μ-loop sizes from set v m u₀ turns₀ u turns = sizes .n - turns
 
 loop-holds : tie.Need-loop-holds Inv-loop μ-loop
-loop-holds c = (none-met (entryOf (c .args .z .m) (c .args .from .now) (c .args .set)) (c .args .v), omega arith, omega arith, omega arith)
+loop-holds c = (none-met (entryOf (c .args .sizes .m) (c .args .from .now) (c .args .set)) (c .args .v), omega arith, omega arith, omega arith)
 
 sub-wide : tie.Need-sub-wide Inv-loop μ-loop
 sub-wide c = search needs
 
 -- the entry of block u is in the table
-inside : (c : tie.Then1 Inv-loop μ-loop) → (c .before .before .loop .u - 1) * c .before .before .before .args .z .m + c .before .before .before .args .set < 4096
+inside : (c : tie.Then1 Inv-loop μ-loop) → (c .before .before .loop .u - 1) * c .before .before .before .args .sizes .m + c .before .before .before .args .set < 4096
 inside c =
     let a = c .before .before .before .args in
-    table-fits (a .z .n) (a .z .m) (omega arith) (omega arith) (c .before .before .loop .u - 1) (a .set) (omega arith) (omega arith)
+    table-fits (a .sizes .n) (a .sizes .m) (omega arith) (omega arith) (c .before .before .loop .u - 1) (a .set) (omega arith) (omega arith)
 
 mul-wide : tie.Need-mul-wide Inv-loop μ-loop
 mul-wide c = omega (arith, inside c)
@@ -46,19 +46,19 @@ unfolding isTop
 returns c =
     let a = c .before .before .before .before .before .before .args in
     let l = c .before .before .before .before .before .loop in
-    λ list sets pages T. sym (eq-eqb (top (moveOf (a .z) list sets) (a .set) (a .v)) (a .v) (sym
-    (top-closed (moveOf (a .z) list sets) pages (a .from .now) T (a .set) (omega arith) (a .v) (record { low = omega arith; high = omega arith }) (a .v) (l .u) (l .turns) (l .inv .0) (c .before .wide .result) (c .before .wide .ensures) (c .if2 .taken))))
+    λ list sets pages T. sym (eq-eqb (top (moveOf (a .sizes) list sets) (a .set) (a .v)) (a .v) (sym
+    (top-closed (moveOf (a .sizes) list sets) pages (a .from .now) T (a .set) (omega arith) (a .v) (record { low = omega arith; high = omega arith }) (a .v) (l .u) (l .turns) (l .inv .0) (c .before .wide .result) (c .before .wide .ensures) (c .if2 .taken))))
 
 returns-2 : tie.Need-returns-2 Inv-loop μ-loop
 unfolding isTop
 returns-2 c =
     let a = c .before .before .before .before .before .before .before .args in
     let l = c .before .before .before .before .before .before .loop in
-    λ list sets pages T. sym (ne-eqb (top (moveOf (a .z) list sets) (a .set) (a .v)) (a .v) (λ e. absurd (omega (
+    λ list sets pages T. sym (ne-eqb (top (moveOf (a .sizes) list sets) (a .set) (a .v)) (a .v) (λ e. absurd (omega (
       arith,
       c .if3 .taken,
       e,
-      none-higher (moveOf (a .z) list sets) pages (a .from .now) T (a .set) (omega arith) (a .v) (record { low = omega arith; high = omega arith }) (a .v) (l .u) (l .turns) (l .inv .0) (c .before .before .wide .result) (c .before .before .wide .ensures),
+      none-higher (moveOf (a .sizes) list sets) pages (a .from .now) T (a .set) (omega arith) (a .v) (record { low = omega arith; high = omega arith }) (a .v) (l .u) (l .turns) (l .inv .0) (c .before .before .wide .result) (c .before .before .wide .ensures),
     ))))
 
 add-turns : tie.Need-add-turns Inv-loop μ-loop
@@ -73,7 +73,7 @@ loop-again c =
     let a = start .args in
     let l = c .before .before .before .before .before .before .loop in
     let u = c .before .before .wide in
-    let f : ℕ → ℕ = entryOf (a .z .m) (a .from .now) (a .set) in
+    let f : ℕ → ℕ = entryOf (a .sizes .m) (a .from .now) (a .set) in
     let same : a .v ≡ max (a .v) (u .result) = omega (arith, c .if3 .left) in
     let next : u .result ≡ f (l .u) = u .ensures in
     let L = start .pre .5 in
@@ -84,8 +84,8 @@ unfolding isTop
 returns-3 c =
     let a = c .before .before .before .args in
     let l = c .before .before .loop in
-    λ list sets pages T. sym (eq-eqb (top (moveOf (a .z) list sets) (a .set) (a .v)) (a .v) (sym
-    (top-whole (moveOf (a .z) list sets) pages (a .from .now) T (a .set) (omega arith) (a .v) (record { low = omega arith; high = omega arith }) (a .v) (l .u) (l .turns) (l .inv .0) (omega arith))))
+    λ list sets pages T. sym (eq-eqb (top (moveOf (a .sizes) list sets) (a .set) (a .v)) (a .v) (sym
+    (top-whole (moveOf (a .sizes) list sets) pages (a .from .now) T (a .set) (omega arith) (a .v) (record { low = omega arith; high = omega arith }) (a .v) (l .u) (l .turns) (l .inv .0) (omega arith))))
 
 pub is-top-spec : {M : Type 1} → statement M
 is-top-spec =

@@ -10,10 +10,10 @@ sub-first : tie.Need-sub-first
 sub-first c = search needs
 
 -- the entry of the block is in the table
-inside : (c : tie.Start) → (c .args .block - 1) * c .args .z .m + c .args .set < 4096
+inside : (c : tie.Start) → (c .args .block - 1) * c .args .sizes .m + c .args .set < 4096
 inside c =
     let a = c .args in
-    table-fits (a .z .n) (a .z .m) (omega arith) (omega arith) (a .block - 1) (a .set) (omega arith) (omega arith)
+    table-fits (a .sizes .n) (a .sizes .m) (omega arith) (omega arith) (a .block - 1) (a .set) (omega arith) (omega arith)
 
 mul-first : tie.Need-mul-first
 mul-first c = omega (arith, inside (c .before))
@@ -33,7 +33,7 @@ add-result c = let start = c .before .before .before in omega (arith, inside sta
 returns : tie.Need-returns
 returns c =
     let a = c .before .before .before .args in
-    λ list sets from T. ap (λ (x : ℕ). (a .block - 1) * a .z .m + x) (c .wide .ensures) ∙ T .page-is (a .set) (a .block) (omega arith) (omega arith) (omega arith)
+    λ list sets from T. ap (λ (x : ℕ). (a .block - 1) * a .sizes .m + x) (c .wide .ensures) ∙ T .page-is (a .set) (a .block) (omega arith) (omega arith) (omega arith)
 
 pub page-of-spec : {M : Type 1} → statement M
 page-of-spec = tie.close (tie.spec sub-first mul-first add-wide element-copy-out-wide wide-requires add-result returns)

@@ -15,21 +15,21 @@ use Rattle.walk.proofs.cycles.sent_to.Statement.{statement}
 use Rattle.walk.proofs.cycles.sent_to.Tie as tie
 
 abbrev Inv-loop : tie.InvT-loop
-Inv-loop z list sets pages from block page m first set₀ set =
-    (set ≤ z .m) × ((j : ℕ) → j < set → getD list (D (moveOf z list sets) j (pred (moveOf z list sets) j block)) 0 ≡ numberAt (z .m) block page → ⊥)
+Inv-loop sizes list sets pages from block page m first set₀ set =
+    (set ≤ sizes .m) × ((j : ℕ) → j < set → getD list (D (moveOf sizes list sets) j (pred (moveOf sizes list sets) j block)) 0 ≡ numberAt (sizes .m) block page → ⊥)
 
 abbrev μ-loop : tie.MeasureT-loop
-μ-loop z list sets pages from block page m first set₀ set = z .m - set
+μ-loop sizes list sets pages from block page m first set₀ set = sizes .m - set
 
 sub-first : tie.Need-sub-first Inv-loop μ-loop
 sub-first c = search needs
 
 -- an entry of the block is in the table
-inside : (c : tie.Start Inv-loop μ-loop) (set : ℕ) → set < c .args .z .m → (c .args .block - 1) * c .args .z .m + set < 4096
+inside : (c : tie.Start Inv-loop μ-loop) (set : ℕ) → set < c .args .sizes .m → (c .args .block - 1) * c .args .sizes .m + set < 4096
 inside c set h =
     let a = c .args in
     let G = c .pre .0 .given in
-    table-fits (a .z .n) (a .z .m) (G .n-high) (G .m-high) (a .block - 1) set (omega arith) h
+    table-fits (a .sizes .n) (a .sizes .m) (G .ranges .n-high) (G .ranges .m-high) (a .block - 1) set (omega arith) h
 
 mul-first : tie.Need-mul-first Inv-loop μ-loop
 mul-first c = omega (arith, inside (c .before .before) (c .before .before .args .page) (omega arith))
@@ -49,37 +49,37 @@ wide-requires c κs = search needs
 -- the block where the page of the set comes from
 next : (c : tie.After-wide Inv-loop μ-loop)
     → (let a = c .before .before .before .before .before .before .args in
-    Next (pred (moveOf (a .z) (a .list .now) (a .sets .now)) (c .before .before .before .loop .set)) (a .z .n) (a .block) (c .wide .result))
+    Next (pred (moveOf (a .sizes) (a .list .now) (a .sets .now)) (c .before .before .before .loop .set)) (a .sizes .n) (a .block) (c .wide .result))
 next c =
     let start = c .before .before .before .before .before .before in
     let a = start .args in
     let T = start .pre .0 in
-    back-next (moveOf (a .z) (a .list .now) (a .sets .now)) (T .given) (c .before .before .before .loop .set) (omega arith) (a .pages .now) (a .from .now) T (a .block) (c .wide .result) (omega arith) (omega arith) (c .wide .ensures)
+    back-next (moveOf (a .sizes) (a .list .now) (a .sets .now)) (T .given) (c .before .before .before .loop .set) (omega arith) (a .pages .now) (a .from .now) T (a .block) (c .wide .result) (omega arith) (omega arith) (c .wide .ensures)
 
 page-of-requires : tie.Need-page-of-requires Inv-loop μ-loop
 page-of-requires c κs =
     let a = c .before .before .before .before .before .before .args in
     let T = c .before .before .before .before .before .before .pre .0 in
     let G = T .given in
-    (G .n-high, G .m-high, omega arith, next c .low, next c .high, page-lt (moveOf (a .z) (a .list .now) (a .sets .now)) (a .pages .now) (a .from .now) T (c .before .before .before .loop .set) (omega arith) (c .wide .result) (next c .low) (next c .high))
+    (G .ranges .n-high, G .ranges .m-high, omega arith, next c .low, next c .high, page-lt (moveOf (a .sizes) (a .list .now) (a .sets .now)) (a .pages .now) (a .from .now) T (c .before .before .before .loop .set) (omega arith) (c .wide .result) (next c .low) (next c .high))
 
 -- the original of the set that goes to the block
 original : (c : tie.After-page-of Inv-loop μ-loop)
     → (let a = c .before .before .before .before .before .before .before .args in
-    let M = moveOf (a .z) (a .list .now) (a .sets .now) in
+    let M = moveOf (a .sizes) (a .list .now) (a .sets .now) in
     c .page-of .result ≡ D M (c .before .before .before .before .loop .set) (pred M (c .before .before .before .before .loop .set) (a .block)))
 original c =
     let start = c .before .before .before .before .before .before .before in
     let a = start .args in
-    let M = moveOf (a .z) (a .list .now) (a .sets .now) in
+    let M = moveOf (a .sizes) (a .list .now) (a .sets .now) in
     c .page-of .ensures (a .list .now) (a .sets .now) (a .from .now) (start .pre .0) ∙ ap (D M (c .before .before .before .before .loop .set)) (next (c .before) .is)
 
 -- it is in the list
-listed : (c : tie.After-page-of Inv-loop μ-loop) → c .page-of .result < c .before .before .before .before .before .before .before .args .z .n * c .before .before .before .before .before .before .before .args .z .m
+listed : (c : tie.After-page-of Inv-loop μ-loop) → c .page-of .result < c .before .before .before .before .before .before .before .args .sizes .n * c .before .before .before .before .before .before .before .args .sizes .m
 listed c =
     let start = c .before .before .before .before .before .before .before in
     let a = start .args in
-    let M = moveOf (a .z) (a .list .now) (a .sets .now) in
+    let M = moveOf (a .sizes) (a .list .now) (a .sets .now) in
     let T = start .pre .0 in
     let N = next (c .before) in
     omega (
@@ -90,7 +90,7 @@ listed c =
     )
 
 mul-entry : tie.Need-mul-entry Inv-loop μ-loop
-mul-entry c = let a = c .before .before .before .before .before .before .before .args in let G = c .before .before .before .before .before .before .before .pre .0 .given in omega (arith, listed c, product-le (a .z .n) (a .z .m) {c = 64} {d = 64} (G .n-high) (G .m-high))
+mul-entry c = let a = c .before .before .before .before .before .before .before .args in let G = c .before .before .before .before .before .before .before .pre .0 .given in omega (arith, listed c, product-le (a .sizes .n) (a .sizes .m) {c = 64} {d = 64} (G .ranges .n-high) (G .ranges .m-high))
 
 shared-slice-read-entry : tie.Need-shared-slice-read-entry Inv-loop μ-loop
 shared-slice-read-entry c = omega (arith, listed (c .before), c .before .before .before .before .before .before .before .before .pre .0 .given .list-length)
@@ -105,7 +105,7 @@ returns : tie.Need-returns Inv-loop μ-loop
 returns c =
     let start = c .before .before .before .before .before .before .before .before .before .before in
     let a = start .args in
-    sent-found (moveOf (a .z) (a .list .now) (a .sets .now)) (a .pages .now) (a .from .now) (start .pre .0) (a .block) (a .page) (record { low = omega arith; high = omega arith }) (omega arith)
+    sent-found (moveOf (a .sizes) (a .list .now) (a .sets .now)) (a .pages .now) (a .from .now) (start .pre .0) (a .block) (a .page) (record { low = omega arith; high = omega arith }) (omega arith)
     (c .before .before .before .page-of .result) (listed (c .before .before .before)) (sym (c .before .entry .ensures) ∙ c .if1 .taken)
 
 add-set : tie.Need-add-set Inv-loop μ-loop
@@ -117,7 +117,7 @@ loop-less c = search needs
 loop-again : tie.Need-loop-again Inv-loop μ-loop
 loop-again c =
     let a = c .before .before .before .before .before .before .before .before .before .before .args in
-    let M = moveOf (a .z) (a .list .now) (a .sets .now) in
+    let M = moveOf (a .sizes) (a .list .now) (a .sets .now) in
     let l = c .before .before .before .before .before .before .before .loop in
     let at = original (c .before .before .before) in (
       omega arith,
@@ -135,7 +135,7 @@ returns-2 c =
     let start = c .before .before .before .before in
     let a = start .args in
     let l = c .before .loop in
-    absurd (sent-missed (moveOf (a .z) (a .list .now) (a .sets .now)) (a .pages .now) (a .from .now) (start .pre .0) (a .block) (a .page) (record { low = omega arith; high = omega arith }) (omega arith)
+    absurd (sent-missed (moveOf (a .sizes) (a .list .now) (a .sets .now)) (a .pages .now) (a .from .now) (start .pre .0) (a .block) (a .page) (record { low = omega arith; high = omega arith }) (omega arith)
     (λ j h. l .inv .1 j (omega arith)))
 
 pub sent-to-spec : {M : Type 1} → statement M

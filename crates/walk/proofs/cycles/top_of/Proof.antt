@@ -11,22 +11,22 @@ use Rattle.walk.proofs.cycles.top_of.Statement.{statement}
 use Rattle.walk.proofs.cycles.top_of.Tie as tie
 
 abbrev Inv-loop : tie.InvT-loop
-Inv-loop z from set v m top₀ u₀ turns₀ top u turns = Met (entryOf (z .m) from set) v top u turns × (turns ≤ z .n) × (1 ≤ u) × (u ≤ z .n)
+Inv-loop sizes from set v m top₀ u₀ turns₀ top u turns = Met (entryOf (sizes .m) from set) v top u turns × (turns ≤ sizes .n) × (1 ≤ u) × (u ≤ sizes .n)
 
 abbrev μ-loop : tie.MeasureT-loop
-μ-loop z from set v m top₀ u₀ turns₀ top u turns = z .n - turns
+μ-loop sizes from set v m top₀ u₀ turns₀ top u turns = sizes .n - turns
 
 loop-holds : tie.Need-loop-holds Inv-loop μ-loop
-loop-holds c = (none-met (entryOf (c .args .z .m) (c .args .from .now) (c .args .set)) (c .args .v), omega arith, omega arith, omega arith)
+loop-holds c = (none-met (entryOf (c .args .sizes .m) (c .args .from .now) (c .args .set)) (c .args .v), omega arith, omega arith, omega arith)
 
 sub-wide : tie.Need-sub-wide Inv-loop μ-loop
 sub-wide c = search needs
 
 -- the entry of block u is in the table
-inside : (c : tie.Then1 Inv-loop μ-loop) → (c .before .before .loop .u - 1) * c .before .before .before .args .z .m + c .before .before .before .args .set < 4096
+inside : (c : tie.Then1 Inv-loop μ-loop) → (c .before .before .loop .u - 1) * c .before .before .before .args .sizes .m + c .before .before .before .args .set < 4096
 inside c =
     let a = c .before .before .before .args in
-    table-fits (a .z .n) (a .z .m) (omega arith) (omega arith) (c .before .before .loop .u - 1) (a .set) (omega arith) (omega arith)
+    table-fits (a .sizes .n) (a .sizes .m) (omega arith) (omega arith) (c .before .before .loop .u - 1) (a .set) (omega arith) (omega arith)
 
 mul-wide : tie.Need-mul-wide Inv-loop μ-loop
 mul-wide c = omega (arith, inside c)
@@ -44,7 +44,7 @@ returns : tie.Need-returns Inv-loop μ-loop
 returns c =
     let a = c .before .before .before .before .before .before .args in
     let l = c .before .before .before .before .before .loop in
-    λ list sets pages T. top-closed (moveOf (a .z) list sets) pages (a .from .now) T (a .set) (omega arith) (a .v) (record { low = omega arith; high = omega arith }) (l .top) (l .u) (l .turns) (l .inv .0) (c .before .wide .result) (c .before .wide .ensures) (c .if2 .taken)
+    λ list sets pages T. top-closed (moveOf (a .sizes) list sets) pages (a .from .now) T (a .set) (omega arith) (a .v) (record { low = omega arith; high = omega arith }) (l .top) (l .u) (l .turns) (l .inv .0) (c .before .wide .result) (c .before .wide .ensures) (c .if2 .taken)
 
 add-turns : tie.Need-add-turns Inv-loop μ-loop
 add-turns c = search needs
@@ -58,7 +58,7 @@ loop-again c =
     let a = start .args in
     let l = c .before .before .before .before .before .before .loop in
     let u = c .before .before .wide in
-    let f : ℕ → ℕ = entryOf (a .z .m) (a .from .now) (a .set) in
+    let f : ℕ → ℕ = entryOf (a .sizes .m) (a .from .now) (a .set) in
     let top : c .if3 .top ≡ max (l .top) (u .result) = ⊎-elim (λ w. omega arith) (λ w. omega arith) (c .if3 .came) in
     let next : u .result ≡ f (l .u) = u .ensures in
     let L = start .pre .5 in
@@ -68,7 +68,7 @@ returns-2 : tie.Need-returns-2 Inv-loop μ-loop
 returns-2 c =
     let a = c .before .before .before .args in
     let l = c .before .before .loop in
-    λ list sets pages T. top-whole (moveOf (a .z) list sets) pages (a .from .now) T (a .set) (omega arith) (a .v) (record { low = omega arith; high = omega arith }) (l .top) (l .u) (l .turns) (l .inv .0) (omega arith)
+    λ list sets pages T. top-whole (moveOf (a .sizes) list sets) pages (a .from .now) T (a .set) (omega arith) (a .v) (record { low = omega arith; high = omega arith }) (l .top) (l .u) (l .turns) (l .inv .0) (omega arith)
 
 pub top-of-spec : {M : Type 1} → statement M
 top-of-spec =

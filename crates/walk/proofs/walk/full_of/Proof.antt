@@ -23,7 +23,7 @@ returns : tie.Need-returns
 unfolding letter
 returns c =
     let a = c .before .before .before .before .before .args in
-    c .is-full .ensures ∙ ap (isFull (a .z .m) (a .marks .now) (a .block)) (c .before .before .before .letter-after .ensures)
+    c .is-full .ensures ∙ ap (isFull (a .sizes .m) (a .marks .now) (a .block)) (c .before .before .before .letter-after .ensures)
 
 returns-2 : tie.Need-returns-2
 unfolding letter
@@ -31,8 +31,8 @@ returns-2 c =
     let start = c .before .before .before .before in
     let a = start .args in
     let l = c .before .before .letter-after in
-    sym (not-full (a .z .m) (a .marks .now) (a .block) _ 0 (omega arith)
-    (λ e. c .if1 .left (sym (first-mark (a .z .m) (a .marks .now) (a .block) (omega arith) (start .pre .3)) ∙ e ∙ sym (l .ensures))))
+    sym (not-full (a .sizes .m) (a .marks .now) (a .block) _ 0 (omega arith)
+    (λ e. c .if1 .left (sym (first-mark (a .sizes .m) (a .marks .now) (a .block) (omega arith) (start .pre .3)) ∙ e ∙ sym (l .ensures))))
 
 pub full-of-spec : {M : Type 1} → statement M
 full-of-spec =

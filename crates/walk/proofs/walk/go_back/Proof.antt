@@ -16,17 +16,17 @@ use Rattle.walk.proofs.walk.go_back.Statement.{statement}
 use Rattle.walk.proofs.walk.go_back.Tie as tie
 
 abbrev Inv-loop : tie.InvT-loop
-Inv-loop z list sets pages from marks t set start slots₀ at m v₀ count₀ turns₀ slots v count turns =
-    (take count slots ++ goBack (moveOf z list sets) marks set (z .n - turns) v ≡ take at slots₀ ++ goBack (moveOf z list sets) marks set (z .n) start)
-    × (top (moveOf z list sets) set v ≡ t) × (turns ≤ z .n) × (count ≡ at + turns) × (1 ≤ v) × (v ≤ z .n) × (length slots ≡ 130) × (drop count slots ≡ drop count slots₀)
+Inv-loop sizes list sets pages from marks t set start slots₀ at m v₀ count₀ turns₀ slots v count turns =
+    (take count slots ++ goBack (moveOf sizes list sets) marks set (sizes .n - turns) v ≡ take at slots₀ ++ goBack (moveOf sizes list sets) marks set (sizes .n) start)
+    × (top (moveOf sizes list sets) set v ≡ t) × (turns ≤ sizes .n) × (count ≡ at + turns) × (1 ≤ v) × (v ≤ sizes .n) × (length slots ≡ 130) × (drop count slots ≡ drop count slots₀)
 
 abbrev μ-loop : tie.MeasureT-loop
-μ-loop z list sets pages from marks t set start slots₀ at m v₀ count₀ turns₀ slots v count turns = z .n - turns
+μ-loop sizes list sets pages from marks t set start slots₀ at m v₀ count₀ turns₀ slots v count turns = sizes .n - turns
 
 loop-holds : tie.Need-loop-holds Inv-loop μ-loop
 loop-holds c =
     let a = c .before .before .before .before .args in
-    let M = moveOf (a .z) (a .list .now) (a .sets .now) in
+    let M = moveOf (a .sizes) (a .list .now) (a .sets .now) in
     let pre = c .before .before .before .before .pre in
     (ap (λ (turns : ℕ). take (a .at) (a .slots .now) ++ goBack M (a .marks .now) (a .set) turns (a .start)) (omega arith), pre .1 .1 .0, omega arith, omega arith, omega arith, omega arith, omega arith, refl)
 
@@ -34,10 +34,10 @@ sub-entry : tie.Need-sub-entry Inv-loop μ-loop
 sub-entry c = search needs
 
 -- the entry of block v is in the table
-inside : (c : tie.Then1 Inv-loop μ-loop) → (c .before .before .loop .v - 1) * c .before .before .before .before .before .before .before .args .z .m + c .before .before .before .before .before .before .before .args .set < 4096
+inside : (c : tie.Then1 Inv-loop μ-loop) → (c .before .before .loop .v - 1) * c .before .before .before .before .before .before .before .args .sizes .m + c .before .before .before .before .before .before .before .args .set < 4096
 inside c =
     let a = c .before .before .before .before .before .before .before .args in
-    table-fits (a .z .n) (a .z .m) (omega arith) (omega arith) (c .before .before .loop .v - 1) (a .set) (omega arith) (omega arith)
+    table-fits (a .sizes .n) (a .sizes .m) (omega arith) (omega arith) (c .before .before .loop .v - 1) (a .set) (omega arith) (omega arith)
 
 mul-entry : tie.Need-mul-entry Inv-loop μ-loop
 mul-entry c = omega (arith, inside c)
@@ -62,7 +62,7 @@ returns c =
     let start = c .before .before .before .before .before .before .before .before in
     let a = start .args in
     let l = c .before .before .before .loop in
-    let M = moveOf (a .z) (a .list .now) (a .sets .now) in
+    let M = moveOf (a .sizes) (a .list .now) (a .sets .now) in
     let rest = back-top M (start .pre .0 .given) (a .set) (omega arith) (a .marks .now) (l .v) (l .turns) (omega arith) (l .inv .1 ∙ sym (c .if2 .taken)) in
     record { slots-are = put-last (l .slots) (l .count) _ _ _ (omega arith) (l .inv .0) rest; rest-is = rest-more (l .slots) (a .slots .now) (l .count) _ (l .inv .7); some = omega arith; few = omega arith }
 
@@ -75,16 +75,16 @@ wide-requires c κs = search needs
 -- the block that v becomes
 next : (c : tie.After-wide Inv-loop μ-loop)
     → (let a = c .before .before .before .before .before .before .before .before .before .before .args in
-    Next (pred (moveOf (a .z) (a .list .now) (a .sets .now)) (a .set)) (a .z .n) (c .before .before .before .before .before .loop .v) (c .wide .result))
+    Next (pred (moveOf (a .sizes) (a .list .now) (a .sets .now)) (a .set)) (a .sizes .n) (c .before .before .before .before .before .loop .v) (c .wide .result))
 next c =
     let start = c .before .before .before .before .before .before .before .before .before .before in
     let a = start .args in
-    back-next (moveOf (a .z) (a .list .now) (a .sets .now)) (start .pre .0 .given) (a .set) (omega arith) (a .pages .now) (a .from .now) (start .pre .0) (c .before .before .before .before .before .loop .v) (c .wide .result) (omega arith) (omega arith) (c .wide .ensures)
+    back-next (moveOf (a .sizes) (a .list .now) (a .sets .now)) (start .pre .0 .given) (a .set) (omega arith) (a .pages .now) (a .from .now) (start .pre .0) (c .before .before .before .before .before .loop .v) (c .wide .result) (omega arith) (omega arith) (c .wide .ensures)
 
 full-of-requires : tie.Need-full-of-requires Inv-loop μ-loop
 full-of-requires c κs =
     let a = c .before .before .before .before .before .before .before .before .before .before .args in
-    omega (arith, block-in-marks (a .z) (c .wide .result) (next c .high))
+    omega (arith, block-in-marks (a .sizes) (c .wide .result) (next c .high))
 
 page-of-requires : tie.Need-page-of-requires Inv-loop μ-loop
 page-of-requires c κs =
@@ -92,13 +92,13 @@ page-of-requires c κs =
     let a = start .args in
     let N = next (c .before .before) in
     let T = start .pre .0 in
-    (T .given .n-high, T .given .m-high, omega arith, N .low, N .high, page-lt (moveOf (a .z) (a .list .now) (a .sets .now)) (a .pages .now) (a .from .now) T (a .set) (omega arith) (c .before .before .wide .result) (N .low) (N .high))
+    (T .given .ranges .n-high, T .given .ranges .m-high, omega arith, N .low, N .high, page-lt (moveOf (a .sizes) (a .list .now) (a .sets .now)) (a .pages .now) (a .from .now) T (a .set) (omega arith) (c .before .before .wide .result) (N .low) (N .high))
 
 home-requires : tie.Need-home-requires Inv-loop μ-loop
 home-requires c κs =
     let start = c .before .before .before .before .before .before .before .before .before .before .before .before .before in
     let a = start .args in
-    let M = moveOf (a .z) (a .list .now) (a .sets .now) in
+    let M = moveOf (a .sizes) (a .list .now) (a .sets .now) in
     let N = next (c .before .before .before) in
     (omega arith, omega arith, page-in M (start .pre .0 .given) (a .set) (omega arith) (c .before .before .before .wide .result) (c .page-of .result) (N .low) (N .high) (c .page-of .ensures (a .list .now) (a .sets .now) (a .from .now) (start .pre .0)), list-short M (start .pre .0 .given) (a .set) (omega arith))
 
@@ -119,7 +119,7 @@ returns-2 c =
     let start = c .before .before .before .before .before .before .before .before .before .before .before .before .before .before in
     let a = start .args in
     let l = c .before .before .before .before .before .before .before .before .before .loop in
-    let M = moveOf (a .z) (a .list .now) (a .sets .now) in
+    let M = moveOf (a .sizes) (a .list .now) (a .sets .now) in
     let N = next (c .before .before .before .before) in
     let apart : top M (a .set) (l .v) ≢ l .v = λ e. c .before .before .before .before .before .before .if2 .left (sym e ∙ l .inv .1) in
     let rest = back-plain M (start .pre .0 .given) (a .set) (omega arith) (a .marks .now) (l .v) (l .turns) (omega arith)
@@ -142,7 +142,7 @@ loop-again c =
     let start = c .before .before .before .before .before .before .before .before .before .before .before .before in
     let a = start .args in
     let l = c .before .before .before .before .before .before .before .loop in
-    let M = moveOf (a .z) (a .list .now) (a .sets .now) in
+    let M = moveOf (a .sizes) (a .list .now) (a .sets .now) in
     let N = next (c .before .before) in
     let apart : top M (a .set) (l .v) ≢ l .v = λ e. c .before .before .before .before .if2 .left (sym e ∙ l .inv .1) in
     let rest = back-turn M (start .pre .0 .given) (a .set) (omega arith) (a .marks .now) (l .v) (l .turns) (omega arith)
@@ -165,8 +165,8 @@ unfolding goBack
 returns-3 c =
     let a = c .before .before .before .before .before .before .before .args in
     let l = c .before .before .loop in
-    let M = moveOf (a .z) (a .list .now) (a .sets .now) in
-    let none : a .z .n - l .turns ≡ 0 = omega arith in
+    let M = moveOf (a .sizes) (a .list .now) (a .sets .now) in
+    let none : a .sizes .n - l .turns ≡ 0 = omega arith in
     record {
       slots-are = sym (append-nil (take (l .count) (l .slots))) ∙ rw none at (l .inv .0);
       rest-is = l .inv .7;

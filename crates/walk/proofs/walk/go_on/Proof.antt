@@ -15,32 +15,32 @@ use Rattle.walk.proofs.walk.go_on.Statement.{statement}
 use Rattle.walk.proofs.walk.go_on.Tie as tie
 
 abbrev Inv-loop : tie.InvT-loop
-Inv-loop z list sets pages from marks set start slots₀ at m v₀ next₀ count₀ turns₀ slots v next count turns =
-    (take count slots ++ goOn (moveOf z list sets) marks set (z .n - turns) v ≡ take at slots₀ ++ goOn (moveOf z list sets) marks set (z .n) start)
-    × (turns ≤ z .n) × (count ≡ at + turns) × Next (dest (moveOf z list sets) set) (z .n) v next × (length slots ≡ 130) × (drop count slots ≡ drop count slots₀)
+Inv-loop sizes list sets pages from marks set start slots₀ at m v₀ next₀ count₀ turns₀ slots v next count turns =
+    (take count slots ++ goOn (moveOf sizes list sets) marks set (sizes .n - turns) v ≡ take at slots₀ ++ goOn (moveOf sizes list sets) marks set (sizes .n) start)
+    × (turns ≤ sizes .n) × (count ≡ at + turns) × Next (dest (moveOf sizes list sets) set) (sizes .n) v next × (length slots ≡ 130) × (drop count slots ≡ drop count slots₀)
 
 abbrev μ-loop : tie.MeasureT-loop
-μ-loop z list sets pages from marks set start slots₀ at m v₀ next₀ count₀ turns₀ slots v next count turns = z .n - turns
+μ-loop sizes list sets pages from marks set start slots₀ at m v₀ next₀ count₀ turns₀ slots v next count turns = sizes .n - turns
 
 page-of-requires : tie.Need-page-of-requires Inv-loop μ-loop
 page-of-requires c κs =
     let start = c .before .before .before .before in
     let a = start .args in
     let T = start .pre .0 in
-    (T .given .n-high, T .given .m-high, omega arith, omega arith, omega arith, page-lt (moveOf (a .z) (a .list .now) (a .sets .now)) (a .pages .now) (a .from .now) T (a .set) (omega arith) (a .start) (omega arith) (omega arith))
+    (T .given .ranges .n-high, T .given .ranges .m-high, omega arith, omega arith, omega arith, page-lt (moveOf (a .sizes) (a .list .now) (a .sets .now)) (a .pages .now) (a .from .now) T (a .set) (omega arith) (a .start) (omega arith) (omega arith))
 
 goes-to-requires : tie.Need-goes-to-requires Inv-loop μ-loop
 goes-to-requires c κs =
     let start = c .before .before .before .before .before in
     let a = start .args in
     let T = start .pre .0 in
-    (T .given .m-low, page-in (moveOf (a .z) (a .list .now) (a .sets .now)) (T .given) (a .set) (omega arith) (a .start) (c .page-of .result) (omega arith) (omega arith) (c .page-of .ensures (a .list .now) (a .sets .now) (a .from .now) T))
+    (T .given .ranges .m-low, page-in (moveOf (a .sizes) (a .list .now) (a .sets .now)) (T .given) (a .set) (omega arith) (a .start) (c .page-of .result) (omega arith) (omega arith) (c .page-of .ensures (a .list .now) (a .sets .now) (a .from .now) T))
 
 loop-holds : tie.Need-loop-holds Inv-loop μ-loop
 loop-holds c =
     let start = c .before .before .before .before .before .before in
     let a = start .args in
-    let M = (moveOf (a .z) (a .list .now) (a .sets .now)) in
+    let M = (moveOf (a .sizes) (a .list .now) (a .sets .now)) in
     let T = start .pre .0 in (
       ap (λ (turns : ℕ). take (a .at) (a .slots .now) ++ goOn M (a .marks .now) (a .set) turns (a .start)) (omega arith),
       omega arith,
@@ -54,11 +54,11 @@ sub-slots : tie.Need-sub-slots Inv-loop μ-loop
 sub-slots c = c .before .before .loop .inv .3 .low
 
 -- the block that v becomes: its coded page is in the store
-inside : (c : tie.Then1 Inv-loop μ-loop) → (c .before .before .loop .next - 1) * c .before .before .before .before .before .before .before .before .before .args .z .m + c .before .before .before .before .before .before .before .before .before .args .set < 4096
+inside : (c : tie.Then1 Inv-loop μ-loop) → (c .before .before .loop .next - 1) * c .before .before .before .before .before .before .before .before .before .args .sizes .m + c .before .before .before .before .before .before .before .before .before .args .set < 4096
 inside c =
     let a = c .before .before .before .before .before .before .before .before .before .args in
     let N = c .before .before .loop .inv .3 in
-    table-fits (a .z .n) (a .z .m) (omega arith) (omega arith) (c .before .before .loop .next - 1) (a .set) (omega (arith, N .low, N .high)) (omega arith)
+    table-fits (a .sizes .n) (a .sizes .m) (omega arith) (omega arith) (c .before .before .loop .next - 1) (a .set) (omega (arith, N .low, N .high)) (omega arith)
 
 mul-slots : tie.Need-mul-slots Inv-loop μ-loop
 mul-slots c = omega (arith, inside c)
@@ -81,42 +81,42 @@ page-of-requires-2 c κs =
     let a = start .args in
     let T = start .pre .0 in
     let N = c .before .before .loop .inv .3 in
-    (T .given .n-high, T .given .m-high, omega arith, N .low, N .high, page-lt (moveOf (a .z) (a .list .now) (a .sets .now)) (a .pages .now) (a .from .now) T (a .set) (omega arith) (c .before .before .loop .next) (N .low) (N .high))
+    (T .given .ranges .n-high, T .given .ranges .m-high, omega arith, N .low, N .high, page-lt (moveOf (a .sizes) (a .list .now) (a .sets .now)) (a .pages .now) (a .from .now) T (a .set) (omega arith) (c .before .before .loop .next) (N .low) (N .high))
 
 -- its original, which is in the list
 original : (c : tie.After-page-of2 Inv-loop μ-loop)
     → (let a = c .before .before .before .before .before .before .before .before .before .before .args in
-    (c .page-of2 .result ≡ D (moveOf (a .z) (a .list .now) (a .sets .now)) (a .set) (c .before .before .before .loop .next)) × (c .page-of2 .result < length (a .list .now)))
+    (c .page-of2 .result ≡ D (moveOf (a .sizes) (a .list .now) (a .sets .now)) (a .set) (c .before .before .before .loop .next)) × (c .page-of2 .result < length (a .list .now)))
 original c =
     let start = c .before .before .before .before .before .before .before .before .before .before in
     let a = start .args in
     let T = start .pre .0 in
     let N = c .before .before .before .loop .inv .3 in
     let e = c .page-of2 .ensures (a .list .now) (a .sets .now) (a .from .now) T in
-    (e, page-in (moveOf (a .z) (a .list .now) (a .sets .now)) (T .given) (a .set) (omega arith) (c .before .before .before .loop .next) (c .page-of2 .result) (N .low) (N .high) e)
+    (e, page-in (moveOf (a .sizes) (a .list .now) (a .sets .now)) (T .given) (a .set) (omega arith) (c .before .before .before .loop .next) (c .page-of2 .result) (N .low) (N .high) e)
 
 goes-to-requires-2 : tie.Need-goes-to-requires-2 Inv-loop μ-loop
-goes-to-requires-2 c κs = (c .before .before .before .before .before .before .before .before .before .before .pre .0 .given .m-low, original c .1)
+goes-to-requires-2 c κs = (c .before .before .before .before .before .before .before .before .before .before .pre .0 .given .ranges .m-low, original c .1)
 
 -- the block after it
 after : (c : tie.After-goes-to2 Inv-loop μ-loop)
     → (let a = c .before .before .before .before .before .before .before .before .before .before .before .args in
-    Next (dest (moveOf (a .z) (a .list .now) (a .sets .now)) (a .set)) (a .z .n) (c .before .before .before .before .loop .next) (c .goes-to2 .result))
+    Next (dest (moveOf (a .sizes) (a .list .now) (a .sets .now)) (a .set)) (a .sizes .n) (c .before .before .before .before .loop .next) (c .goes-to2 .result))
 after c =
     let start = c .before .before .before .before .before .before .before .before .before .before .before in
     let a = start .args in
     let N = c .before .before .before .before .loop .inv .3 in
-    on-next (moveOf (a .z) (a .list .now) (a .sets .now)) (start .pre .0 .given) (a .set) (omega arith) (c .before .before .before .before .loop .next) (c .before .page-of2 .result) (c .goes-to2 .result) (N .low) (N .high) (original (c .before) .0) (c .goes-to2 .ensures)
+    on-next (moveOf (a .sizes) (a .list .now) (a .sets .now)) (start .pre .0 .given) (a .set) (omega arith) (c .before .before .before .before .loop .next) (c .before .page-of2 .result) (c .goes-to2 .result) (N .low) (N .high) (original (c .before) .0) (c .goes-to2 .ensures)
 
 full-of-requires : tie.Need-full-of-requires Inv-loop μ-loop
-full-of-requires c κs = omega (arith, block-in-marks ((c .before .before .before .before .before .before .before .before .before .before .before .args .z)) (c .goes-to2 .result) (after c .high))
+full-of-requires c κs = omega (arith, block-in-marks ((c .before .before .before .before .before .before .before .before .before .before .before .args .sizes)) (c .goes-to2 .result) (after c .high))
 
 home-requires : tie.Need-home-requires Inv-loop μ-loop
 home-requires c κs =
     let start = c .before .before .before .before .before .before .before .before .before .before .before .before .before in
     let a = start .args in
     let G = start .pre .0 .given in
-    (G .m-low, G .m-high, original (c .before .before .before) .1, list-short (moveOf (a .z) (a .list .now) (a .sets .now)) G (a .set) (omega arith))
+    (G .ranges .m-low, G .ranges .m-high, original (c .before .before .before) .1, list-short (moveOf (a .sizes) (a .list .now) (a .sets .now)) G (a .set) (omega arith))
 
 mul-slots-3 : tie.Need-mul-slots-3 Inv-loop μ-loop
 mul-slots-3 c = search needs
@@ -135,7 +135,7 @@ returns c =
     let start = c .before .before .before .before .before .before .before .before .before .before .before .before .before .before in
     let a = start .args in
     let l = c .before .before .before .before .before .before .before .loop in
-    let rest = on-final (moveOf (a .z) (a .list .now) (a .sets .now)) (start .pre .0 .given) (a .set) (omega arith) (a .marks .now) (l .v) (l .turns) (omega arith)
+    let rest = on-final (moveOf (a .sizes) (a .list .now) (a .sets .now)) (start .pre .0 .given) (a .set) (omega arith) (a .marks .now) (l .v) (l .turns) (omega arith)
     (l .next) (c .before .before .before .goes-to2 .result) (c .before .before .before .before .page-of2 .result) (l .inv .3 .is) (after (c .before .before .before) .is) (sym (c .before .before .full-of .ensures) ∙ c .before .if2 .taken) (original (c .before .before .before .before) .0) in
     record {
       slots-are = rw (c .home .ensures) (put-both (l .slots) (l .count) _ _ _ (omega arith) (l .inv .0) _ (omega arith) rest);
@@ -155,7 +155,7 @@ loop-again c =
     let start = c .before .before .before .before .before .before .before .before .before .before .before .before .before in
     let a = start .args in
     let l = c .before .before .before .before .before .before .loop in
-    let rest = on-turn (moveOf (a .z) (a .list .now) (a .sets .now)) (start .pre .0 .given) (a .set) (omega arith) (a .marks .now) (l .v) (l .turns) (omega arith)
+    let rest = on-turn (moveOf (a .sizes) (a .list .now) (a .sets .now)) (start .pre .0 .given) (a .set) (omega arith) (a .marks .now) (l .v) (l .turns) (omega arith)
     (l .next) (c .before .before .goes-to2 .result) (l .inv .3 .is) (after (c .before .before) .is) (sym (c .before .full-of .ensures) ∙ c .if2 .left) in
     (put-next (l .slots) (l .count) _ _ _ (omega arith) (l .inv .0) _ rest, omega arith, omega arith, after (c .before .before), simp length-set (l .inv .4), rest-more (l .slots) (a .slots .now) (l .count) _ (l .inv .5))
 
@@ -167,7 +167,7 @@ unfolding goOn
 returns-2 c =
     let a = c .before .before .before .before .before .before .before .before .before .args in
     let l = c .before .before .loop in
-    let none : a .z .n - l .turns ≡ 0 = omega arith in
+    let none : a .sizes .n - l .turns ≡ 0 = omega arith in
     record {
       slots-are = sym (append-nil (take (l .count) (l .slots))) ∙ rw none at (l .inv .0);
       rest-is = l .inv .5;

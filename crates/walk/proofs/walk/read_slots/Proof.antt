@@ -16,11 +16,11 @@ div-v : tie.Need-div-v
 div-v c = search needs
 
 -- original k is in the list, and in a data block
-listed : (c : tie.Start) → (c .args .k < length (c .args .list .now)) × (length (c .args .list .now) < 4097) × (c .args .k / c .args .z .m < c .args .z .n)
+listed : (c : tie.Start) → (c .args .k < length (c .args .list .now)) × (length (c .args .list .now) < 4097) × (c .args .k / c .args .sizes .m < c .args .sizes .n)
 listed c =
     let a = c .args in
     let G = c .pre .0 .given in
-    (omega (arith, G .list-length), omega (arith, list-short (moveOf (a .z) (a .list .now) (a .sets .now)) G 0 (G .m-low)), source-in (moveOf (a .z) (a .list .now) (a .sets .now)) G (a .k) (omega arith))
+    (omega (arith, G .list-length), omega (arith, list-short (moveOf (a .sizes) (a .list .now) (a .sets .now)) G 0 (G .ranges .m-low)), source-in (moveOf (a .sizes) (a .list .now) (a .sets .now)) G (a .k) (omega arith))
 
 add-v : tie.Need-add-v
 add-v c = omega (arith, listed (c .before .before .before .before))
@@ -34,16 +34,16 @@ wide-requires c κs = search needs
 -- where the rules start
 begins : (c : tie.After-wide)
     → (let a = c .before .before .before .before .before .before .args in
-    Starts (moveOf (a .z) (a .list .now) (a .sets .now)) (a .k) (c .wide .result))
+    Starts (moveOf (a .sizes) (a .list .now) (a .sets .now)) (a .k) (c .wide .result))
 begins c =
     let start = c .before .before .before .before .before .before in
     let a = start .args in
-    starts (moveOf (a .z) (a .list .now) (a .sets .now)) (start .pre .0 .given) (a .k) (c .wide .result) (omega arith) (c .wide .ensures)
+    starts (moveOf (a .sizes) (a .list .now) (a .sets .now)) (start .pre .0 .given) (a .k) (c .wide .result) (omega arith) (c .wide .ensures)
 
 full-of-requires : tie.Need-full-of-requires
 full-of-requires c κs =
     let a = c .before .before .before .before .before .before .args in
-    omega (arith, block-in-marks (a .z) (a .k / a .z .m + 1) (begins c .block .high))
+    omega (arith, block-in-marks (a .sizes) (a .k / a .sizes .m + 1) (begins c .block .high))
 
 home-requires : tie.Need-home-requires
 home-requires c κs = omega (arith, listed (c .before .before .before .before .before .before .before .before))
@@ -66,27 +66,27 @@ returns c =
     let a = start .args in
     let f = sym (c .before .before .full-of .ensures) ∙ c .before .if1 .taken in
     record {
-      slots-are = rw (c .home .ensures) (put-last (a .slots .now) (a .at) _ _ _ (omega arith) refl (read-plain (moveOf (a .z) (a .list .now) (a .sets .now)) (start .pre .0 .given) (a .marks .now) (a .k) _ (begins (c .before .before .before)) f));
+      slots-are = rw (c .home .ensures) (put-last (a .slots .now) (a .at) _ _ _ (omega arith) refl (read-plain (moveOf (a .sizes) (a .list .now) (a .sets .now)) (start .pre .0 .given) (a .marks .now) (a .k) _ (begins (c .before .before .before)) f));
       rest-is = rest-more (a .slots .now) (a .slots .now) (a .at) _ refl;
       some = omega arith;
       few = omega arith;
     }
 
 goes-to-requires : tie.Need-goes-to-requires
-goes-to-requires c κs = (c .before .before .before .before .before .before .before .before .pre .0 .given .m-low, listed (c .before .before .before .before .before .before .before .before) .0)
+goes-to-requires c κs = (c .before .before .before .before .before .before .before .before .pre .0 .given .ranges .m-low, listed (c .before .before .before .before .before .before .before .before) .0)
 
 -- the destination block
 next : (c : tie.After-goes-to)
     → (let a = c .before .before .before .before .before .before .before .before .before .args in
-    Next (dest (moveOf (a .z) (a .list .now) (a .sets .now)) (c .before .before .before .wide .result)) (a .z .n) (a .k / a .z .m + 1) (c .goes-to .result))
+    Next (dest (moveOf (a .sizes) (a .list .now) (a .sets .now)) (c .before .before .before .wide .result)) (a .sizes .n) (a .k / a .sizes .m + 1) (c .goes-to .result))
 next c =
     let start = c .before .before .before .before .before .before .before .before .before in
     let a = start .args in
     let S = begins (c .before .before .before) in
-    on-next (moveOf (a .z) (a .list .now) (a .sets .now)) (start .pre .0 .given) (c .before .before .before .wide .result) (S .set-ok) (a .k / a .z .m + 1) (a .k) (c .goes-to .result) (S .block .low) (S .block .high) (S .page-is) (c .goes-to .ensures)
+    on-next (moveOf (a .sizes) (a .list .now) (a .sets .now)) (start .pre .0 .given) (c .before .before .before .wide .result) (S .set-ok) (a .k / a .sizes .m + 1) (a .k) (c .goes-to .result) (S .block .low) (S .block .high) (S .page-is) (c .goes-to .ensures)
 
 full-of-requires-2 : tie.Need-full-of-requires-2
-full-of-requires-2 c κs = omega (arith, block-in-marks ((c .before .before .before .before .before .before .before .before .before .args .z)) (c .goes-to .result) (next c .high))
+full-of-requires-2 c κs = omega (arith, block-in-marks ((c .before .before .before .before .before .before .before .before .before .args .sizes)) (c .goes-to .result) (next c .high))
 
 home-requires-2 : tie.Need-home-requires-2
 home-requires-2 c κs = omega (arith, listed (c .before .before .before .before .before .before .before .before .before .before .before))
@@ -110,7 +110,7 @@ returns-2 c =
     let plain = sym (c .before .before .before .before .before .full-of .ensures) ∙ c .before .before .before .before .if1 .left in
     let f = sym (c .before .before .full-of2 .ensures) ∙ c .before .if2 .taken in
     record {
-      slots-are = rw (c .home2 .ensures) (put-last (a .slots .now) (a .at) _ _ _ (omega arith) refl (read-final (moveOf (a .z) (a .list .now) (a .sets .now)) (start .pre .0 .given) (a .marks .now) (a .k) _ (begins (c .before .before .before .before .before .before)) _ (next (c .before .before .before)) plain f));
+      slots-are = rw (c .home2 .ensures) (put-last (a .slots .now) (a .at) _ _ _ (omega arith) refl (read-final (moveOf (a .sizes) (a .list .now) (a .sets .now)) (start .pre .0 .given) (a .marks .now) (a .k) _ (begins (c .before .before .before .before .before .before)) _ (next (c .before .before .before)) plain f));
       rest-is = rest-more (a .slots .now) (a .slots .now) (a .at) _ refl;
       some = omega arith;
       few = omega arith;
@@ -122,25 +122,25 @@ top-of-requires c κs =
     let a = start .args in
     let T = start .pre .0 in
     let S = begins (c .before .before .before .before .before) in
-    (T .given .n-high, T .given .m-high, S .set-ok, S .block .low, S .block .high, leads (moveOf (a .z) (a .list .now) (a .sets .now)) (a .pages .now) (a .from .now) T (c .before .before .before .before .before .wide .result) (S .set-ok))
+    (T .given .ranges .n-high, T .given .ranges .m-high, S .set-ok, S .block .low, S .block .high, leads (moveOf (a .sizes) (a .list .now) (a .sets .now)) (a .pages .now) (a .from .now) T (c .before .before .before .before .before .wide .result) (S .set-ok))
 
 -- the top of the cycle
 highest : (c : tie.After-top-of)
     → (let a = c .before .before .before .before .before .before .before .before .before .before .before .before .args in
-    TopIs (moveOf (a .z) (a .list .now) (a .sets .now)) (c .before .before .before .before .before .before .wide .result) (a .k / a .z .m + 1) (c .top-of .result))
+    TopIs (moveOf (a .sizes) (a .list .now) (a .sets .now)) (c .before .before .before .before .before .before .wide .result) (a .k / a .sizes .m + 1) (c .top-of .result))
 highest c =
     let start = c .before .before .before .before .before .before .before .before .before .before .before .before in
     let a = start .args in
     let T = start .pre .0 in
     let S = begins (c .before .before .before .before .before .before) in
-    top-is (moveOf (a .z) (a .list .now) (a .sets .now)) (T .given) (c .before .before .before .before .before .before .wide .result) (a .k / a .z .m + 1) (c .top-of .result) (S .set-ok) (S .block) (c .top-of .ensures (a .list .now) (a .sets .now) (a .pages .now) T)
+    top-is (moveOf (a .sizes) (a .list .now) (a .sets .now)) (T .given) (c .before .before .before .before .before .before .wide .result) (a .k / a .sizes .m + 1) (c .top-of .result) (S .set-ok) (S .block) (c .top-of .ensures (a .list .now) (a .sets .now) (a .pages .now) T)
 
 goes-back-requires : tie.Need-goes-back-requires
 goes-back-requires c κs =
     let start = c .before .before .before .before .before .before .before .before .before .before .before .before in
     let G = start .pre .0 .given in
     let H = highest c in
-    (G .m-low, G .n-high, G .s-high, H .low, H .high, start .pre .1 .0)
+    (G .ranges .m-low, G .ranges .n-high, G .ranges .s-high, H .low, H .high, start .pre .1 .0)
 
 go-back-requires : tie.Need-go-back-requires
 go-back-requires c κs =
@@ -164,7 +164,7 @@ returns-3 c =
     let plain = sym (c .before .before .before .before .before .before .before .before .before .before .before .full-of .ensures) ∙ c .before .before .before .before .before .before .before .before .before .before .if1 .left in
     let final = sym (c .before .before .before .before .before .before .before .before .full-of2 .ensures) ∙ c .before .before .before .before .before .before .before .if2 .left in
     let t = sym (c .before .before .before .before .before .goes-back .ensures) ∙ c .before .before .before .before .if3 .taken in
-    rw (read-back (moveOf (a .z) (a .list .now) (a .sets .now)) (start .pre .0 .given) (a .marks .now) (a .k) _ (begins (c .before .before .before .before .before .before .before .before .before .before .before .before)) _ (next (c .before .before .before .before .before .before .before .before .before)) plain _ (highest (c .before .before .before .before .before .before)) final t) (c .before .before .go-back .ensures)
+    rw (read-back (moveOf (a .sizes) (a .list .now) (a .sets .now)) (start .pre .0 .given) (a .marks .now) (a .k) _ (begins (c .before .before .before .before .before .before .before .before .before .before .before .before)) _ (next (c .before .before .before .before .before .before .before .before .before)) plain _ (highest (c .before .before .before .before .before .before)) final t) (c .before .before .go-back .ensures)
 
 same-length-4 : tie.Need-same-length-4
 same-length-4 c = search needs
@@ -176,7 +176,7 @@ returns-4 c =
     let plain = sym (c .before .before .before .before .before .before .before .before .before .before .before .full-of .ensures) ∙ c .before .before .before .before .before .before .before .before .before .before .if1 .left in
     let final = sym (c .before .before .before .before .before .before .before .before .full-of2 .ensures) ∙ c .before .before .before .before .before .before .before .if2 .left in
     let t = sym (c .before .before .before .before .before .goes-back .ensures) ∙ c .before .before .before .before .if3 .left in
-    rw (read-on (moveOf (a .z) (a .list .now) (a .sets .now)) (start .pre .0 .given) (a .marks .now) (a .k) _ (begins (c .before .before .before .before .before .before .before .before .before .before .before .before)) _ (next (c .before .before .before .before .before .before .before .before .before)) plain _ (highest (c .before .before .before .before .before .before)) final t) (c .before .before .go-on .ensures)
+    rw (read-on (moveOf (a .sizes) (a .list .now) (a .sets .now)) (start .pre .0 .given) (a .marks .now) (a .k) _ (begins (c .before .before .before .before .before .before .before .before .before .before .before .before)) _ (next (c .before .before .before .before .before .before .before .before .before)) plain _ (highest (c .before .before .before .before .before .before)) final t) (c .before .before .go-on .ensures)
 
 pub read-slots-spec : {M : Type 1} → statement M
 read-slots-spec =

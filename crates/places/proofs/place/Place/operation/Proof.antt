@@ -21,7 +21,7 @@ add-turn : tie.Need-add-turn
 add-turn c = search needs
 
 mul-half : tie.Need-mul-half
-mul-half c = record { fits = omega (arith, half-fits (c .args .z .n) (c .args .z .m) (omega arith) (omega arith)) }
+mul-half c = record { fits = omega (arith, half-fits (c .args .sizes .n) (c .args .sizes .m) (omega arith) (omega arith)) }
 
 rem-page : tie.Need-rem-page
 rem-page c = search needs
@@ -36,19 +36,19 @@ returns : tie.Need-returns
 unfolding letter
 returns c =
     let a = c .before .before .before .args in
-    ap (Write false (a .self .at / (a .z .m + 1)) (a .self .at % (a .z .m + 1))) (c .letter-after .ensures)
-    ∙ sym (forward-write (a .z) (a .self .at) (c .before .before .if1 .taken) (c .before .if2 .taken))
+    ap (Write false (a .self .at / (a .sizes .m + 1)) (a .self .at % (a .sizes .m + 1))) (c .letter-after .ensures)
+    ∙ sym (forward-write (a .sizes) (a .self .at) (c .before .before .if1 .taken) (c .before .if2 .taken))
 
 add-t14 : tie.Need-add-t14
-add-t14 c = record { fits = omega (arith, forward-few (c .before .before .args .z .n) (c .before .before .args .z .m) (c .before .before .args .self .at) (c .before .if1 .taken)) }
+add-t14 c = record { fits = omega (arith, forward-few (c .before .before .args .sizes .n) (c .before .before .args .sizes .m) (c .before .before .args .self .at) (c .before .if1 .taken)) }
 
 returns-2 : tie.Need-returns-2
 returns-2 c =
     let a = c .before .before .args in
-    sym (forward-erase (a .z) (a .self .at) (c .before .if1 .taken) (c .if2 .left))
+    sym (forward-erase (a .sizes) (a .self .at) (c .before .if1 .taken) (c .if2 .left))
 
 add-if3 : tie.Need-add-if3
-add-if3 c = record { fits = omega (arith, half-fits (c .before .args .z .n) (c .before .args .z .m) (omega arith) (omega arith)) }
+add-if3 c = record { fits = omega (arith, half-fits (c .before .args .sizes .n) (c .before .args .sizes .m) (omega arith) (omega arith)) }
 
 div-block-2 : tie.Need-div-block-2
 div-block-2 c = search needs
@@ -56,7 +56,7 @@ div-block-2 c = search needs
 sub-block : tie.Need-sub-block
 sub-block c =
     let a = c .before .before .args in
-    let low = back-block (a .z) (a .self .at) (c .before .if1 .left) (c .if3 .taken) in
+    let low = back-block (a .sizes) (a .self .at) (c .before .if1 .left) (c .if3 .taken) in
     omega arith
 
 letter-after-requires-2 : tie.Need-letter-after-requires-2
@@ -66,23 +66,23 @@ returns-3 : tie.Need-returns-3
 unfolding letter
 returns-3 c =
     let a = c .before .before .before .before .args in
-    ap (Write true (a .z .n - (a .self .at - a .z .n * (a .z .m + 1)) / (a .z .m + 1)) (a .self .at % (a .z .m + 1))) (c .letter-after2 .ensures)
-    ∙ sym (backward-write (a .z) (a .self .at) (c .before .before .before .if1 .left) (c .before .before .if3 .taken) (c .before .if4 .taken))
+    ap (Write true (a .sizes .n - (a .self .at - a .sizes .n * (a .sizes .m + 1)) / (a .sizes .m + 1)) (a .self .at % (a .sizes .m + 1))) (c .letter-after2 .ensures)
+    ∙ sym (backward-write (a .sizes) (a .self .at) (c .before .before .before .if1 .left) (c .before .before .if3 .taken) (c .before .if4 .taken))
 
 sub-t16 : tie.Need-sub-t16
 sub-t16 c =
     let a = c .before .before .before .args in
-    back-block (a .z) (a .self .at) (c .before .before .if1 .left) (c .before .if3 .taken)
+    back-block (a .sizes) (a .self .at) (c .before .before .if1 .left) (c .before .if3 .taken)
 
 returns-4 : tie.Need-returns-4
 returns-4 c =
     let a = c .before .before .before .args in
-    sym (backward-erase (a .z) (a .self .at) (c .before .before .if1 .left) (c .before .if3 .taken) (c .if4 .left))
+    sym (backward-erase (a .sizes) (a .self .at) (c .before .before .if1 .left) (c .before .if3 .taken) (c .if4 .left))
 
 returns-5 : tie.Need-returns-5
 returns-5 c =
     let a = c .before .before .args in
-    sym (all-done (a .z) (a .self .at) (c .if3 .left))
+    sym (all-done (a .sizes) (a .self .at) (c .if3 .left))
 
 pub operation-spec : {M : Type 1} → statement M
 operation-spec =

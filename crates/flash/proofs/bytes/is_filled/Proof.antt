@@ -1,0 +1,48 @@
+use mathlib.Core.Path.{_≡_, refl, _∙_}
+use Prim.Native.Nat.{_≤_, _<_, _-_}
+use native.Mathlib.Omega.{arith}
+use lib.Dec.{eqb}
+use lib.ListN.{length, take}
+use lib.Seq.{take-length}
+use Rattle.flash.specs.Lists.{all}
+use Rattle.flash.proofs.Loops.{filled-more}
+use Rattle.flash.proofs.bytes.is_filled.Statement.{statement}
+use Rattle.flash.proofs.bytes.is_filled.Tie as tie
+
+-- no bit differs while each byte before i is the value
+abbrev Inv-loop : tie.InvT-loop
+Inv-loop bytes value different₀ i₀ different i =
+    (i ≤ length bytes) × (eqb different 0 ≡ all (λ byte. eqb byte value) (take i bytes))
+
+abbrev μ-loop : tie.MeasureT-loop
+μ-loop bytes value different₀ i₀ different i = length bytes - i
+
+loop-holds : tie.Need-loop-holds Inv-loop μ-loop
+unfolding all
+loop-holds c = (omega arith, refl)
+
+shared-slice-read-different : tie.Need-shared-slice-read-different Inv-loop μ-loop
+shared-slice-read-different c = omega arith
+
+add-i : tie.Need-add-i Inv-loop μ-loop
+add-i c = omega arith
+
+loop-less : tie.Need-loop-less Inv-loop μ-loop
+loop-less c = omega arith
+
+loop-again : tie.Need-loop-again Inv-loop μ-loop
+loop-again c =
+    let l = c .before .before .loop in
+    let inside : l .i < length (c .before .before .before .args .bytes .now) = omega arith in
+    (omega arith, filled-more _ _ (l .different) _ inside (l .inv .1))
+
+returns : tie.Need-returns Inv-loop μ-loop
+returns c =
+    let l = c .before .loop in
+    let end : l .i ≡ length (c .before .before .args .bytes .now) = omega arith in
+    l .inv .1 ∙ rw (end, take-length)
+
+pub is-filled-spec : {M : Type 1} → statement M
+is-filled-spec =
+    tie.close
+    (tie.spec Inv-loop μ-loop loop-holds shared-slice-read-different add-i loop-less loop-again returns)

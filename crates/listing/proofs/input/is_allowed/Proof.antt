@@ -1,0 +1,12 @@
+use Rattle.flash.specs.Geometry.{isLetter}
+use Rattle.listing.specs.Input.{isAllowed}
+use borrow.Author.Needs.{needs}
+use Rattle.listing.proofs.input.is_allowed.Statement.{statement}
+use Rattle.listing.proofs.input.is_allowed.Tie as tie
+
+returns : tie.Need-returns
+unfolding isAllowed isLetter
+returns c = search needs
+
+pub is-allowed-spec : {M : Type 1} → statement M
+is-allowed-spec = tie.close (tie.spec returns)

@@ -1,0 +1,154 @@
+// Number 5: whether store and marks are as a place has them.
+ghost use mathlib.Core.Path.{_≡_};
+ghost use mathlib.Core.Bool.{cond, _&&_, not};
+ghost use mathlib.Core.List.{List};
+ghost use Prim.Native.Nat.{ℕ, _+_, _*_, _≤_, _<_};
+ghost use lib.Dec.{eqb, ltb};
+ghost use lib.ListN.{length};
+ghost use Rattle.method.specs.Move.{moveOf};
+ghost use Rattle.flash.specs.Lists.{range, any, isSame};
+ghost use Rattle.flash.specs.Chip.{erased, markAt, isBlank};
+ghost use Rattle.method.specs.Place as method;
+ghost use Rattle.method.specs.Place.{lastPlace, marksOf};
+ghost use Rattle.method.specs.Answers.{isElsewhere};
+ghost use Rattle.places.specs.inner.Stands.{Within, MarksDue, blockStands};
+use crate::place::last_place;
+use flash::ERASED;
+use flash::block::is_full;
+use flash::page::is_blank;
+use flash::sizes::Sizes;
+use flash::sizes::letter_after;
+
+// The block that is being filled at a place.
+fn filling(sizes: Sizes, place: usize) -> usize
+    requires { ⌜ Within sizes × (place ≤ lastPlace sizes) ⌝ }
+    ensures { λ r. ⌜ r ≡ method.filling sizes place ⌝ }
+{
+    let turn = sizes.m + 1;
+    let half = sizes.n * turn;
+    if place < half {
+        place / turn
+    } else {
+        sizes.n - (place - half) / turn
+    }
+}
+
+// The marks that a block has at a place: the first `written` are the letter, the others 255.
+struct Due {
+    letter: u8,
+    written: usize,
+}
+
+fn marks_due(sizes: Sizes, place: usize, block: usize) -> Due
+    requires { ⌜ Within sizes × (place ≤ lastPlace sizes) ⌝ }
+    ensures { λ r. ⌜ MarksDue sizes place block (r .letter) (r .written) ⌝ }
+{
+    let m = sizes.m;
+    let b = filling(sizes, place);
+    let filled = place % (m + 1);
+    if block < b {
+        return Due {
+            letter: letter_after(sizes, 1),
+            written: m,
+        };
+    }
+    if place < sizes.n * (m + 1) {
+        if b < block {
+            return Due {
+                letter: letter_after(sizes, 0),
+                written: m,
+            };
+        }
+        return Due {
+            letter: letter_after(sizes, 1),
+            written: filled,
+        };
+    }
+    if b < block {
+        return Due {
+            letter: letter_after(sizes, 2),
+            written: m,
+        };
+    }
+    Due {
+        letter: letter_after(sizes, 2),
+        written: filled,
+    }
+}
+
+// The mark of a page, where the first `written` pages have the letter.
+fn mark_due(letter: u8, written: usize, page: usize) -> u8
+    ensures { λ r. ⌜ r ≡ cond (ltb page written) letter erased ⌝ }
+{
+    if page < written { letter } else { ERASED }
+}
+
+// Whether a block has the marks that it has at a place. All blocks but one are full of a letter, which is tested faster.
+fn block_stands(sizes: Sizes, marks: &[u8], place: usize, block: usize) -> bool
+    requires { ⌜ Within sizes × (place ≤ lastPlace sizes) × (block * sizes .m + sizes .m ≤ length (now marks)) ⌝ }
+    ensures { λ r. ⌜ r ≡ blockStands sizes (now (marks .entry)) place block ⌝ }
+{
+    let m = sizes.m;
+    let due = marks_due(sizes, place, block);
+    let letter = due.letter;
+    let written = due.written;
+    if written == m {
+        return is_full(marks, m, block, letter);
+    }
+    let mut page = 0;
+    while page < m {
+        if marks[block * m + page] != mark_due(letter, written, page) {
+            return false;
+        }
+        page += 1;
+    }
+    true
+}
+
+// Whether the marks are those that the place has.
+fn marks_stand(sizes: Sizes, marks: &[u8], place: usize) -> bool
+    requires { ⌜ Within sizes × (place ≤ lastPlace sizes) × (length (now marks) ≡ (sizes .n + 1) * sizes .m) ⌝ }
+    ensures { λ r. ⌜ r ≡ isSame (now (marks .entry)) (marksOf sizes place) ⌝ }
+{
+    let mut block = 0;
+    while block <= sizes.n {
+        if !block_stands(sizes, marks, place, block) {
+            return false;
+        }
+        block += 1;
+    }
+    true
+}
+
+// Whether a slot marked 255 is not blank.
+fn some_torn(p: usize, store: &[u8], marks: &[u8]) -> bool
+    requires { ⌜ length (now store) ≡ length (now marks) * p ⌝ }
+    ensures { λ r. ⌜ r ≡ any (λ t. eqb (markAt (now (marks .entry)) t) erased && not
+        (isBlank p (record { store = now (store .entry); marks = now (marks .entry) }) t)) (range 0 (length (now (marks .entry)))) ⌝ }
+{
+    let mut t = 0;
+    while t < marks.len() {
+        if marks[t] == ERASED {
+            if !is_blank(store, marks, p, t) {
+                return true;
+            }
+        }
+        t += 1;
+    }
+    false
+}
+
+// The three grounds of number 5.
+pub fn is_elsewhere(sizes: Sizes, store: &[u8], marks: &[u8], place: usize) -> bool
+    requires { ⌜ Within sizes × (length (now marks) ≡ (sizes .n + 1) * sizes .m) × (length (now store) ≡ (sizes .n + 1) * sizes .m * sizes .p) ⌝ }
+    ensures { λ r. ⌜ ((list sets : List ℕ) → r
+        ≡ isElsewhere (moveOf sizes list sets) (record { store = now (store .entry); marks = now (marks .entry) }) place) ⌝ }
+{
+    if last_place(sizes) < place {
+        return true;
+    }
+    if !marks_stand(sizes, marks, place) {
+        return true;
+    }
+    some_torn(sizes.p, store, marks)
+}

@@ -1,0 +1,15 @@
+-- What split, run and read are asked to do: the sizes, and the lent parts that say where each page goes. Only the rows of the table and
+-- the answers of the calls see it.
+use mathlib.Core.List.{List}
+use Prim.Native.Nat.{ℕ}
+use Rattle.flash.specs.declared.sizes.Sizes.{Sizes}
+
+pub record Request : Type 0 where
+  pub sizes : Sizes
+  -- entry k is the page number where original k goes
+  pub list : List ℕ
+  -- entry k is the set of original k; split fills them
+  pub sets : List ℕ
+
+abbrev pub requestOf : Sizes → (list sets : List ℕ) → Request
+requestOf sizes list sets = record { sizes = sizes; list = list; sets = sets }
