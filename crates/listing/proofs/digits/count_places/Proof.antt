@@ -1,3 +1,4 @@
+-- `count_places` counts the decimal digits of a number, for the space that a printed number takes.
 use Rattle.listing.specs.Digits.{places, placesUpTo}
 use Rattle.listing.proofs.DigitLaws.{one-place, more-places}
 use mathlib.Core.Path.{_≡_}

@@ -1,3 +1,4 @@
+-- `digit_of` gives the character of a digit, decimal or hexadecimal.
 use borrow.Author.Tests.{lt-ltb, le-ltb}
 use Rattle.listing.specs.Digits.{digitOf}
 use borrow.Author.Needs.{needs}

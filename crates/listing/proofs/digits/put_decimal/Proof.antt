@@ -1,3 +1,4 @@
+-- `put_decimal` prints a number in decimal and leaves the rest of the area.
 use Rattle.listing.specs.Digits.{places, decimal}
 use Rattle.listing.proofs.DigitLaws.{length-digits}
 use native.Mathlib.Omega.{arith}

@@ -1,3 +1,4 @@
+-- `put_digits` prints so many digits of a number, lowest first from the right, and leaves the rest of the area.
 use mathlib.Core.List.{_++_}
 use native.Mathlib.Nat.{mod-lt}
 use lib.ListN.{length, take, drop, take-append-drop, length-set}

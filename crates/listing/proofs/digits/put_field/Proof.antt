@@ -1,3 +1,4 @@
+-- `put_field` prints a text and a number behind it: the parts of a line.
 use native.Mathlib.Omega.{arith}
 use lib.ListN.{length-append}
 use Rattle.listing.proofs.PrintLaws.{printed-then}

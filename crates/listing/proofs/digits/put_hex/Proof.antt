@@ -1,3 +1,4 @@
+-- `put_hex` prints a byte as two hexadecimal digits.
 use lib.Seq.{length-take-le, take-length}
 use Rattle.listing.proofs.PrintLaws.{nothing-printed, printed-then, hex-more, length-hex}
 use lib.ListN.{length, take}

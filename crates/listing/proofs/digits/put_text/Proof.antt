@@ -1,3 +1,4 @@
+-- `put_text` copies a text into the area and leaves the rest of it.
 use mathlib.Core.List.{_++_, append-nil}
 use lib.ListN.{length, take, drop, length-set}
 use lib.Seq.{take-length}

@@ -1,3 +1,4 @@
+-- `fit` tells whether every number is at most `most`, before numbers are cut to fewer bits.
 use native.Mathlib.Omega.{arith}
 use mathlib.Core.Path.{_≡_, sym}
 use mathlib.Core.Bool.{true}

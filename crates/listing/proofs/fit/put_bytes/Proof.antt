@@ -1,3 +1,4 @@
+-- `put_bytes` copies numbers that fit into bytes: the originals of the store.
 use native.Mathlib.Omega.{arith}
 use mathlib.Core.Path.{_≡_, refl, _∙_}
 use mathlib.Core.List.{_++_, append-nil}

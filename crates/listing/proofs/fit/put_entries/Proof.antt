@@ -1,3 +1,4 @@
+-- `put_entries` copies numbers that fit into entries of 16 bits: the list.
 use native.Mathlib.Omega.{arith}
 use mathlib.Core.Path.{_≡_, refl, _∙_}
 use mathlib.Core.List.{_++_, append-nil}

@@ -1,3 +1,4 @@
+-- `fill` reads numbers into the area until it is full or the input has no further number.
 use native.Mathlib.Omega.{arith}
 use mathlib.Core.Path.{_≡_, refl, sym, ap, _∙_}
 use mathlib.Core.List.{[], _++_}

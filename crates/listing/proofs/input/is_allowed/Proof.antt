@@ -1,3 +1,4 @@
+-- `is_allowed` tests the program's own limits of the sizes.
 use Rattle.flash.specs.Geometry.{isLetter}
 use Rattle.listing.specs.Input.{isAllowed}
 use borrow.Author.Needs.{needs}

@@ -1,3 +1,4 @@
+-- `is_end` tells whether no word is left behind a position.
 use mathlib.Core.Path.{sym, ap, _∙_}
 use lib.ListN.{drop}
 use Rattle.listing.specs.declared.number.Word.{Word}

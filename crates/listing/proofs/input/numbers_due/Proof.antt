@@ -1,3 +1,4 @@
+-- `numbers_due` is the number of entries and bytes that follow the sizes.
 use native.Mathlib.Omega.{arith}
 use mathlib.Core.Path.{refl}
 use Prim.Native.Nat.{ℕ, _*_, _≤_}

@@ -1,3 +1,4 @@
+-- `read` answers for every text what its input asks for, and leaves its numbers in the area.
 use native.Mathlib.Omega.{arith}
 use mathlib.Core.Path.{sym, ap, _∙_}
 use mathlib.Core.Bool.{true, false}

@@ -1,3 +1,4 @@
+-- `read_numbers` tells whether exactly the numbers due stand in the input, bytes to 255.
 use native.Mathlib.Omega.{arith}
 use mathlib.Core.Path.{_≡_, sym, ap, _∙_}
 use mathlib.Core.List.{_++_}

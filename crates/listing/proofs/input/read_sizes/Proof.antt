@@ -1,3 +1,4 @@
+-- `read_sizes` reads the four sizes, or tells that they cannot be read.
 use mathlib.Core.Path.{sym, ap, _∙_}
 use Rattle.listing.specs.ReaderAnswers.{filledAs}
 use Rattle.listing.proofs.TakeLaws.{four-are}

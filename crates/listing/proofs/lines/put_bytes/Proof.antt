@@ -1,3 +1,4 @@
+-- `put_bytes` prints a space and the bytes of a page.
 use native.Mathlib.Omega.{arith}
 use Rattle.listing.proofs.PrintLaws.{printed-then}
 use borrow.Author.Needs.{needs}

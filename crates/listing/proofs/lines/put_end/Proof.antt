@@ -1,3 +1,4 @@
+-- `put_end` prints the end line with writes and erases.
 use native.Mathlib.Omega.{arith}
 use lib.ListN.{length-append}
 use Rattle.listing.specs.Lines.{endLine}

@@ -1,3 +1,4 @@
+-- `put_erase` prints the line of an erase.
 use native.Mathlib.Omega.{arith}
 use lib.ListN.{length-append}
 use Rattle.listing.specs.Lines.{eraseLine}

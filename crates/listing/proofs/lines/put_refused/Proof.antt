@@ -1,3 +1,4 @@
+-- `put_refused` prints the line of a refusal with its number.
 use native.Mathlib.Omega.{arith}
 use lib.ListN.{length-append}
 use Rattle.listing.specs.Lines.{refusedLine}

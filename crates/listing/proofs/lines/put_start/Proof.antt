@@ -1,3 +1,4 @@
+-- `put_start` prints what the lines of all steps begin with.
 use native.Mathlib.Omega.{arith}
 use lib.ListN.{length-append}
 use Rattle.listing.proofs.PrintLaws.{printed-then}

@@ -1,3 +1,4 @@
+-- `put_unreadable` prints the line for an input that cannot be read.
 use Rattle.listing.specs.Lines.{unreadableLine}
 use borrow.Author.Needs.{needs}
 use Rattle.listing.proofs.lines.put_unreadable.Statement.{statement}

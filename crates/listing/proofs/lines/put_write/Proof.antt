@@ -1,3 +1,4 @@
+-- `put_write` prints the line of a write with the page's bytes.
 use native.Mathlib.Omega.{arith}
 use lib.ListN.{length-append}
 use Rattle.listing.specs.Lines.{writeLine}

@@ -1,3 +1,4 @@
+-- `is_digit` tells the ten digits from all other bytes.
 use Rattle.listing.specs.Numbers.{isDigit}
 use borrow.Author.Needs.{needs}
 use Rattle.listing.proofs.number.is_digit.Statement.{statement}

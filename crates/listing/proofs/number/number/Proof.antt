@@ -1,3 +1,4 @@
+-- `number` finds the next word from a position on and tells whether it is a number.
 use mathlib.Core.Path.{ap, _∙_}
 use Rattle.listing.specs.Numbers.{next}
 use borrow.Author.Needs.{needs}

@@ -1,3 +1,4 @@
+-- `skip` finds the next byte that is no separator.
 use native.Mathlib.Omega.{arith}
 use mathlib.Core.Path.{_≡_, refl, sym, _∙_}
 use Prim.Native.Nat.{_-_}

@@ -1,3 +1,4 @@
+-- `spelled` reads the word at a position as a number of at most five digits.
 use native.Mathlib.Omega.{arith}
 use mathlib.Core.Path.{_≡_, sym, _∙_}
 use mathlib.Core.Bool.{true, false}
