@@ -69,7 +69,7 @@ malformed-first begun text h f =
     let w = first-word begun text h in
     rw (w .2, f (w .0))
 
--- "decimal numbers of 1 to 5 digits"
+-- rule 9.1: at most five digits
 pub number-of : (word : List ℕ) → 1 ≤ length word → length word ≤ 5 → all isDigit word ≡ true → numberOf word ≡ some (spelled 0 word)
 unfolding numberOf
 number-of word h l e = rw (le-leb 1 (length word) h, le-leb (length word) 5 l, e)

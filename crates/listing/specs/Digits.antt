@@ -1,4 +1,4 @@
--- Numbers as text: "the page and its bytes in lowercase hexadecimal, two digits each", all other numbers in decimal.
+-- Rule 9.6: numbers as text. The bytes of a page are hexadecimal, all other numbers decimal.
 use mathlib.Core.Bool.{cond}
 use mathlib.Core.List.{List, [], _∷_, _++_}
 use Prim.Native.Nat.{ℕ, zero, suc, _+_, _/_, _%_}

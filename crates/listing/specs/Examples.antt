@@ -20,7 +20,7 @@ parted separator numbers = concatMap (λ n. decimal n ++ (separator ∷ [])) num
 abbrev spaced : (numbers : List ℕ) → List ℕ
 spaced numbers = parted 32 numbers
 
--- document 01's input: `3 1 1 0 1 2 0 1 2 4`
+-- the worked input: `3 1 1 0 1 2 0 1 2 4`
 abbrev three : List ℕ
 three = 3 ∷ 1 ∷ 1 ∷ 0 ∷ 1 ∷ 2 ∷ 0 ∷ []
 

@@ -1,4 +1,4 @@
--- Document 01, "The step program": what its input asks for. "being n m P s, the list, then the originals' bytes"
+-- Rules 9.1 to 9.4: what an input of the step program asks for.
 use mathlib.Core.Bool.{Bool, cond, _&&_}
 use mathlib.Core.List.{List, [], _∷_, _++_}
 use mathlib.Core.Option.{Option, none, some}
@@ -17,18 +17,18 @@ pub data Input : Type 0 where
   -- The list's entries are numbers as they were written, to 99999: whether the list is a good one is judged later.
   request : Sizes → (list bytes : List ℕ) → Input
 
--- "It allows n and m to 8, P to 64": "one outside these limits, or s above 2, gives `refused 1`"
+-- rules 9.2 and 9.3: the program's own limits
 unfoldable pub isAllowed : Sizes → Bool
 isAllowed Z = leb 1 (Z .n) && leb (Z .n) 8 && leb 1 (Z .m) && leb (Z .m) 8 && leb 1 (Z .p) && leb (Z .p) 64 && isLetter (Z .s)
 
 abbrev pub sizesFrom : (values : List ℕ) → Sizes
 sizesFrom values = record { n = getD values 0 0; m = getD values 1 0; p = getD values 2 0; s = getD values 3 0 }
 
--- "the list, then the originals' bytes": n × m entries, and P bytes for each original
+-- rule 9.1: n × m entries, and P bytes for each original
 abbrev pub numbersDue : Sizes → ℕ
 numbersDue Z = originalCount Z + originalCount Z * Z .p
 
--- "Then anything but exactly the numbers due, bytes to 255, gives `unreadable`": the first `count` of them are the list.
+-- Rule 9.4: the numbers due and no others. The first `count` of them are the list, the rest are bytes.
 unfoldable pub exactly : (count : ℕ) → Option Taken → Option (List ℕ)
 exactly count none = none
 exactly count (some due) =
@@ -38,7 +38,7 @@ unfoldable pub requested : Sizes → Option (List ℕ) → Input
 requested Z none = unreadable
 requested Z (some due) = request Z (take (originalCount Z) due) (drop (originalCount Z) due)
 
--- "First the four sizes are read; one outside these limits .. gives `refused 1` and the rest is not looked at."
+-- rule 9.3: the sizes are judged before anything behind them is read
 unfoldable pub afterSizes : Option Taken → Input
 afterSizes none = unreadable
 afterSizes (some sizes) =
@@ -58,7 +58,7 @@ metAfter (some sizes) =
 unfoldable pub numbersPut : (text : List ℕ) → List ℕ
 numbersPut text = metAfter (taken [] 4 (numbersIn text))
 
--- "It allows .. input to 4,096 bytes": what lies beyond counts as one byte that no number has. So longer input is `unreadable` unless
+-- Rule 9.2: what lies beyond 4,096 bytes counts as one byte that no number has. So longer input is `unreadable` unless
 -- its sizes, complete before that byte, are refused.
 abbrev pub inputLimit : ℕ
 inputLimit = 4096

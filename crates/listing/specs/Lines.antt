@@ -1,4 +1,4 @@
--- Document 01, "The step program": the lines that it writes, each ended by a line feed.
+-- Rule 9.6: the lines that the step program writes, each ended by a line feed.
 use mathlib.Core.Path.{_≡_}
 use mathlib.Core.List.{List, [], _∷_, _++_}
 use Prim.Native.Nat.{ℕ, _+_, _≤_}
@@ -6,7 +6,7 @@ use lib.ListN.{length, take, drop}
 use Rattle.flash.specs.Lists.{concatMap}
 use Rattle.listing.specs.Digits.{decimal, hex}
 
--- "A line is the step, W or E, the block, and for W the page and its bytes in lowercase hexadecimal, two digits each, unparted."
+-- the line of a write and that of an erase
 -- 32 is a space, 10 the line feed, 87 `W`, 69 `E`.
 unfoldable pub writeLine : (step block page : ℕ) → (bytes : List ℕ) → List ℕ
 writeLine step block page bytes =
@@ -15,7 +15,7 @@ writeLine step block page bytes =
 unfoldable pub eraseLine : (step block : ℕ) → List ℕ
 eraseLine step block = decimal step ++ (32 ∷ 69 ∷ 32 ∷ decimal block) ++ (10 ∷ [])
 
--- "The last line has writes, then erases.": behind `end `
+-- the last line: `end `, the writes and the erases
 unfoldable pub endLine : (writes erases : ℕ) → List ℕ
 endLine writes erases = (101 ∷ 110 ∷ 100 ∷ 32 ∷ decimal writes) ++ (32 ∷ decimal erases) ++ (10 ∷ [])
 

@@ -1,4 +1,4 @@
--- Document 01, "The step program": "decimal numbers of 1 to 5 digits, parted by spaces or newlines". Texts are lists of ASCII codes.
+-- Rule 9.1: the numbers of a text. Texts are lists of ASCII codes.
 use mathlib.Core.Bool.{Bool, cond, _&&_, _||_}
 use mathlib.Core.List.{List, [], _∷_, _++_, map}
 use mathlib.Core.Option.{Option, none, some}
@@ -29,7 +29,7 @@ unfoldable pub spelled : (value : ℕ) → (digits : List ℕ) → ℕ
 spelled value [] = value
 spelled value (digit ∷ digits) = spelled (value * 10 + (digit - 48)) digits
 
--- "decimal numbers of 1 to 5 digits": a sign, or a sixth digit, makes a word that is no number
+-- a sign, or a sixth digit, makes a word that is no number
 unfoldable pub numberOf : (word : List ℕ) → Option ℕ
 numberOf word = cond (leb 1 (length word) && leb (length word) 5 && all isDigit word) (some (spelled 0 word)) none
 

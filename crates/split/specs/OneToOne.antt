@@ -1,4 +1,4 @@
--- Document 01, "Refused calls", number 3: which lists of destinations are accepted.
+-- Rule 2.1: which lists of destinations are accepted. Others are refused as 3.
 use mathlib.Core.Bool.{Bool, false, _||_, not}
 use mathlib.Core.List.{List, [], _∷_}
 use Prim.Native.Nat.{ℕ}
@@ -10,7 +10,7 @@ unfoldable pub metTwice : List ℕ → Bool
 metTwice [] = false
 metTwice (entry ∷ entries) = any (eqb entry) entries || metTwice entries
 
--- "a list entry at or above n × m, or met twice"
+-- an entry names no page, or two name the same
 unfoldable pub badList : (originals : ℕ) → List ℕ → Bool
 badList originals list = any (leb originals) list || metTwice list
 

@@ -6,9 +6,9 @@ use Rattle.flash.specs.declared.sizes.Sizes.{Sizes}
 
 pub record Request : Type 0 where
   pub sizes : Sizes
-  -- entry k is the page number where original k goes
+  -- rule 1.13: where each original goes
   pub list : List ℕ
-  -- entry k is the set of original k; split fills them
+  -- rule 1.14: the set of each original; split fills them
   pub sets : List ℕ
 
 abbrev pub requestOf : Sizes → (list sets : List ℕ) → Request

@@ -1,4 +1,4 @@
--- Document 01, "The split": what a split is.
+-- Rule 2.2: what a split is.
 use mathlib.Core.Bool.{Bool, _&&_}
 use mathlib.Core.List.{List}
 use Prim.Native.Nat.{ℕ, _*_}
@@ -16,7 +16,7 @@ sourceBlock m k = blockOf m k
 unfoldable pub destBlock : (m : ℕ) → List ℕ → (k : ℕ) → ℕ
 destBlock m list k = blockOf m (getD list k 0)
 
--- "Entry k of the set bytes is the set of original k": a set is a block-permutation set of the source documents.
+-- Rule 1.14. The papers call a set a block-permutation set.
 unfoldable pub setOf : List ℕ → (k : ℕ) → ℕ
 setOf sets k = getD sets k 0
 
@@ -28,15 +28,13 @@ module _ (n m : ℕ) (list sets : List ℕ) where
   unfoldable pub pagesTo : (set block : ℕ) → ℕ
   pagesTo set block = count (λ k. eqb (setOf sets k) set && eqb (destBlock m list k) block) (range 0 (n * m))
 
-  -- "the set of original k, 0 to m − 1. It is a split if every set has one page from each data block and one page to
-  -- each data block."
+  -- every set byte is below m; of each set, one page comes from and one goes to each data block
   unfoldable pub isSplit : Bool
   isSplit =
       all (λ set. ltb set m) sets
       && all (λ set. all (λ block. eqb (pagesFrom set block) 1 && eqb (pagesTo set block) 1) (range 1 n)) (range 0 m)
 
--- "an accepted list .. and a correct split of it": what the check of set bytes answers for any input. Where the sizes, the lengths
--- or the list are wrong there is no split to speak of.
+-- What the check of set bytes answers for any input. Where the sizes, the lengths or the list are wrong there is no split to speak of.
 unfoldable pub isCorrectSplit : Sizes → (list sets : List ℕ) → Bool
 isCorrectSplit Z list sets =
     inRange Z

@@ -24,7 +24,7 @@ use Rattle.steplist.specs.Output.{listed, answered}
 use Rattle.steplist.specs.inner.Given.{Readable, Accepted}
 use Rattle.steplist.proofs.StartLaws.{in-bounds}
 
--- "A number such as 65536 is judged before anything is cut to 16 bits": it is at or above n × m
+-- an entry such as 65536 is judged before anything is cut to 16 bits: no page has that number
 large-entry : (originals : ℕ) (list : List ℕ) → originals ≤ 65536 → all (λ number. leb number 65535) list ≡ false → any (leb originals) list ≡ true
 unfolding all any
 large-entry originals [] h e = absurd (true≢false e)

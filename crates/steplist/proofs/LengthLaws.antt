@@ -54,7 +54,7 @@ pub refused-short : (number : ℕ) → number < 1000 → length (refusedLine num
 unfolding refusedLine
 refused-short number h = simp length-append (omega (arith, decimal-short number h))
 
--- "It allows n and m to 8": at most 2 × 8 × 9 steps
+-- rule 9.2: n and m are at most 8, so there are at most 2 × 8 × 9 steps
 pub few-steps : (Z : Sizes) → Z .n ≤ 8 → Z .m ≤ 8 → lastPlace Z ≤ 144
 unfolding lastPlace
 few-steps Z h k = mul-le-mul {n₁ = 2 * Z .n} {m₁ = Z .m + 1} {n₂ = 16} {m₂ = 9} (omega arith) (omega arith)

@@ -1,4 +1,4 @@
--- Document 01's input, and the listing printed there, byte by byte; and inputs that are not listed.
+-- The worked input and its listing, byte by byte; and inputs that are not listed.
 use mathlib.Core.Path.{_≡_}
 use mathlib.Core.List.{List, [], _∷_}
 use Prim.Native.Nat.{ℕ}

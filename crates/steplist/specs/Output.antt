@@ -1,4 +1,4 @@
--- Document 01, "The step program": the whole output of an input.
+-- Rules 9.1 to 9.6: the whole output of an input.
 use mathlib.Core.Path.{_≡_}
 use mathlib.Core.Bool.{cond}
 use mathlib.Core.List.{List, [], _++_}
@@ -34,12 +34,12 @@ moveLines M start =
     let counts = tally (operations (M .sizes)) in
     stepLines M (lastPlace (M .sizes)) 0 start ++ endLine (counts .writes) (counts .erases)
 
--- "The spare is blank.": the move of a store at rest, by the split that the split call makes
+-- rule 9.6: the move of a store at rest, by the split that the split call makes
 unfoldable pub listed : Sizes → (list bytes : List ℕ) → List ℕ
 listed Z list bytes =
     moveLines (record { sizes = Z; list = list; sets = splitByRule (Z .n) (Z .m) list }) (record { chip = atRest Z bytes; work = replicate (Z .p) 0 })
 
--- "A bad list gives `refused 3`." An entry above 16 bits is at or above n × m, as any other too large.
+-- Rule 9.5. An entry above 16 bits is as bad as any other that names no page.
 unfoldable pub answered : Input → List ℕ
 answered unreadable = unreadableLine
 answered refused = refusedLine 1
