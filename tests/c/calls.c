@@ -1,4 +1,4 @@
-/* The library from C: document 01's cases of the calls, and their refusals. */
+/* The library from C: the worked cases of the calls, and their refusals. */
 #include "mover.h"
 
 #include <stdio.h>

@@ -3,7 +3,7 @@
 use super::tally::{ensure, same, Tally};
 use crate::simulator::step_program::step_program;
 
-/// The document's example, with its text.
+/// The worked example, with its text.
 pub const EXAMPLE: &str = "3 1 1 0 1 2 0 1 2 4";
 pub const EXAMPLE_TEXT: &str = "\
 0 W 0 0 05
