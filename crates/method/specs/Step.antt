@@ -67,9 +67,15 @@ erasesBlock block done = false
 abbrev pub nothingDone : Tally
 nothingDone = record { steps = 0; writes = 0; erases = 0 }
 
+abbrev pub oneWrite : Tally → Tally
+oneWrite t = record { steps = t .steps + 1; writes = t .writes + 1; erases = t .erases }
+
+abbrev pub oneErase : Tally → Tally
+oneErase t = record { steps = t .steps + 1; writes = t .writes; erases = t .erases + 1 }
+
 unfoldable pub tallied : Operation → Tally → Tally
-tallied (write pass block page) t = record { steps = t .steps + 1; writes = t .writes + 1; erases = t .erases }
-tallied (erase block) t = record { steps = t .steps + 1; writes = t .writes; erases = t .erases + 1 }
+tallied (write pass block page) t = oneWrite t
+tallied (erase block) t = oneErase t
 tallied done t = t
 
 unfoldable pub tallyOf : List Operation → Tally
