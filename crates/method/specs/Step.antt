@@ -20,6 +20,9 @@ pub record Running : Type 0 where
   pub chip : Chip
   pub work : List ℕ
 
+abbrev pub runningOf : (store marks work : List ℕ) → Running
+runningOf store marks work = record { chip = record { store = store; marks = marks }; work = work }
+
 module _ (M : Move) where
   -- the originals whose sum is written: "page q being c(i) of set q", "the original that the list sends there"
   unfoldable pub originalsOf : Pass → (block page : ℕ) → List ℕ

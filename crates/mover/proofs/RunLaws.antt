@@ -10,11 +10,11 @@ use Rattle.flash.proofs.Bounds.{product-le}
 use Rattle.method.specs.declared.tally.Tally.{Tally}
 use Rattle.method.specs.Move.{Move, AcceptedMove}
 use Rattle.method.specs.Place.{operationAt, lastPlace}
-use Rattle.method.specs.Step.{Running, step, steps, nothingDone, tallied, tallyOf, operationsFrom}
+use Rattle.method.specs.Step.{runningOf, Running, step, steps, nothingDone, tallied, tallyOf, operationsFrom}
 use Rattle.method.specs.Answers.{stepsTaken, runCarriedOut}
 use Rattle.method.proofs.states.StepsAddUp.{steps-add}
-use Rattle.method.proofs.places.Tallies.{tally-next, tally-total, steps-tallied}
-use Rattle.mover.specs.inner.Steps.{runningOf, mostSteps, FewCounted}
+use Rattle.method.proofs.places.Tallies.{tally-next, few-tallied}
+use Rattle.mover.specs.inner.Steps.{mostSteps, FewCounted}
 use Rattle.mover.specs.Answers.{ranAs}
 
 pub none-taken : (M : Move) (place : ℕ) (run : Running) → run ≡ steps M 0 place run
@@ -39,12 +39,11 @@ pub last-small : (M : Move) → AcceptedMove M → lastPlace (M .sizes) ≤ most
 unfolding lastPlace
 last-small M G = omega (arith, product-le (2 * M .sizes .n) (M .sizes .m + 1) {c = 128} {d = 65} (omega (arith, G .ranges .n-high)) (omega (arith, G .ranges .m-high)))
 
-pub few-counted : (M : Move) → AcceptedMove M → (place i : ℕ) (tally : Tally) → place + i ≤ lastPlace (M .sizes)
+pub counts-fit : (M : Move) → AcceptedMove M → (place i : ℕ) (tally : Tally) → place + i ≤ lastPlace (M .sizes)
     → tally ≡ tallyOf (operationsFrom (M .sizes) place i) → FewCounted tally
-few-counted M G place i tally h e =
+counts-fit M G place i tally h e =
     let few = last-small M G in
-    let steps = steps-tallied (M .sizes) i place h in
-    let total = tally-total (operationsFrom (M .sizes) place i) in
+    let counts = few-tallied (M .sizes) i place h in
     rw e (record { steps = omega arith; writes = omega arith; erases = omega arith })
 
 -- ---- the answer of a run that is carried out

@@ -17,11 +17,10 @@ use Rattle.method.specs.Cycle.{D, pred, isTop, coded, sentTo}
 use Rattle.method.specs.Place.{Pass, forward, backward, Operation, write, erase, markOf, operationAt, written}
 use Rattle.method.specs.Read.{readSlots}
 use Rattle.method.specs.State.{heldOriginals}
-use Rattle.method.specs.Step.{originalsOf, writeSlots, writtenPage, perform, Running, step, tallied}
+use Rattle.method.specs.Step.{runningOf, originalsOf, writeSlots, writtenPage, perform, Running, step, tallied}
 use Rattle.method.proofs.basics.Indexes.{slot-lt}
 use Rattle.method.proofs.cycles.SetCycles.{sent-in}
 use Rattle.walk.specs.inner.Slots.{Appends}
-use Rattle.mover.specs.inner.Steps.{runningOf}
 
 -- slots put behind slots
 pub appends-twice : (one two three more others : List ℕ) (a b : ℕ) → Appends one 0 more two a → Appends two a others three b → take b three ≡ more ++ others

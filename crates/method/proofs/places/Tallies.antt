@@ -110,6 +110,14 @@ module _ (Z : Sizes) where
       ∙ step-tallied place (tallyOf (operationsFrom Z (suc place) count)) (omega arith) .0
       ∙ omega (arith, steps-tallied count (suc place) (omega arith))
 
+  -- no count is above the steps taken
+  pub few-tallied : (count place : ℕ) → place + count ≤ lastPlace Z
+      → (let t = tallyOf (operationsFrom Z place count) in (t .steps ≤ count) × (t .writes ≤ count) × (t .erases ≤ count))
+  few-tallied count place h =
+      let steps = steps-tallied count place h in
+      let total = tally-total (operationsFrom Z place count) in
+      (omega arith, omega arith, omega arith)
+
   pub erases-tallied : (count place : ℕ) → place + count ≤ lastPlace Z → tallyOf (operationsFrom Z place count) .erases + place / (m + 1) ≡ (place + count) / (m + 1)
   unfolding tallyOf operationsFrom
   erases-tallied zero place h = omega (arith, ap (λ (p : ℕ). p / (m + 1)) (add-zero place))

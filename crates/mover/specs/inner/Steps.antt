@@ -1,12 +1,6 @@
--- What a step is given and what it leaves.
-use mathlib.Core.List.{List}
+-- How much a run counts at most.
 use Prim.Native.Nat.{ℕ, _≤_}
 use Rattle.method.specs.declared.tally.Tally.{Tally}
-use Rattle.method.specs.Step.{Running}
-
--- the lent parts as the document's run has them
-abbrev pub runningOf : (store marks work : List ℕ) → Running
-runningOf store marks work = record { chip = record { store = store; marks = marks }; work = work }
 
 -- the steps of the largest move, 2 × 64 × 65
 abbrev pub mostSteps : ℕ

@@ -4,10 +4,10 @@ use Prim.Native.Nat.{_+_, _-_, _≤_, _<_}
 use native.Mathlib.Omega.{arith}
 use borrow.Author.Needs.{needs}
 use Rattle.method.specs.Move.{moveOf, Lent}
-use Rattle.method.specs.Step.{steps, tallyOf, operationsFrom}
+use Rattle.method.specs.Step.{runningOf, steps, tallyOf, operationsFrom}
 use Rattle.method.specs.Place.{lastPlace}
-use Rattle.mover.specs.inner.Steps.{runningOf, mostSteps}
-use Rattle.mover.proofs.RunLaws.{none-taken, none-counted, one-taken, one-counted, few-counted, last-small}
+use Rattle.mover.specs.inner.Steps.{mostSteps}
+use Rattle.mover.proofs.RunLaws.{none-taken, none-counted, one-taken, one-counted, counts-fit, last-small}
 use Rattle.mover.proofs.run.take_steps.Statement.{statement}
 use Rattle.mover.proofs.run.take_steps.Tie as tie
 
@@ -42,7 +42,7 @@ step-requires c κs =
     let start = c .before .before .before .before .before .before .before .before .before .before .before in
     let a = start .args in
     let l = c .before .before .before .before .loop in
-    ((start .pre .0, l .inv .2), few-counted (moveOf (a .sizes) (a .list .now) (a .sets .now)) (start .pre .0 .given) (a .place) (l .i) (l .tally) (omega (arith, inside (c .before .before .before))) (l .inv .1))
+    ((start .pre .0, l .inv .2), counts-fit (moveOf (a .sizes) (a .list .now) (a .sets .now)) (start .pre .0 .given) (a .place) (l .i) (l .tally) (omega (arith, inside (c .before .before .before))) (l .inv .1))
 
 next-requires : tie.Need-next-requires Inv-loop μ-loop
 next-requires c κs = omega (arith, inside (c .before .before .before .before .before .before .before .before .before .before), c .before .before .before .before .before .before .before .before .before .before .before .loop .inv .3)
