@@ -6,7 +6,7 @@ use Prim.Native.Nat.{ℕ}
 use Rattle.flash.specs.declared.sizes.Sizes.{Sizes}
 use Rattle.flash.specs.Geometry.{inRange}
 use Rattle.flash.specs.Chip.{Chip}
-use Rattle.method.specs.Move.{Move}
+use Rattle.split.specs.Request.{requestOf}
 use Rattle.method.specs.Answers.{ReadAnswer, readAnswer}
 use Rattle.method.proofs.refusals.ListRefusals.{read-refuses-list}
 use Rattle.c_api.specs.Bytes.{entriesWithin}
@@ -14,15 +14,12 @@ use Rattle.c_api.specs.ReadExport.{readOfBytes}
 use Rattle.c_api.proofs.BytesLaws.{answer-within}
 
 module _ (Z : Sizes) (list sets : List ℕ) (chip : Chip) (work : List ℕ) (original : ℕ) where
-  abbrev move : (entries : List ℕ) → Move
-  move entries = record { sizes = Z; list = entries; sets = sets }
-
-  decoded : readAnswer (move (entriesWithin 4096 list)) chip work original ≡ readOfBytes Z list sets chip work original
+  decoded : readAnswer (requestOf Z (entriesWithin 4096 list) sets) chip work original ≡ readOfBytes Z list sets chip work original
   unfolding readOfBytes
   decoded =
-      answer-within Z (λ entries. readAnswer (move entries) chip work original) (record { number = cond (inRange Z) 2 1; count = 0; work = work })
-      (λ entries other. read-refuses-list (move entries) chip work other original) list
+      answer-within Z (λ entries. readAnswer (requestOf Z entries sets) chip work original) (record { number = cond (inRange Z) 2 1; count = 0; work = work })
+      (λ entries other. read-refuses-list (requestOf Z entries sets) chip work other original) list
 
-  pub exported : (entries : List ℕ) (answer : ReadAnswer) → entries ≡ entriesWithin 4096 list → answer ≡ readAnswer (move entries) chip work original
+  pub exported : (entries : List ℕ) (answer : ReadAnswer) → entries ≡ entriesWithin 4096 list → answer ≡ readAnswer (requestOf Z entries sets) chip work original
       → answer ≡ readOfBytes Z list sets chip work original
-  exported entries answer e A = A ∙ ap (λ (list : List ℕ). readAnswer (move list) chip work original) e ∙ decoded
+  exported entries answer e A = A ∙ ap (λ (list : List ℕ). readAnswer (requestOf Z list sets) chip work original) e ∙ decoded

@@ -28,9 +28,7 @@ pub extern "C" fn mover_run(
     ensures { λ r. ⌜ record {
       number = r;
       place = now (reached .exit);
-      steps = now (steps .exit);
-      writes = now (writes .exit);
-      erases = now (erases .exit);
+      tally = record { steps = now (steps .exit); writes = now (writes .exit); erases = now (erases .exit) };
       finished = now (finished .exit);
       chip = record { store = now (store .exit); marks = now (marks .exit) };
       work = now (work .exit);
@@ -56,9 +54,9 @@ pub extern "C" fn mover_run(
         budget,
     );
     *reached = ran.place;
-    *steps = ran.steps;
-    *writes = ran.writes;
-    *erases = ran.erases;
+    *steps = ran.tally.steps;
+    *writes = ran.tally.writes;
+    *erases = ran.tally.erases;
     *finished = ran.finished;
     ran.number
 }

@@ -1,3 +1,4 @@
+-- The proofs, by what they are about: from single facts to the theorems.
 pub mod basics
 pub mod cycles
 pub mod walks

@@ -12,20 +12,22 @@ use Rattle.flash.specs.Geometry.{inRange, originalCount, slotCount, storeLength
 use Rattle.flash.specs.Chip.{Chip, erased, markAt, isBlank, eraseBlock}
 use Rattle.split.specs.OneToOne.{badList}
 use Rattle.split.specs.Split.{isSplit}
-use Rattle.method.specs.Move.{Move}
+use Rattle.split.specs.Request.{Request}
+use Rattle.method.specs.declared.tally.Tally.{Tally}
+use Rattle.method.specs.Move.{Move, move}
 use Rattle.method.specs.Place.{lastPlace, marksOf}
 use Rattle.method.specs.Read.{readSlots, readPage}
-use Rattle.method.specs.Step.{steps, tally, operationsFrom}
+use Rattle.method.specs.Step.{steps, nothingDone, tallyOf, operationsFrom}
 use Rattle.method.specs.Mend.{Reading, reading}
 
 -- "a lent part not of its exact length": "mend the store and the marks, run and read all five lent parts"
 unfoldable pub badChip : Sizes → Chip → Bool
 badChip Z chip = not (eqb (length (chip .store)) (storeLength Z)) || not (eqb (length (chip .marks)) (marksLength Z))
 
-unfoldable pub badParts : Move → Chip → (work : List ℕ) → Bool
-badParts M chip work =
-    not (eqb (length (M .list)) (listLength (M .sizes))) || not (eqb (length (M .sets)) (setsLength (M .sizes)))
-    || badChip (M .sizes) chip || not (eqb (length work) (workLength (M .sizes)))
+unfoldable pub badParts : Request → Chip → (work : List ℕ) → Bool
+badParts R chip work =
+    not (eqb (length (R .list)) (listLength (R .sizes))) || not (eqb (length (R .sets)) (setsLength (R .sizes)))
+    || badChip (R .sizes) chip || not (eqb (length work) (workLength (R .sizes)))
 
 -- What reading the marks answers, by its cases: the number of the table, and what the marks tell. 6: "marks fit no moment of the move"
 pub record MarksAnswer : Type 0 where
@@ -40,26 +42,26 @@ unfoldable pub fitsNone : Option Reading → Bool
 fitsNone told = eqb (marksAnswer told .number) 6
 
 -- "place above 2 × n × (m + 1), or marks other than that place has, or a slot marked 255 not blank"
-unfoldable pub isElsewhere : Move → Chip → (place : ℕ) → Bool
-isElsewhere M chip place =
-    ltb (lastPlace (M .sizes)) place || not (isSame (chip .marks) (marksOf (M .sizes) place))
-    || any (λ t. eqb (markAt (chip .marks) t) erased && not (isBlank (M .sizes .p) chip t)) (range 0 (slotCount (M .sizes)))
+unfoldable pub isElsewhere : Sizes → Chip → (place : ℕ) → Bool
+isElsewhere Z chip place =
+    ltb (lastPlace Z) place || not (isSame (chip .marks) (marksOf Z place))
+    || any (λ t. eqb (markAt (chip .marks) t) erased && not (isBlank (Z .p) chip t)) (range 0 (slotCount Z))
 
 -- the rows that run and read share, in the table's order
-unfoldable pub moveRows : Move → Chip → (work : List ℕ) → (rest : List (Row ℕ)) → List (Row ℕ)
-moveRows M chip work rest =
+unfoldable pub moveRows : Request → Chip → (work : List ℕ) → (rest : List (Row ℕ)) → List (Row ℕ)
+moveRows R chip work rest =
     -- "n, m, P or s out of its range"
-    record { fits = not (inRange (M .sizes)); gives = 1 }
+    record { fits = not (inRange (R .sizes)); gives = 1 }
     -- "a lent part not of its exact length"
-    ∷ record { fits = badParts M chip work; gives = 2 }
+    ∷ record { fits = badParts R chip work; gives = 2 }
     -- "a list entry at or above n × m, or met twice"
-    ∷ record { fits = badList (originalCount (M .sizes)) (M .list); gives = 3 }
+    ∷ record { fits = badList (originalCount (R .sizes)) (R .list); gives = 3 }
     -- "the set bytes aren't a split of the list"
-    ∷ record { fits = not (isSplit (M .sizes .n) (M .sizes .m) (M .list) (M .sets)); gives = 4 }
+    ∷ record { fits = not (isSplit (R .sizes .n) (R .sizes .m) (R .list) (R .sets)); gives = 4 }
     ∷ rest
 
-unfoldable pub runRows : Move → Chip → (work : List ℕ) → (place : ℕ) → List (Row ℕ)
-runRows M chip work place = moveRows M chip work (record { fits = isElsewhere M chip place; gives = 5 } ∷ [])
+unfoldable pub runRows : Request → Chip → (work : List ℕ) → (place : ℕ) → List (Row ℕ)
+runRows R chip work place = moveRows R chip work (record { fits = isElsewhere (R .sizes) chip place; gives = 5 } ∷ [])
 
 unfoldable pub mendRows : Sizes → Chip → List (Row ℕ)
 mendRows Z chip =
@@ -68,12 +70,12 @@ mendRows Z chip =
     ∷ record { fits = fitsNone (reading Z (chip .marks)); gives = 6 }
     ∷ []
 
-unfoldable pub readRows : Move → Chip → (work : List ℕ) → (k : ℕ) → List (Row ℕ)
-readRows M chip work k =
-    moveRows M chip work
-    (record { fits = fitsNone (reading (M .sizes) (chip .marks)); gives = 6 }
+unfoldable pub readRows : Request → Chip → (work : List ℕ) → (k : ℕ) → List (Row ℕ)
+readRows R chip work k =
+    moveRows R chip work
+    (record { fits = fitsNone (reading (R .sizes) (chip .marks)); gives = 6 }
     -- "original number at or above n × m"
-    ∷ record { fits = leb (originalCount (M .sizes)) k; gives = 7 }
+    ∷ record { fits = leb (originalCount (R .sizes)) k; gives = 7 }
     ∷ [])
 
 -- "returns the place reached, writes, erases, and 'finished' .., else 'stopped'": 1 for finished, 0 for stopped. The shape that
@@ -81,9 +83,7 @@ readRows M chip work k =
 pub record RunAnswer : Type 0 where
   pub number : ℕ
   pub place : ℕ
-  pub steps : ℕ
-  pub writes : ℕ
-  pub erases : ℕ
+  pub tally : Tally
   pub finished : ℕ
   pub chip : Chip
   pub work : List ℕ
@@ -96,13 +96,10 @@ unfoldable pub runCarriedOut : Move → Chip → (work : List ℕ) → (place bu
 runCarriedOut M chip work place budget =
     let taken = stepsTaken (M .sizes) place budget in
     let after = steps M taken place (record { chip = chip; work = work }) in
-    let counts = tally (operationsFrom M place taken) in
     record {
       number = 0;
       place = place + taken;
-      steps = counts .steps;
-      writes = counts .writes;
-      erases = counts .erases;
+      tally = tallyOf (operationsFrom (M .sizes) place taken);
       -- "'finished' if the place is 2 × n × (m + 1)"
       finished = cond (eqb (place + taken) (lastPlace (M .sizes))) 1 0;
       chip = after .chip;
@@ -114,18 +111,16 @@ unfoldable pub runRefused : (number : ℕ) → Chip → (work : List ℕ) → Ru
 runRefused number chip work = record {
   number = number;
   place = 0;
-  steps = 0;
-  writes = 0;
-  erases = 0;
+  tally = nothingDone;
   finished = 0;
   chip = chip;
   work = work;
 }
 
-unfoldable pub runAnswer : Move → Chip → (work : List ℕ) → (place budget : ℕ) → RunAnswer
-runAnswer M chip work place budget =
-    let number = refusal (runRows M chip work place) in
-    cond (eqb number 0) (runCarriedOut M chip work place budget) (runRefused number chip work)
+unfoldable pub runAnswer : Request → Chip → (work : List ℕ) → (place budget : ℕ) → RunAnswer
+runAnswer R chip work place budget =
+    let number = refusal (runRows R chip work place) in
+    cond (eqb number 0) (runCarriedOut (move R) chip work place budget) (runRefused number chip work)
 
 -- "Mend returns the place and the erases, 0 or 1."
 pub record MendAnswer : Type 0 where
@@ -153,9 +148,9 @@ pub record ReadAnswer : Type 0 where
   pub count : ℕ
   pub work : List ℕ
 
-unfoldable pub readAnswer : Move → Chip → (work : List ℕ) → (k : ℕ) → ReadAnswer
-readAnswer M chip work k =
-    let number = refusal (readRows M chip work k) in
+unfoldable pub readAnswer : Request → Chip → (work : List ℕ) → (k : ℕ) → ReadAnswer
+readAnswer R chip work k =
+    let number = refusal (readRows R chip work k) in
     cond (eqb number 0)
-    (record { number = 0; count = length (readSlots M (chip .marks) k); work = readPage M chip k })
+    (record { number = 0; count = length (readSlots (move R) (chip .marks) k); work = readPage (move R) chip k })
     (record { number = number; count = 0; work = work })

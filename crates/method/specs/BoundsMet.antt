@@ -6,6 +6,7 @@ use mathlib.Core.List.{[], _∷_}
 use Prim.Native.Nat.{_-_, _*_}
 use lib.ListN.{length}
 use Rattle.flash.specs.Lists.{count}
+use Rattle.method.specs.Move.{move}
 use Rattle.method.specs.Place.{lastPlace}
 use Rattle.method.specs.Read.{readSlots}
 use Rattle.method.specs.Step.{isErase, erasesBlock}
@@ -22,7 +23,7 @@ alone = after oneRun (starting threeAtRest)
 
 pub record BoundsMet : Type 0 where
   -- the pages that a read sums: n
-  pub pages : length (readSlots three (threeTorn 0 .marks) 1) ≡ three .sizes .n
+  pub pages : length (readSlots (move three) (threeTorn 0 .marks) 1) ≡ three .sizes .n
   pub undisturbed : (alone .cuts ≡ 0) × (alone .mends ≡ 0) × (alone .finished ≡ true)
   pub erases : count isErase (alone .begun) ≡ 2 * three .sizes .n
   pub block-erases : count (erasesBlock 1) (alone .begun) ≡ 2

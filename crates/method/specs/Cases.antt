@@ -9,8 +9,10 @@ use Rattle.flash.specs.Lists.{range}
 use Rattle.flash.specs.declared.sizes.Sizes.{Sizes}
 use Rattle.flash.specs.Chip.{Chip}
 use Rattle.split.specs.OneToOne.{isOneToOne}
+use Rattle.split.specs.Request.{Request, requestOf}
 use Rattle.split.specs.Answer.{SplitAnswer, splitAnswer}
-use Rattle.method.specs.Move.{Move}
+use Rattle.method.specs.declared.tally.Tally.{Tally}
+use Rattle.method.specs.Move.{Move, move}
 use Rattle.method.specs.Place.{Operation, write, erase, done, operationAt, marksOf}
 use Rattle.method.specs.State.{atRest, stateOf}
 use Rattle.method.specs.Step.{Running, originalsOf, writeSlots, step}
@@ -58,29 +60,29 @@ chipsFrom M (suc count) place run = run .chip ∷ chipsFrom M count (suc place) 
 -- A case: a call with its arguments, and the answer with every lent part.
 pub data Case : Type 0 where
   check : (originals : ℕ) → (list : List ℕ) → Bool → Case
-  split : Sizes → (list sets : List ℕ) → SplitAnswer → Case
-  run : Move → Chip → (work : List ℕ) → (place budget : ℕ) → RunAnswer → Case
+  split : Request → SplitAnswer → Case
+  run : Request → Chip → (work : List ℕ) → (place budget : ℕ) → RunAnswer → Case
   mend : Sizes → Chip → MendAnswer → Case
-  read : Move → Chip → (work : List ℕ) → (k : ℕ) → ReadAnswer → Case
+  read : Request → Chip → (work : List ℕ) → (k : ℕ) → ReadAnswer → Case
   -- a cut inside the step at a place may turn one chip into another
   cut : Sizes → (place : ℕ) → (before after : Chip) → Case
   -- the first steps, line by line
-  lists : Move → Chip → (count : ℕ) → List Line → Case
-  draws : Move → (count : ℕ) → List Written → Case
+  lists : Request → Chip → (count : ℕ) → List Line → Case
+  draws : Request → (count : ℕ) → List Written → Case
   -- from rest on, the steps lead to the state of each place
-  reaches : Move → (originals : List ℕ) → (count : ℕ) → Case
+  reaches : Request → (originals : List ℕ) → (count : ℕ) → Case
 
-abbrev pub Holds : Case → Type 0
-Holds (check originals list answer) = isOneToOne originals list ≡ answer
-Holds (split Z list sets answer) = splitAnswer Z list sets ≡ answer
-Holds (run M chip work place budget answer) = runAnswer M chip work place budget ≡ answer
-Holds (mend Z chip answer) = mendAnswer Z chip ≡ answer
-Holds (read M chip work k answer) = readAnswer M chip work k ≡ answer
-Holds (cut Z place before after) = CutInside Z (operationAt Z place) before after
-Holds (lists M chip count lines) = listing M count 0 (record { chip = chip; work = [] }) ≡ lines
-Holds (draws M count rows) = figure M count 0 ≡ rows
-Holds (reaches M originals count) =
-    chipsFrom M count 0 (record { chip = atRest (M .sizes) originals; work = [] }) ≡ map (stateOf M originals) (range 0 (count + 1))
+abbrev pub CaseHolds : Case → Type 0
+CaseHolds (check originals list answer) = isOneToOne originals list ≡ answer
+CaseHolds (split R answer) = splitAnswer R ≡ answer
+CaseHolds (run R chip work place budget answer) = runAnswer R chip work place budget ≡ answer
+CaseHolds (mend Z chip answer) = mendAnswer Z chip ≡ answer
+CaseHolds (read R chip work k answer) = readAnswer R chip work k ≡ answer
+CaseHolds (cut Z place before after) = CutInside Z (operationAt Z place) before after
+CaseHolds (lists R chip count lines) = listing (move R) count 0 (record { chip = chip; work = [] }) ≡ lines
+CaseHolds (draws R count rows) = figure (move R) count 0 ≡ rows
+CaseHolds (reaches R originals count) =
+    chipsFrom (move R) count 0 (record { chip = atRest (R .sizes) originals; work = [] }) ≡ map (stateOf (move R) originals) (range 0 (count + 1))
 
 infixr 5 _then_
 pub data Every (P : Case → Type 0) : List Case → Type 0 where
@@ -94,6 +96,9 @@ sizes n m = record { n = n; m = m; p = 1; s = 0 }
 abbrev chip : (store marks : List ℕ) → Chip
 chip store marks = record { store = store; marks = marks }
 
+abbrev counts : (steps writes erases : ℕ) → Tally
+counts steps writes erases = record { steps = steps; writes = writes; erases = erases }
+
 -- what a lent part holds before the call
 abbrev junk : ℕ → List ℕ
 junk length = replicate length 7
@@ -101,17 +106,17 @@ junk length = replicate length 7
 -- "With a refusal every other number returned is 0 and each lent byte stays."
 abbrev refusedRun : (number : ℕ) → Chip → (work : List ℕ) → RunAnswer
 refusedRun number lent work =
-    record { number = number; place = 0; steps = 0; writes = 0; erases = 0; finished = 0; chip = lent; work = work }
+    record { number = number; place = 0; tally = counts 0 0 0; finished = 0; chip = lent; work = work }
 
 -- P1 to P3
-abbrev pub two : Move
+abbrev pub two : Request
 two = record { sizes = sizes 2 2; list = 0 ∷ 2 ∷ 1 ∷ 3 ∷ []; sets = 1 ∷ 0 ∷ 0 ∷ 1 ∷ [] }
 
 abbrev halfway : Chip
 halfway = chip (6 ∷ 1 ∷ 4 ∷ 8 ∷ 255 ∷ 255 ∷ []) (1 ∷ 1 ∷ 1 ∷ 1 ∷ 255 ∷ 255 ∷ [])
 
--- the same move with other sizes or another list, for the refusals
-abbrev small : (n : ℕ) → (list : List ℕ) → Move
+-- the same request with other sizes or another list, for the refusals
+abbrev small : (n : ℕ) → (list : List ℕ) → Request
 small n list = record { sizes = sizes n 1; list = list; sets = replicate n 0 }
 
 abbrev resting : (n : ℕ) → Chip
@@ -124,20 +129,20 @@ abbrev readRefusedAs : (number n : ℕ) → (list : List ℕ) → Case
 readRefusedAs number n list = read (small n list) (resting n) (junk 1) 0 (record { number = number; count = 0; work = junk 1 })
 
 abbrev splitRefusedAs : (number n : ℕ) → (list : List ℕ) → Case
-splitRefusedAs number n list = split (sizes n 1) list (junk n) (record { number = number; sets = junk n })
+splitRefusedAs number n list = split (requestOf (sizes n 1) list (junk n)) (record { number = number; sets = junk n })
 
 abbrev mendRefusedAs : (number n : ℕ) → Case
 mendRefusedAs number n = mend (sizes n 1) (resting n) (record { number = number; place = 0; erases = 0; chip = resting n })
 
 -- the program's case, `3 1 1 0 1 2 0 1 2 4`
-abbrev pub three : Move
+abbrev pub three : Request
 three = record { sizes = sizes 3 1; list = 1 ∷ 2 ∷ 0 ∷ []; sets = 0 ∷ 0 ∷ 0 ∷ [] }
 
 abbrev pub threeAtRest : Chip
 threeAtRest = chip (255 ∷ 1 ∷ 2 ∷ 4 ∷ []) (255 ∷ 0 ∷ 0 ∷ 0 ∷ [])
 
 -- with a set byte that is none of its sets, and with two blocks unfinished
-abbrev threeBadly : Move
+abbrev threeBadly : Request
 threeBadly = record { sizes = three .sizes; list = three .list; sets = 0 ∷ 1 ∷ 0 ∷ [] }
 
 abbrev threeUnfit : Chip
@@ -154,7 +159,7 @@ abbrev pub threeTorn : (byte : ℕ) → Chip
 threeTorn byte = chip (5 ∷ 3 ∷ byte ∷ 4 ∷ []) (1 ∷ 1 ∷ 255 ∷ 0 ∷ [])
 
 -- Example 3 of source document 002: α = (3, 6, 8, 1, 2, 5, 4, 7). Each original is one bit, so that a byte shows what it sums.
-abbrev eight : Move
+abbrev eight : Request
 eight = record { sizes = sizes 8 1; list = 2 ∷ 5 ∷ 7 ∷ 0 ∷ 1 ∷ 4 ∷ 3 ∷ 6 ∷ []; sets = replicate 8 0 }
 
 unfoldable pub sumOfBits : List ℕ → ℕ
@@ -174,17 +179,15 @@ eightFinal = (4 ∷ []) ∷ (5 ∷ []) ∷ (1 ∷ []) ∷ (7 ∷ []) ∷ (6 ∷ 
 unfoldable pub cases : (byte : ℕ) → List Case
 cases byte =
     -- P1: page 2 forces the exchange. P2.
-    split (sizes 2 2) (0 ∷ 2 ∷ 1 ∷ 3 ∷ []) (junk 4) (record { number = 0; sets = 1 ∷ 0 ∷ 0 ∷ 1 ∷ [] })
-    ∷ split (sizes 2 2) (0 ∷ 3 ∷ 2 ∷ 1 ∷ []) (junk 4) (record { number = 0; sets = 0 ∷ 1 ∷ 0 ∷ 1 ∷ [] })
+    split (requestOf (sizes 2 2) (0 ∷ 2 ∷ 1 ∷ 3 ∷ []) (junk 4)) (record { number = 0; sets = 1 ∷ 0 ∷ 0 ∷ 1 ∷ [] })
+    ∷ split (requestOf (sizes 2 2) (0 ∷ 3 ∷ 2 ∷ 1 ∷ []) (junk 4)) (record { number = 0; sets = 0 ∷ 1 ∷ 0 ∷ 1 ∷ [] })
     -- P3: the forward pass, then the backward pass
     ∷ run two (atRest (sizes 2 2) (1 ∷ 2 ∷ 4 ∷ 8 ∷ [])) (junk 1) 0 6
-    (record { number = 0; place = 6; steps = 6; writes = 4; erases = 2; finished = 0; chip = halfway; work = 8 ∷ [] })
+    (record { number = 0; place = 6; tally = counts 6 4 2; finished = 0; chip = halfway; work = 8 ∷ [] })
     ∷ run two halfway (junk 1) 6 6 (record {
       number = 0;
       place = 12;
-      steps = 6;
-      writes = 4;
-      erases = 2;
+      tally = counts 6 4 2;
       finished = 1;
       chip = chip (255 ∷ 255 ∷ 1 ∷ 4 ∷ 2 ∷ 8 ∷ []) (255 ∷ 255 ∷ 2 ∷ 2 ∷ 2 ∷ 2 ∷ []);
       work = 4 ∷ [];
@@ -193,9 +196,7 @@ cases byte =
     ∷ run (small 1 (0 ∷ [])) (resting 1) (junk 1) 0 9 (record {
       number = 0;
       place = 4;
-      steps = 4;
-      writes = 2;
-      erases = 2;
+      tally = counts 4 2 2;
       finished = 1;
       chip = chip (255 ∷ 1 ∷ []) (255 ∷ 2 ∷ []);
       work = 1 ∷ [];
@@ -216,18 +217,18 @@ cases byte =
     ∷ mendRefusedAs 1 65
     ∷ readRefusedAs 1 65 (range 0 65)
     ∷ check 64 (range 0 64) true
-    ∷ split (sizes 64 1) (range 0 64) (junk 64) (record { number = 0; sets = replicate 64 0 })
+    ∷ split (requestOf (sizes 64 1) (range 0 64) (junk 64)) (record { number = 0; sets = replicate 64 0 })
     ∷ run (small 64 (range 0 64)) (resting 64) (junk 1) 0 0
-    (record { number = 0; place = 0; steps = 0; writes = 0; erases = 0; finished = 0; chip = resting 64; work = junk 1 })
+    (record { number = 0; place = 0; tally = counts 0 0 0; finished = 0; chip = resting 64; work = junk 1 })
     ∷ mend (sizes 64 1) (resting 64) (record { number = 0; place = 0; erases = 1; chip = resting 64 })
     ∷ read (small 64 (range 0 64)) (resting 64) (junk 1) 63 (record { number = 0; count = 1; work = 64 ∷ [] })
     -- P8
     ∷ run three threeFinished (junk 1) 12 5
-    (record { number = 0; place = 12; steps = 0; writes = 0; erases = 0; finished = 1; chip = threeFinished; work = junk 1 })
+    (record { number = 0; place = 12; tally = counts 0 0 0; finished = 1; chip = threeFinished; work = junk 1 })
     ∷ run three threeFinished (junk 1) 13 5 (refusedRun 5 threeFinished (junk 1))
     -- P9
     ∷ run three threeAtRest (junk 1) 0 3
-    (record { number = 0; place = 3; steps = 3; writes = 2; erases = 1; finished = 0; chip = threeBeforeErase; work = 3 ∷ [] })
+    (record { number = 0; place = 3; tally = counts 3 2 1; finished = 0; chip = threeBeforeErase; work = 3 ∷ [] })
     ∷ cut (three .sizes) 3 threeBeforeErase (threeTorn byte)
     ∷ read three (threeTorn byte) (junk 1) 1 (record { number = 0; count = 3; work = 2 ∷ [] })
     ∷ mend (three .sizes) (threeTorn byte) (record { number = 0; place = 4; erases = 1; chip = threeTorn 255 })
@@ -236,9 +237,7 @@ cases byte =
     ∷ run three (threeTorn 255) (junk 1) 4 1 (record {
       number = 0;
       place = 5;
-      steps = 1;
-      writes = 1;
-      erases = 0;
+      tally = counts 1 1 0;
       finished = 0;
       chip = chip (5 ∷ 3 ∷ 4 ∷ 4 ∷ []) (1 ∷ 1 ∷ 1 ∷ 0 ∷ []);
       work = 4 ∷ [];
@@ -247,9 +246,9 @@ cases byte =
     ∷ mend (three .sizes) threeFinished (record { number = 0; place = 12; erases = 1; chip = threeFinished })
     -- P11
     ∷ run three threeAtRest (junk 1) 0 0
-    (record { number = 0; place = 0; steps = 0; writes = 0; erases = 0; finished = 0; chip = threeAtRest; work = junk 1 })
+    (record { number = 0; place = 0; tally = counts 0 0 0; finished = 0; chip = threeAtRest; work = junk 1 })
     -- the numbers that no P gives: a part one byte short, set bytes that are no split, two blocks unfinished, an original too many
-    ∷ split (sizes 2 1) (0 ∷ 1 ∷ []) (junk 1) (record { number = 2; sets = junk 1 })
+    ∷ split (requestOf (sizes 2 1) (0 ∷ 1 ∷ []) (junk 1)) (record { number = 2; sets = junk 1 })
     ∷ run three threeAtRest [] 0 9 (refusedRun 2 threeAtRest [])
     ∷ mend (sizes 3 1) (resting 2) (record { number = 2; place = 0; erases = 0; chip = resting 2 })
     ∷ read three threeAtRest [] 0 (record { number = 2; count = 0; work = [] })
@@ -265,9 +264,7 @@ cases byte =
     ∷ run three threeAtRest (junk 1) 0 99 (record {
       number = 0;
       place = 12;
-      steps = 12;
-      writes = 6;
-      erases = 6;
+      tally = counts 12 6 6;
       finished = 1;
       chip = threeFinished;
       work = 4 ∷ [];
@@ -295,9 +292,7 @@ cases byte =
     ∷ run eight eightAtRest (junk 1) 0 16 (record {
       number = 0;
       place = 16;
-      steps = 16;
-      writes = 8;
-      erases = 8;
+      tally = counts 16 8 8;
       finished = 0;
       chip = chip (map sumOfBits eightCoded ++ (255 ∷ [])) (replicate 8 1 ++ (255 ∷ []));
       work = sumOfBits (8 ∷ []) ∷ [];
@@ -305,9 +300,7 @@ cases byte =
     ∷ run eight eightAtRest (junk 1) 0 32 (record {
       number = 0;
       place = 32;
-      steps = 32;
-      writes = 16;
-      erases = 16;
+      tally = counts 32 16 16;
       finished = 1;
       chip = chip (255 ∷ map sumOfBits eightFinal) (255 ∷ replicate 8 2);
       work = sumOfBits (4 ∷ []) ∷ [];
@@ -320,4 +313,4 @@ cases byte =
 
 -- each case of the list holds, whatever byte the cut of P9 left
 unfoldable pub CasesHold : Type 0
-CasesHold = (byte : ℕ) → Every Holds (cases byte)
+CasesHold = (byte : ℕ) → Every CaseHolds (cases byte)

@@ -9,16 +9,16 @@ use lib.ListN.{length, getD}
 use Rattle.flash.specs.Lists.{range, any, count}
 use Rattle.flash.specs.Tables.{Row, Lowest, refusal}
 use Rattle.flash.specs.declared.sizes.Sizes.{Sizes}
-use Rattle.flash.specs.Geometry.{inRange, blockOf, originalCount, slotCount, listLength, setsLength}
+use Rattle.flash.specs.Geometry.{inRange, blockOf, originalCount, slotCount}
 use Rattle.flash.specs.Chip.{Chip, isWhole, isUnfinished}
-use Rattle.split.specs.OneToOne.{isOneToOne}
-use Rattle.split.specs.Split.{setOf, isSplit}
+use Rattle.split.specs.Split.{setOf}
+use Rattle.split.specs.Request.{Request}
 use Rattle.split.specs.Answer.{splitRows}
 use Rattle.method.specs.Move.{Move, AcceptedMove}
 use Rattle.method.specs.Cycle.{dest, top}
 use Rattle.method.specs.Read.{fullOf, goBack, goOn, readSlots}
 use Rattle.method.specs.Place.{Pass, write, erase, done, operations, lastPlace, operationAt, passAt, blank, heldAt, marksOf}
-use Rattle.method.specs.Step.{erasesBlock, tally, operationsFrom}
+use Rattle.method.specs.Step.{erasesBlock, tallyOf, operationsFrom}
 use Rattle.method.specs.Mend.{Reading, lines, reading}
 use Rattle.method.specs.Answers.{runRows, mendRows, readRows}
 use Rattle.method.specs.Runs.{RunsAddUp, StatesReached}
@@ -43,11 +43,11 @@ pub record ErasesCounted : Type 0 where
   pub spare : (Z : Sizes) → inRange Z ≡ true → count (erasesBlock 0) (operations Z) ≡ 1
   pub highest : (Z : Sizes) → inRange Z ≡ true → count (erasesBlock (Z .n)) (operations Z) ≡ 1
   pub between : (Z : Sizes) (b : ℕ) → 1 ≤ b → b < Z .n → count (erasesBlock b) (operations Z) ≡ 2
-  pub all-erases : (Z : Sizes) → tally (operations Z) .erases ≡ 2 * Z .n
-  pub all-writes : (Z : Sizes) → tally (operations Z) .writes ≡ 2 * Z .n * Z .m
-  pub run-steps : (M : Move) (place taken : ℕ) → place + taken ≤ lastPlace (M .sizes) → tally (operationsFrom M place taken) .steps ≡ taken
-  pub run-total : (M : Move) (place taken : ℕ)
-      → tally (operationsFrom M place taken) .steps ≡ tally (operationsFrom M place taken) .writes + tally (operationsFrom M place taken) .erases
+  pub all-erases : (Z : Sizes) → tallyOf (operations Z) .erases ≡ 2 * Z .n
+  pub all-writes : (Z : Sizes) → tallyOf (operations Z) .writes ≡ 2 * Z .n * Z .m
+  pub run-steps : (Z : Sizes) (place taken : ℕ) → place + taken ≤ lastPlace Z → tallyOf (operationsFrom Z place taken) .steps ≡ taken
+  pub run-total : (Z : Sizes) (place taken : ℕ)
+      → (let counted = tallyOf (operationsFrom Z place taken) in counted .steps ≡ counted .writes + counted .erases)
 
 -- "Pages are written in ascending order and only when blank": of two writes to a block with no erase of it between them, the
 -- later is to the higher page.
@@ -119,10 +119,10 @@ ErasesNext =
 
 -- "The lowest number that applies is returned."
 pub record LowestReturned : Type 0 where
-  pub by-split : (Z : Sizes) (list sets : List ℕ) → Lowest (splitRows Z list sets) (refusal (splitRows Z list sets))
-  pub by-run : (M : Move) (chip : Chip) (work : List ℕ) (place : ℕ) → Lowest (runRows M chip work place) (refusal (runRows M chip work place))
+  pub by-split : (R : Request) → Lowest (splitRows R) (refusal (splitRows R))
+  pub by-run : (R : Request) (chip : Chip) (work : List ℕ) (place : ℕ) → Lowest (runRows R chip work place) (refusal (runRows R chip work place))
   pub by-mend : (Z : Sizes) (chip : Chip) → Lowest (mendRows Z chip) (refusal (mendRows Z chip))
-  pub by-read : (M : Move) (chip : Chip) (work : List ℕ) (k : ℕ) → Lowest (readRows M chip work k) (refusal (readRows M chip work k))
+  pub by-read : (R : Request) (chip : Chip) (work : List ℕ) (k : ℕ) → Lowest (readRows R chip work k) (refusal (readRows R chip work k))
 
 pub record Claims : Type 0 where
   pub cases : CasesHold

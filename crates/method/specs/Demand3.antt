@@ -9,7 +9,8 @@ use Rattle.flash.specs.Tables.{refusal}
 use Rattle.flash.specs.Geometry.{slotOf, originalCount, slotCount, workLength}
 use Rattle.flash.specs.PageSum.{sum}
 use Rattle.flash.specs.Chip.{Chip, pageAt, isWhole}
-use Rattle.method.specs.Move.{Move}
+use Rattle.split.specs.Request.{Request}
+use Rattle.method.specs.Move.{move}
 use Rattle.method.specs.Place.{done, lastPlace}
 use Rattle.method.specs.Read.{readSlots}
 use Rattle.method.specs.State.{originalsIn, stateOf}
@@ -17,67 +18,67 @@ use Rattle.method.specs.Step.{isErase, erasesBlock}
 use Rattle.method.specs.Runs.{Start}
 use Rattle.method.specs.Cut.{CutInside}
 use Rattle.method.specs.Answers.{runRows, runAnswer, mendAnswer, readAnswer}
-use Rattle.method.specs.Events.{Call, run, mend, read, CutPoint, uncut, between, inside, Event, History, sizesOf, numberOf, stepsOf, chipAfter, starting, after, moments}
+use Rattle.method.specs.Events.{Call, run, mend, read, CutPoint, uncut, between, inside, Event, History, sizesGiven, numberOf, stepsOf, chipAfter, starting, after, moments}
 
 -- ---- the premises, a line for each sentence; the first is `Start` of Runs.antt
 -- "All calls not refused share the sizes, s, an accepted list .. and a correct split of it"
-abbrev pub Shares : Move → Call → Type 0
-Shares M (run N work place budget) = N ≡ M
-Shares M (mend Z) = Z ≡ M .sizes
-Shares M (read N work k) = N ≡ M
+abbrev pub Shares : Request → Call → Type 0
+Shares R (run N work place budget) = N ≡ R
+Shares R (mend Z) = Z ≡ R .sizes
+Shares R (read N work k) = N ≡ R
 
 -- "with a mend between each cut and the next run"
 abbrev pub Mended : Call → History → Type 0
-Mended (run M work place budget) h = h .unmended ≡ false
+Mended (run R work place budget) h = h .unmended ≡ false
 Mended (mend Z) h = Unit {0}
-Mended (read M work k) h = Unit {0}
+Mended (read R work k) h = Unit {0}
 
 -- a cut lies within the call's steps, and leaves what the rule of the cut allows
 abbrev pub CutObeys : Call → CutPoint → Chip → Type 0
 CutObeys call uncut chip = Unit {0}
 CutObeys call (between finished) chip = finished ≤ length (stepsOf call chip)
 CutObeys call (inside finished left) chip =
-    (finished < length (stepsOf call chip)) × CutInside (sizesOf call) (getD (stepsOf call chip) finished done) (chipAfter call chip finished) left
+    (finished < length (stepsOf call chip)) × CutInside (sizesGiven call) (getD (stepsOf call chip) finished done) (chipAfter call chip finished) left
 
-pub record Allowed (M : Move) (event : Event) (h : History) : Type 0 where
+pub record Allowed (R : Request) (event : Event) (h : History) : Type 0 where
   -- "a refused one may have any others"
-  pub shares : numberOf (event .call) (h .chip) ≡ 0 → Shares M (event .call)
+  pub shares : numberOf (event .call) (h .chip) ≡ 0 → Shares R (event .call)
   pub mended : numberOf (event .call) (h .chip) ≡ 0 → Mended (event .call) h
   pub cut-obeys : CutObeys (event .call) (event .cut) (h .chip)
 
 -- each event of a list is allowed where it comes
-pub data AllAllowed (M : Move) : List Event → History → Type 0 where
-  ends : {h : History} → AllAllowed M [] h
-  goes : {event : Event} {events : List Event} {h : History} → Allowed M event h → AllAllowed M events (after event h) → AllAllowed M (event ∷ events) h
+pub data AllAllowed (R : Request) : List Event → History → Type 0 where
+  ends : {h : History} → AllAllowed R [] h
+  goes : {event : Event} {events : List Event} {h : History} → Allowed R event h → AllAllowed R events (after event h) → AllAllowed R (event ∷ events) h
 
 -- ---- the claim
 -- "each original page stays the sum of at most n whole stored pages, a read gives exactly it": of one original, whose bytes are
 -- `page`, at a moment
-pub record Stays (M : Move) (chip : Chip) (k : ℕ) (page : List ℕ) : Type 0 where
-  pub few : length (readSlots M (chip .marks) k) ≤ M .sizes .n
-  pub stored : (i : ℕ) → i < length (readSlots M (chip .marks) k) → getD (readSlots M (chip .marks) k) i 0 < slotCount (M .sizes)
-  pub whole : (i : ℕ) → i < length (readSlots M (chip .marks) k) → isWhole (chip .marks) (getD (readSlots M (chip .marks) k) i 0) ≡ true
-  pub total : sum (pageAt (M .sizes .p) chip) (readSlots M (chip .marks) k) ≡ page
-  pub read-gives : (work : List ℕ) → length work ≡ workLength (M .sizes)
-      → readAnswer M chip work k ≡ record { number = 0; count = length (readSlots M (chip .marks) k); work = page }
+pub record Stays (R : Request) (chip : Chip) (k : ℕ) (page : List ℕ) : Type 0 where
+  pub few : length (readSlots (move R) (chip .marks) k) ≤ R .sizes .n
+  pub stored : (i : ℕ) → i < length (readSlots (move R) (chip .marks) k) → getD (readSlots (move R) (chip .marks) k) i 0 < slotCount (R .sizes)
+  pub whole : (i : ℕ) → i < length (readSlots (move R) (chip .marks) k) → isWhole (chip .marks) (getD (readSlots (move R) (chip .marks) k) i 0) ≡ true
+  pub total : sum (pageAt (R .sizes .p) chip) (readSlots (move R) (chip .marks) k) ≡ page
+  pub read-gives : (work : List ℕ) → length work ≡ workLength (R .sizes)
+      → readAnswer R chip work k ≡ record { number = 0; count = length (readSlots (move R) (chip .marks) k); work = page }
 
 -- what holds at every moment; `chip₀` is the store at rest, "whose pages are the originals"
-pub record Keeps (M : Move) (chip₀ : Chip) (h : History) : Type 0 where
-  pub stays : (k : ℕ) → k < originalCount (M .sizes) → Stays M (h .chip) k (pageAt (M .sizes .p) chip₀ (slotOf (M .sizes .m) k))
+pub record Keeps (R : Request) (chip₀ : Chip) (h : History) : Type 0 where
+  pub stays : (k : ℕ) → k < originalCount (R .sizes) → Stays R (h .chip) k (pageAt (R .sizes .p) chip₀ (slotOf (R .sizes .m) k))
   -- "erases are at most 2 × n plus one for each recovery call"
-  pub erases : count isErase (h .begun) ≤ 2 * M .sizes .n + h .mends
+  pub erases : count isErase (h .begun) ≤ 2 * R .sizes .n + h .mends
   -- "with no cut and no recovery no block is erased more than twice"
   pub block-erases : h .cuts ≡ 0 → h .mends ≡ 0 → (b : ℕ) → count (erasesBlock b) (h .begun) ≤ 2
   -- "the finish is final": "from then on, cuts included, the slot that the list gives for original k holds its bytes"
-  pub final : h .finished ≡ true → (k : ℕ) → k < originalCount (M .sizes)
-      → pageAt (M .sizes .p) (h .chip) (slotOf (M .sizes .m) (getD (M .list) k 0)) ≡ pageAt (M .sizes .p) chip₀ (slotOf (M .sizes .m) k)
+  pub final : h .finished ≡ true → (k : ℕ) → k < originalCount (R .sizes)
+      → pageAt (R .sizes .p) (h .chip) (slotOf (R .sizes .m) (getD (move R .list) k 0)) ≡ pageAt (R .sizes .p) chip₀ (slotOf (R .sizes .m) k)
   -- whenever a run is not refused, store and marks are those of its place (demand 2 along the list)
-  pub placed : (work : List ℕ) (place : ℕ) → refusal (runRows M (h .chip) work place) ≡ 0
-      → h .chip ≡ stateOf M (originalsIn (M .sizes) chip₀) place
+  pub placed : (work : List ℕ) (place : ℕ) → refusal (runRows R (h .chip) work place) ≡ 0
+      → h .chip ≡ stateOf (move R) (originalsIn (R .sizes) chip₀) place
   -- recovery always succeeds, the run after it is accepted, and with budget enough it reaches the finish
-  pub recovers : mendAnswer (M .sizes) (h .chip) .number ≡ 0
-  pub goes-on : (work : List ℕ) → length work ≡ workLength (M .sizes) → (budget : ℕ) → lastPlace (M .sizes) ≤ budget
-      → runAnswer M (mendAnswer (M .sizes) (h .chip) .chip) work (mendAnswer (M .sizes) (h .chip) .place) budget .finished ≡ 1
+  pub recovers : mendAnswer (R .sizes) (h .chip) .number ≡ 0
+  pub goes-on : (work : List ℕ) → length work ≡ workLength (R .sizes) → (budget : ℕ) → lastPlace (R .sizes) ≤ budget
+      → runAnswer R (mendAnswer (R .sizes) (h .chip) .chip) work (mendAnswer (R .sizes) (h .chip) .place) budget .finished ≡ 1
 
 pub data AtEach (P : History → Type 0) : List History → Type 0 where
   none : AtEach P []
@@ -85,10 +86,10 @@ pub data AtEach (P : History → Type 0) : List History → Type 0 where
 
 -- One claim: what holds at every moment of a list of events, and that equal marks mean the same pages summed.
 pub record Demand3 : Type 0 where
-  pub kept : (M : Move) (chip₀ : Chip) → Start M chip₀ → (events : List Event) → AllAllowed M events (starting chip₀)
-      → AtEach (Keeps M chip₀) (moments events (starting chip₀))
+  pub kept : (R : Request) (chip₀ : Chip) → Start R chip₀ → (events : List Event) → AllAllowed R events (starting chip₀)
+      → AtEach (Keeps R chip₀) (moments events (starting chip₀))
   -- The slots are chosen by the move, the marks and k alone, before any store is seen; a read of every chip with these marks sums them.
-  pub same-slots : (M : Move) (marks : List ℕ) (k : ℕ)
+  pub same-slots : (R : Request) (marks : List ℕ) (k : ℕ)
       → (slots : List ℕ)
-      × ((chip : Chip) → chip .marks ≡ marks → (work : List ℕ) → readAnswer M chip work k .number ≡ 0
-      → readAnswer M chip work k ≡ record { number = 0; count = length slots; work = sum (pageAt (M .sizes .p) chip) slots })
+      × ((chip : Chip) → chip .marks ≡ marks → (work : List ℕ) → readAnswer R chip work k .number ≡ 0
+      → readAnswer R chip work k ≡ record { number = 0; count = length slots; work = sum (pageAt (R .sizes .p) chip) slots })

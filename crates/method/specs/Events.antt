@@ -9,7 +9,7 @@ use lib.ListN.{length, take}
 use Rattle.flash.specs.Lists.{range}
 use Rattle.flash.specs.declared.sizes.Sizes.{Sizes}
 use Rattle.flash.specs.Chip.{Chip}
-use Rattle.method.specs.Move.{Move}
+use Rattle.split.specs.Request.{Request}
 use Rattle.method.specs.Place.{Operation, erase}
 use Rattle.method.specs.Step.{operationsFrom}
 use Rattle.method.specs.Mend.{Reading, reading}
@@ -18,9 +18,9 @@ use Rattle.method.specs.Answers.{stepsTaken, runAnswer, mendAnswer, read
 -- A call with all that it is given but store and marks: "Each call gets store and marks as the call or cut before it left them."
 -- "A run has any budget and any place".
 pub data Call : Type 0 where
-  run : Move → (work : List ℕ) → (place budget : ℕ) → Call
+  run : Request → (work : List ℕ) → (place budget : ℕ) → Call
   mend : Sizes → Call
-  read : Move → (work : List ℕ) → (k : ℕ) → Call
+  read : Request → (work : List ℕ) → (k : ℕ) → Call
 
 -- "Any call may be cut. A cut point is the call, how many of its steps are finished, and whether the next is begun." What a cut
 -- inside a step leaves is part of the event, since it is open.
@@ -34,16 +34,16 @@ pub record Event : Type 0 where
   pub cut : CutPoint
 
 -- the sizes that a call is given
-unfoldable pub sizesOf : Call → Sizes
-sizesOf (run M work place budget) = M .sizes
-sizesOf (mend Z) = Z
-sizesOf (read M work k) = M .sizes
+unfoldable pub sizesGiven : Call → Sizes
+sizesGiven (run R work place budget) = R .sizes
+sizesGiven (mend Z) = Z
+sizesGiven (read R work k) = R .sizes
 
 -- the number that the call returns if it is not cut: 0, or its refusal
 unfoldable pub numberOf : Call → Chip → ℕ
-numberOf (run M work place budget) chip = runAnswer M chip work place budget .number
+numberOf (run R work place budget) chip = runAnswer R chip work place budget .number
 numberOf (mend Z) chip = mendAnswer Z chip .number
-numberOf (read M work k) chip = readAnswer M chip work k .number
+numberOf (read R work k) chip = readAnswer R chip work k .number
 
 -- mend's one step, if it has one
 unfoldable pub mendSteps : Option Reading → List Operation
@@ -52,34 +52,34 @@ mendSteps (some found) = elim (found .toErase) [ none ↦ [] | some b ↦ erase 
 
 -- the steps of a call that is not refused; a refused call has none
 unfoldable pub stepsOf : Call → Chip → List Operation
-stepsOf (run M work place budget) chip =
-    cond (eqb (numberOf (run M work place budget) chip) 0) (operationsFrom M place (stepsTaken (M .sizes) place budget)) []
+stepsOf (run R work place budget) chip =
+    cond (eqb (numberOf (run R work place budget) chip) 0) (operationsFrom (R .sizes) place (stepsTaken (R .sizes) place budget)) []
 stepsOf (mend Z) chip = cond (eqb (numberOf (mend Z) chip) 0) (mendSteps (reading Z (chip .marks))) []
-stepsOf (read M work k) chip = []
+stepsOf (read R work k) chip = []
 
 -- the chip once some steps of a call are finished: what the call with just that budget leaves
 unfoldable pub chipAfter : Call → Chip → (finished : ℕ) → Chip
-chipAfter (run M work place budget) chip finished = runAnswer M chip work place finished .chip
+chipAfter (run R work place budget) chip finished = runAnswer R chip work place finished .chip
 chipAfter (mend Z) chip zero = chip
 chipAfter (mend Z) chip (suc finished) = mendAnswer Z chip .chip
-chipAfter (read M work k) chip finished = chip
+chipAfter (read R work k) chip finished = chip
 
 -- the chip once the call has returned
 unfoldable pub chipReturned : Call → Chip → Chip
-chipReturned (run M work place budget) chip = runAnswer M chip work place budget .chip
+chipReturned (run R work place budget) chip = runAnswer R chip work place budget .chip
 chipReturned (mend Z) chip = mendAnswer Z chip .chip
-chipReturned (read M work k) chip = chip
+chipReturned (read R work k) chip = chip
 
 -- "The finish is a run that returns 'finished'"
 unfoldable pub returnsFinished : Call → Chip → Bool
-returnsFinished (run M work place budget) chip = eqb (runAnswer M chip work place budget .finished) 1
+returnsFinished (run R work place budget) chip = eqb (runAnswer R chip work place budget .finished) 1
 returnsFinished (mend Z) chip = false
-returnsFinished (read M work k) chip = false
+returnsFinished (read R work k) chip = false
 
 unfoldable pub isMend : Call → Bool
-isMend (run M work place budget) = false
+isMend (run R work place budget) = false
 isMend (mend Z) = true
-isMend (read M work k) = false
+isMend (read R work k) = false
 
 -- what has happened up to a moment
 pub record History : Type 0 where

@@ -1,3 +1,4 @@
+-- The definitions, each before those that rest on it; the theorems last.
 pub mod Move
 pub mod Cycle
 pub mod Place

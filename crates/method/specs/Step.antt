@@ -1,13 +1,15 @@
 -- Document 01, "Two passes": one step, and run as that step repeated.
 use mathlib.Core.Bool.{Bool, true, false}
 use mathlib.Core.List.{List, [], _∷_}
-use Prim.Native.Nat.{ℕ, zero, suc}
+use Prim.Native.Nat.{ℕ, zero, suc, _+_}
 use lib.Dec.{eqb}
 use lib.ListN.{take, drop}
 use Rattle.flash.specs.Lists.{concatMap}
+use Rattle.flash.specs.declared.sizes.Sizes.{Sizes}
 use Rattle.flash.specs.Geometry.{slot}
 use Rattle.flash.specs.PageSum.{sum}
 use Rattle.flash.specs.Chip.{Chip, pageAt, eraseBlock, writePage}
+use Rattle.method.specs.declared.tally.Tally.{Tally}
 use Rattle.method.specs.Move.{Move}
 use Rattle.method.specs.Place.{Pass, Operation, write, erase, done, markOf, written, operations, operationAt}
 use Rattle.method.specs.Read.{readSlots}
@@ -17,6 +19,9 @@ use Rattle.method.specs.State.{heldOriginals}
 pub record Running : Type 0 where
   pub chip : Chip
   pub work : List ℕ
+
+abbrev pub runningOf : (store marks work : List ℕ) → Running
+runningOf store marks work = record { chip = record { store = store; marks = marks }; work = work }
 
 module _ (M : Move) where
   -- the originals whose sum is written: "page q being c(i) of set q", "the original that the list sends there"
@@ -61,21 +66,29 @@ erasesBlock block (write pass b page) = false
 erasesBlock block (erase b) = eqb b block
 erasesBlock block done = false
 
--- what is counted of the operations done
-pub record Tally : Type 0 where
-  pub steps : ℕ
-  pub writes : ℕ
-  pub erases : ℕ
+-- what is counted of the operations done: of each operation, and of a list of them
+abbrev pub nothingDone : Tally
+nothingDone = record { steps = 0; writes = 0; erases = 0 }
+
+abbrev pub oneWrite : Tally → Tally
+oneWrite t = record { steps = t .steps + 1; writes = t .writes + 1; erases = t .erases }
+
+abbrev pub oneErase : Tally → Tally
+oneErase t = record { steps = t .steps + 1; writes = t .writes; erases = t .erases + 1 }
 
 unfoldable pub tallied : Operation → Tally → Tally
-tallied (write pass block page) t = record { steps = suc (t .steps); writes = suc (t .writes); erases = t .erases }
-tallied (erase block) t = record { steps = suc (t .steps); writes = t .writes; erases = suc (t .erases) }
+tallied (write pass block page) t = oneWrite t
+tallied (erase block) t = oneErase t
 tallied done t = t
 
-unfoldable pub tally : List Operation → Tally
-tally [] = record { steps = 0; writes = 0; erases = 0 }
-tally (op ∷ ops) = tallied op (tally ops)
+unfoldable pub tallyOf : List Operation → Tally
+tallyOf [] = nothingDone
+tallyOf (op ∷ ops) = tallied op (tallyOf ops)
+
+-- two tallies together
+abbrev pub added : Tally → Tally → Tally
+added one two = record { steps = one .steps + two .steps; writes = one .writes + two .writes; erases = one .erases + two .erases }
 
 -- the operations of `count` steps from a place on
-unfoldable pub operationsFrom : Move → (place count : ℕ) → List Operation
-operationsFrom M place count = take count (drop place (operations (M .sizes)))
+unfoldable pub operationsFrom : Sizes → (place count : ℕ) → List Operation
+operationsFrom Z place count = take count (drop place (operations Z))

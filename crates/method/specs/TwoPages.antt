@@ -7,7 +7,8 @@ use Prim.Native.Nat.{ℕ}
 use lib.ListN.{length, take, drop}
 use Rattle.flash.specs.Lists.{range, count}
 use Rattle.flash.specs.Chip.{Chip}
-use Rattle.method.specs.Move.{Move}
+use Rattle.split.specs.Request.{Request}
+use Rattle.method.specs.Move.{move}
 use Rattle.method.specs.State.{atRest, stateOf}
 use Rattle.method.specs.Step.{isErase}
 use Rattle.method.specs.Runs.{Start}
@@ -28,8 +29,8 @@ chip store marks = record { store = store; marks = marks }
 abbrev work : List ℕ
 work = 7 ∷ []
 
--- the same move for a chip of three blocks
-abbrev pub otherSizes : Move
+-- the same request for a chip of three blocks
+abbrev pub otherSizes : Request
 otherSizes = record { sizes = record { n = 3; m = 2; p = 1; s = 0 }; list = two .list; sets = two .sets }
 
 abbrev pub wholeMend : Event
@@ -190,8 +191,8 @@ module _ (byte : ℕ) where
     pub moments-are : map (λ h. length (h .begun)) all-moments
         ≡ 0 ∷ 1 ∷ 2 ∷ 3 ∷ 3 ∷ 3 ∷ 3 ∷ 4 ∷ 5 ∷ 5 ∷ 6 ∷ 7 ∷ 7 ∷ 8 ∷ 8 ∷ 9 ∷ 10 ∷ 10 ∷ 10 ∷ 11 ∷ 12 ∷ 12 ∷ 13 ∷ 14 ∷ 15 ∷ 16 ∷ 17 ∷ 18 ∷ 18 ∷ 18 ∷ 19 ∷ 20 ∷ 20 ∷ []
     -- inside the first call, and inside the run to the finish, the chip goes through the states of the places
-    pub first-call : map (λ h. h .chip) (take 3 all-moments) ≡ map (stateOf two originals) (range 0 3)
-    pub last-run : map (λ h. h .chip) (take 7 (drop 21 all-moments)) ≡ map (stateOf two originals) (range 6 7)
+    pub first-call : map (λ h. h .chip) (take 3 all-moments) ≡ map (stateOf (move two) originals) (range 0 3)
+    pub last-run : map (λ h. h .chip) (take 7 (drop 21 all-moments)) ≡ map (stateOf (move two) originals) (range 6 7)
     -- a read while page 1 of block 1 is torn: it sums n pages, which is the bound
     pub read-torn : readAnswer two (upperTorn byte) work 1 ≡ record { number = 0; count = two .sizes .n; work = 2 ∷ [] }
 

@@ -1,6 +1,8 @@
 // The move as document 01 sets it out: definitions in specs/, theorems about them in proofs/.
 ghost use Rattle.method.specs.Claims.{Claims};
 
+pub mod tally;
+
 // Nothing to run: the contract demands the proofs of the theorems, so that none can vanish unnoticed.
 pub fn claims()
     ensures { λ _. ⌜ Claims ⌝ }

@@ -1,3 +1,4 @@
+-- Laws of the mover's definitions, used by the proofs of its functions.
 pub mod StepLaws
 pub mod WriteSlots
 pub mod RunLaws

@@ -11,7 +11,8 @@ use borrow.Author.Tests.{ne-eqb}
 use Rattle.flash.specs.Tables.{firstFit, numberOr0, refusal}
 use Rattle.flash.specs.Geometry.{originalCount}
 use Rattle.flash.specs.Chip.{Chip}
-use Rattle.method.specs.Move.{Move}
+use Rattle.split.specs.Request.{Request}
+use Rattle.method.specs.Move.{move}
 use Rattle.method.specs.Mend.{reading}
 use Rattle.method.specs.Read.{readSlots, readPage}
 use Rattle.method.specs.Answers.{fitsNone, moveRows, readRows, readAnswer}
@@ -25,34 +26,34 @@ last-rows true beyond = refl
 last-rows false true = refl
 last-rows false false = refl
 
-module _ (M : Move) (chip : Chip) (work : List ℕ) (k : ℕ) where
+module _ (R : Request) (chip : Chip) (work : List ℕ) (k : ℕ) where
   -- what a refused read returns; it leaves the work page
   abbrev Refused : ℕ → ReadResult → Type 0
-  Refused x r = r ≡ record { number = x; count = 0 } → readAs r work ≡ readAnswer M chip work k
+  Refused x r = r ≡ record { number = x; count = 0 } → readAs r work ≡ readAnswer R chip work k
 
-  refused-answer : (x : ℕ) (r : ReadResult) → x ≢ 0 → refusal (readRows M chip work k) ≡ x → Refused x r
+  refused-answer : (x : ℕ) (r : ReadResult) → x ≢ 0 → refusal (readRows R chip work k) ≡ x → Refused x r
   unfolding readAnswer
   refused-answer x r ne e f = rw (f, e, ne-eqb x 0 ne)
 
   -- rows 1 to 4 decide
-  pub refused-by-move : (x : ℕ) (r : ReadResult) → x ≡ refusal (moveRows M chip work []) → x ≢ 0 → Refused x r
+  pub refused-by-move : (x : ℕ) (r : ReadResult) → x ≡ refusal (moveRows R chip work []) → x ≢ 0 → Refused x r
   unfolding readRows
-  refused-by-move x r e ne = refused-answer x r ne (move-then M chip work _ ∙ rw (← e, ne-eqb x 0 ne))
+  refused-by-move x r e ne = refused-answer x r ne (move-then R chip work _ ∙ rw (← e, ne-eqb x 0 ne))
 
   -- and else rows 6 and 7
-  module _ (e : 0 ≡ refusal (moveRows M chip work [])) where
-    by-rest : (unfit beyond : Bool) → unfit ≡ fitsNone (reading (M .sizes) (chip .marks)) → beyond ≡ leb (originalCount (M .sizes)) k
-        → refusal (readRows M chip work k) ≡ cond unfit 6 (cond beyond 7 0)
+  module _ (e : 0 ≡ refusal (moveRows R chip work [])) where
+    by-rest : (unfit beyond : Bool) → unfit ≡ fitsNone (reading (R .sizes) (chip .marks)) → beyond ≡ leb (originalCount (R .sizes)) k
+        → refusal (readRows R chip work k) ≡ cond unfit 6 (cond beyond 7 0)
     unfolding readRows
-    by-rest unfit beyond f g = move-then M chip work _ ∙ rw (← e, ← f, ← g) (last-rows unfit beyond)
+    by-rest unfit beyond f g = move-then R chip work _ ∙ rw (← e, ← f, ← g) (last-rows unfit beyond)
 
-    pub refused-6 : (beyond : Bool) (r : ReadResult) → true ≡ fitsNone (reading (M .sizes) (chip .marks)) → beyond ≡ leb (originalCount (M .sizes)) k → Refused 6 r
+    pub refused-6 : (beyond : Bool) (r : ReadResult) → true ≡ fitsNone (reading (R .sizes) (chip .marks)) → beyond ≡ leb (originalCount (R .sizes)) k → Refused 6 r
     refused-6 beyond r f g = refused-answer 6 r (λ z. absurd (omega arith)) (by-rest true beyond f g)
 
-    pub refused-7 : (r : ReadResult) → false ≡ fitsNone (reading (M .sizes) (chip .marks)) → true ≡ leb (originalCount (M .sizes)) k → Refused 7 r
+    pub refused-7 : (r : ReadResult) → false ≡ fitsNone (reading (R .sizes) (chip .marks)) → true ≡ leb (originalCount (R .sizes)) k → Refused 7 r
     refused-7 r f g = refused-answer 7 r (λ z. absurd (omega arith)) (by-rest false true f g)
 
-    pub rebuilt : (count : ℕ) (after : List ℕ) → false ≡ fitsNone (reading (M .sizes) (chip .marks)) → false ≡ leb (originalCount (M .sizes)) k
-        → count ≡ length (readSlots M (chip .marks) k) → after ≡ readPage M chip k → readAs (record { number = 0; count = count }) after ≡ readAnswer M chip work k
+    pub rebuilt : (count : ℕ) (after : List ℕ) → false ≡ fitsNone (reading (R .sizes) (chip .marks)) → false ≡ leb (originalCount (R .sizes)) k
+        → count ≡ length (readSlots (move R) (chip .marks) k) → after ≡ readPage (move R) chip k → readAs (record { number = 0; count = count }) after ≡ readAnswer R chip work k
     unfolding readAnswer
     rebuilt count after f g h i = rw (by-rest false false f g, h, i)

@@ -12,11 +12,12 @@ use Rattle.flash.specs.Geometry.{inRange, originalCount}
 use Rattle.flash.specs.Chip.{Chip}
 use Rattle.split.specs.OneToOne.{badList, isOneToOne}
 use Rattle.split.specs.Split.{isSplit, isCorrectSplit}
-use Rattle.method.specs.Move.{Move, AcceptedMove}
+use Rattle.split.specs.Request.{Request}
+use Rattle.method.specs.Move.{move}
 use Rattle.method.specs.Place.{lastPlace}
+use Rattle.method.specs.Step.{nothingDone}
 use Rattle.method.specs.Answers.{badParts, isElsewhere, moveRows, runRows, RunAnswer, runCarriedOut, runRefused, runAnswer}
-use Rattle.method.proofs.basics.AcceptedCalls.{parts-ok, move-accepted, run-taken}
-use Rattle.mover.specs.inner.Steps.{Lent}
+use Rattle.method.proofs.basics.AcceptedCalls.{parts-ok, run-taken}
 use Rattle.mover.specs.Answers.{ranAs}
 use Rattle.mover.specs.declared.run.RunResult.{RunResult}
 
@@ -41,53 +42,45 @@ rows-then false false true d rest = refl
 rows-then false false false true rest = refl
 rows-then false false false false rest = refl
 
-module _ (M : Move) (chip : Chip) (work : List ℕ) where
+module _ (R : Request) (chip : Chip) (work : List ℕ) where
   abbrev number : ℕ
-  number = refusal (moveRows M chip work [])
+  number = refusal (moveRows R chip work [])
 
   pub move-number : number
-      ≡ cond (not (inRange (M .sizes))) 1 (cond (badParts M chip work) 2
-      (cond (badList (originalCount (M .sizes)) (M .list)) 3 (cond (not (isSplit (M .sizes .n) (M .sizes .m) (M .list) (M .sets))) 4 0)))
+      ≡ cond (not (inRange (R .sizes))) 1 (cond (badParts R chip work) 2
+      (cond (badList (originalCount (R .sizes)) (R .list)) 3 (cond (not (isSplit (R .sizes .n) (R .sizes .m) (R .list) (R .sets))) 4 0)))
   unfolding moveRows
   move-number = rows-number _ _ _ _
 
-  pub move-then : (rest : List (Row ℕ)) → refusal (moveRows M chip work rest) ≡ cond (eqb number 0) (refusal rest) number
+  pub move-then : (rest : List (Row ℕ)) → refusal (moveRows R chip work rest) ≡ cond (eqb number 0) (refusal rest) number
   unfolding moveRows
   move-then rest = rows-then _ _ _ _ rest
 
   -- Past rows 1 and 2: 0 where there is a split, and else 3 or 4 by the list.
-  pub move-split : inRange (M .sizes) ≡ true → badParts M chip work ≡ false
-      → number ≡ cond (isCorrectSplit (M .sizes) (M .list) (M .sets)) 0 (cond (isOneToOne (originalCount (M .sizes)) (M .list)) 4 3)
+  pub move-split : inRange (R .sizes) ≡ true → badParts R chip work ≡ false
+      → number ≡ cond (isCorrectSplit (R .sizes) (R .list) (R .sets)) 0 (cond (isOneToOne (originalCount (R .sizes)) (R .list)) 4 3)
   unfolding isCorrectSplit isOneToOne
   move-split e f =
-      let lengths = parts-ok M chip work f in
+      let lengths = parts-ok R chip work f in
       move-number
       ∙ rw (e, f, eq-eqb _ _ (lengths .0), eq-eqb _ _ (lengths .1))
-      (by-list (badList (originalCount (M .sizes)) (M .list)) (isSplit (M .sizes .n) (M .sizes .m) (M .list) (M .sets)))
+      (by-list (badList (originalCount (R .sizes)) (R .list)) (isSplit (R .sizes .n) (R .sizes .m) (R .list) (R .sets)))
     where
       by-list : (bad split : Bool) → _≡_ {A = ℕ} (cond bad 3 (cond (not split) 4 0)) (cond (not bad && split) 0 (cond (not bad) 4 3))
       by-list true split = refl
       by-list false true = refl
       by-list false false = refl
 
-  -- what a move that is not refused was given
-  pub given : number ≡ 0 → AcceptedMove M × Lent M (chip .store) (chip .marks) work
-  given e =
-      let a = move-accepted M chip work [] e in (
-        a .0,
-        record { store-length = a .1 .store-length; marks-length = a .1 .marks-length; work-length = a .1 .work-length },
-      )
-
 -- ---- the answer of run
-module _ (M : Move) (chip : Chip) (work : List ℕ) (place budget : ℕ) where
+module _ (R : Request) (chip : Chip) (work : List ℕ) (place budget : ℕ) where
   -- rows 1 to 4 decide, and else row 5
-  by-move : (x : ℕ) → x ≡ refusal (moveRows M chip work []) → x ≢ 0 → refusal (runRows M chip work place) ≡ x
+  by-move : (x : ℕ) → x ≡ refusal (moveRows R chip work []) → x ≢ 0 → refusal (runRows R chip work place) ≡ x
   unfolding runRows
-  by-move x e ne = move-then M chip work _ ∙ rw (← e, ne-eqb x 0 ne)
+  by-move x e ne = move-then R chip work _ ∙ rw (← e, ne-eqb x 0 ne)
 
-  by-place : (elsewhere : Bool) → 0 ≡ refusal (moveRows M chip work []) → elsewhere ≡ isElsewhere M chip place → refusal (runRows M chip work place) ≡ cond elsewhere 5 0
+  by-place : (elsewhere : Bool) → 0 ≡ refusal (moveRows R chip work []) → elsewhere ≡ isElsewhere (R .sizes) chip place → refusal (runRows R chip work place) ≡ cond elsewhere 5 0
   unfolding runRows refusal firstFit numberOr0
-  by-place elsewhere e f = move-then M chip work _ ∙ rw (← e, ← f) (last elsewhere)
+  by-place elsewhere e f = move-then R chip work _ ∙ rw (← e, ← f) (last elsewhere)
     where
       last : (t : Bool) → refusal (record { fits = t; gives = 5 } ∷ []) ≡ cond t 5 0
       last true = refl
@@ -96,23 +89,23 @@ module _ (M : Move) (chip : Chip) (work : List ℕ) (place budget : ℕ) where
   -- what a refused run returns; it leaves all as it was
   abbrev Refused : ℕ → Type 0
   Refused x =
-      (ran : RunResult) → ran ≡ record { number = x; place = 0; steps = 0; writes = 0; erases = 0; finished = 0 }
-      → ranAs ran (chip .store) (chip .marks) work ≡ runAnswer M chip work place budget
+      (ran : RunResult) → ran ≡ record { number = x; place = 0; tally = nothingDone; finished = 0 }
+      → ranAs ran (chip .store) (chip .marks) work ≡ runAnswer R chip work place budget
 
-  refused-answer : (x : ℕ) → x ≢ 0 → refusal (runRows M chip work place) ≡ x → Refused x
+  refused-answer : (x : ℕ) → x ≢ 0 → refusal (runRows R chip work place) ≡ x → Refused x
   unfolding runAnswer runRefused
   refused-answer x ne e ran r = rw (r, e, ne-eqb x 0 ne)
 
-  pub refused-by-move : (x : ℕ) → x ≡ refusal (moveRows M chip work []) → x ≢ 0 → Refused x
+  pub refused-by-move : (x : ℕ) → x ≡ refusal (moveRows R chip work []) → x ≢ 0 → Refused x
   refused-by-move x e ne = refused-answer x ne (by-move x e ne)
 
-  pub refused-by-place : 0 ≡ refusal (moveRows M chip work []) → true ≡ isElsewhere M chip place → Refused 5
+  pub refused-by-place : 0 ≡ refusal (moveRows R chip work []) → true ≡ isElsewhere (R .sizes) chip place → Refused 5
   refused-by-place e f = refused-answer 5 (λ z. absurd (omega arith)) (by-place true e f)
 
-  module _ (e : 0 ≡ refusal (moveRows M chip work [])) (f : false ≡ isElsewhere M chip place) where
-    pub in-place : place ≤ lastPlace (M .sizes)
-    in-place = run-taken M chip work place (by-place false e f) .stands .inside
+  module _ (e : 0 ≡ refusal (moveRows R chip work [])) (f : false ≡ isElsewhere (R .sizes) chip place) where
+    pub in-place : place ≤ lastPlace (R .sizes)
+    in-place = run-taken R chip work place (by-place false e f) .stands .inside
 
-    pub not-refused : (answer : RunAnswer) → answer ≡ runCarriedOut M chip work place budget → answer ≡ runAnswer M chip work place budget
+    pub not-refused : (answer : RunAnswer) → answer ≡ runCarriedOut (move R) chip work place budget → answer ≡ runAnswer R chip work place budget
     unfolding runAnswer
     not-refused answer A = rw (by-place false e f) A

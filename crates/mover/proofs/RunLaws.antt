@@ -1,74 +1,58 @@
 -- A run step by step: what one step more leaves and counts.
-use mathlib.Core.Path.{_≡_, refl, ap₂}
+use mathlib.Core.Path.{_≡_, refl}
 use mathlib.Core.Bool.{cond}
-use mathlib.Core.List.{List, [], _∷_}
+use mathlib.Core.List.{List}
 use Prim.Native.Nat.{ℕ, _+_, _-_, _*_, _≤_, _<_, min}
 use native.Mathlib.Omega.{arith}
 use lib.Dec.{eqb}
-use Rattle.flash.specs.Chip.{Chip}
+use Rattle.flash.specs.declared.sizes.Sizes.{Sizes}
 use Rattle.flash.proofs.Bounds.{product-le}
+use Rattle.method.specs.declared.tally.Tally.{Tally}
 use Rattle.method.specs.Move.{Move, AcceptedMove}
-use Rattle.method.specs.Place.{Operation, write, erase, done, operationAt, lastPlace}
-use Rattle.method.specs.Step.{Running, step, steps, tallied, tally, operationsFrom}
+use Rattle.method.specs.Place.{operationAt, lastPlace}
+use Rattle.method.specs.Step.{runningOf, Running, step, steps, nothingDone, tallied, tallyOf, operationsFrom}
 use Rattle.method.specs.Answers.{stepsTaken, runCarriedOut}
 use Rattle.method.proofs.states.StepsAddUp.{steps-add}
-use Rattle.method.proofs.places.Tallies.{tally-split, operationsFrom-suc}
-use Rattle.mover.specs.inner.Steps.{runningOf, Leaves, Counted}
+use Rattle.method.proofs.places.Tallies.{tally-next, few-tallied}
+use Rattle.mover.specs.inner.Steps.{mostSteps, FewCounted}
 use Rattle.mover.specs.Answers.{ranAs}
 
--- what is lent makes up the run
-left-is : (after : Running) (store marks work : List ℕ) → Leaves after store marks work → runningOf store marks work ≡ after
-left-is after store marks work L =
-    ap₂ {C = Running} (λ (c : Chip) (w : List ℕ). record { chip = c; work = w })
-    (ap₂ {C = Chip} (λ (s t : List ℕ). record { store = s; marks = t }) (L .store-is) (L .marks-is)) (L .work-is)
-
-pub none-taken : (M : Move) (place : ℕ) (store marks work : List ℕ) → Leaves (steps M 0 place (runningOf store marks work)) store marks work
+pub none-taken : (M : Move) (place : ℕ) (run : Running) → run ≡ steps M 0 place run
 unfolding steps
-none-taken M place store marks work = record { store-is = refl; marks-is = refl; work-is = refl }
+none-taken M place run = refl
 
-pub none-counted : (M : Move) (place : ℕ) → Counted (tally (operationsFrom M place 0)) 0 0 0
-unfolding tally operationsFrom
-none-counted M place = record { steps-is = refl; writes-is = refl; erases-is = refl }
+pub none-counted : (Z : Sizes) (place : ℕ) → nothingDone ≡ tallyOf (operationsFrom Z place 0)
+unfolding tallyOf operationsFrom
+none-counted Z place = refl
 
 module _ (M : Move) (place i : ℕ) where
-  pub one-taken : (run : Running) (store marks work store′ marks′ work′ : List ℕ) → Leaves (steps M i place run) store marks work
-      → Leaves (step M (place + i) (runningOf store marks work)) store′ marks′ work′ → Leaves (steps M (i + 1) place run) store′ marks′ work′
+  pub one-taken : (start run next : Running) → run ≡ steps M i place start → next ≡ step M (place + i) run → next ≡ steps M (i + 1) place start
   unfolding steps
-  one-taken run store marks work store′ marks′ work′ L S =
-      rw (steps-add M i 1 place run, ← left-is (steps M i place run) store marks work L) S
+  one-taken start run next e f = rw (steps-add M i 1 place start, ← e) f
 
-  pub one-counted : (a b c x y z : ℕ) → place + i < lastPlace (M .sizes) → Counted (tally (operationsFrom M place i)) a b c
-      → Counted (tally (operationAt (M .sizes) (place + i) ∷ [])) x y z → Counted (tally (operationsFrom M place (i + 1))) (a + x) (b + y) (c + z)
-  unfolding operationsFrom
-  one-counted a b c x y z h C D =
-      let A = tally-split M place i 1 in
-      let e : operationsFrom M (place + i) 1 ≡ operationAt (M .sizes) (place + i) ∷ [] = operationsFrom-suc M (place + i) 0 h in
-      let S = rw e at A in
-      record {
-        steps-is = omega (arith, S .steps, C .steps-is, D .steps-is);
-        writes-is = omega (arith, S .writes, C .writes-is, D .writes-is);
-        erases-is = omega (arith, S .erases, C .erases-is, D .erases-is);
-      }
-
--- a step counts at most one of each
-pub at-most-one : (op : Operation) (x y z : ℕ) → Counted (tally (op ∷ [])) x y z → (x ≤ 1) × (y ≤ 1) × (z ≤ 1)
-unfolding tally tallied
-at-most-one (write pass b q) x y z C = (omega (arith, C .steps-is), omega (arith, C .writes-is), omega (arith, C .erases-is))
-at-most-one (erase b) x y z C = (omega (arith, C .steps-is), omega (arith, C .writes-is), omega (arith, C .erases-is))
-at-most-one done x y z C = (omega (arith, C .steps-is), omega (arith, C .writes-is), omega (arith, C .erases-is))
+  pub one-counted : (tally next : Tally) → place + i < lastPlace (M .sizes) → tally ≡ tallyOf (operationsFrom (M .sizes) place i)
+      → next ≡ tallied (operationAt (M .sizes) (place + i)) tally → next ≡ tallyOf (operationsFrom (M .sizes) place (i + 1))
+  one-counted tally next h e f = rw (tally-next (M .sizes) place i h, ← e) f
 
 -- a move has few steps
-pub last-small : (M : Move) → AcceptedMove M → lastPlace (M .sizes) ≤ 8320
+pub last-small : (M : Move) → AcceptedMove M → lastPlace (M .sizes) ≤ mostSteps
 unfolding lastPlace
 last-small M G = omega (arith, product-le (2 * M .sizes .n) (M .sizes .m + 1) {c = 128} {d = 65} (omega (arith, G .ranges .n-high)) (omega (arith, G .ranges .m-high)))
 
+pub counts-fit : (M : Move) → AcceptedMove M → (place i : ℕ) (tally : Tally) → place + i ≤ lastPlace (M .sizes)
+    → tally ≡ tallyOf (operationsFrom (M .sizes) place i) → FewCounted tally
+counts-fit M G place i tally h e =
+    let few = last-small M G in
+    let counts = few-tallied (M .sizes) i place h in
+    rw e (record { steps = omega arith; writes = omega arith; erases = omega arith })
+
 -- ---- the answer of a run that is carried out
-pub carried : (M : Move) (store marks work : List ℕ) (place budget last taken : ℕ) (store′ marks′ work′ : List ℕ) (a b c finished : ℕ)
+pub carried : (M : Move) (store marks work : List ℕ) (place budget last taken : ℕ) (store′ marks′ work′ : List ℕ) (tally : Tally) (finished : ℕ)
     → last ≡ lastPlace (M .sizes) → taken ≡ min budget (last - place) → finished ≡ cond (eqb (place + taken) last) 1 0
-    → Leaves (steps M taken place (runningOf store marks work)) store′ marks′ work′ → Counted (tally (operationsFrom M place taken)) a b c
-    → ranAs (record { number = 0; place = place + taken; steps = a; writes = b; erases = c; finished = finished }) store′ marks′ work′
+    → runningOf store′ marks′ work′ ≡ steps M taken place (runningOf store marks work) → tally ≡ tallyOf (operationsFrom (M .sizes) place taken)
+    → ranAs (record { number = 0; place = place + taken; tally = tally; finished = finished }) store′ marks′ work′
     ≡ runCarriedOut M (record { store = store; marks = marks }) work place budget
 unfolding runCarriedOut stepsTaken
-carried M store marks work place budget last taken store′ marks′ work′ a b c finished e f g L C =
+carried M store marks work place budget last taken store′ marks′ work′ tally finished e f g L C =
     let t : taken ≡ min budget (lastPlace (M .sizes) - place) = rw e at f in
-    rw (← t, ← e, g, C .steps-is, C .writes-is, C .erases-is, L .store-is, L .marks-is, L .work-is)
+    rw (← t, ← e, g, C, ← L)

@@ -1,7 +1,7 @@
 -- What a step does: the slots that are summed for a write, and the operation that a place has.
-use mathlib.Core.Path.{_≡_, refl, sym, ap, _∙_, subst}
+use mathlib.Core.Path.{_≡_, sym, ap, _∙_, subst}
 use mathlib.Core.Bool.{true, false}
-use mathlib.Core.List.{List, [], _∷_, _++_, append-nil}
+use mathlib.Core.List.{List, _++_, append-nil}
 use Prim.Native.Nat.{ℕ, _+_, _-_, _*_, _≤_, _<_}
 use native.Mathlib.Omega.{arith}
 use lib.ListN.{take, drop}
@@ -10,17 +10,17 @@ use Rattle.flash.specs.Lists.{concatMap, part}
 use Rattle.flash.specs.declared.sizes.Sizes.{Sizes}
 use Rattle.flash.specs.Geometry.{slot, numberAt}
 use Rattle.flash.specs.PageSum.{sum}
-use Rattle.flash.specs.Chip.{Holds, pageAt, writePage, eraseBlock}
+use Rattle.flash.specs.Chip.{Chip, Holds, pageAt, writePage, eraseBlock}
+use Rattle.method.specs.declared.tally.Tally.{Tally}
 use Rattle.method.specs.Move.{Move, AcceptedMove}
 use Rattle.method.specs.Cycle.{D, pred, isTop, coded, sentTo}
-use Rattle.method.specs.Place.{Pass, forward, backward, Operation, write, erase, done, markOf, writes, operationAt, written}
+use Rattle.method.specs.Place.{Pass, forward, backward, Operation, write, erase, markOf, operationAt, written}
 use Rattle.method.specs.Read.{readSlots}
 use Rattle.method.specs.State.{heldOriginals}
-use Rattle.method.specs.Step.{originalsOf, writeSlots, writtenPage, perform, Running, step, tallied, tally}
+use Rattle.method.specs.Step.{runningOf, originalsOf, writeSlots, writtenPage, perform, Running, step, tallied}
 use Rattle.method.proofs.basics.Indexes.{slot-lt}
 use Rattle.method.proofs.cycles.SetCycles.{sent-in}
 use Rattle.walk.specs.inner.Slots.{Appends}
-use Rattle.mover.specs.inner.Steps.{runningOf, Leaves, Counted}
 
 -- slots put behind slots
 pub appends-twice : (one two three more others : List ℕ) (a b : ℕ) → Appends one 0 more two a → Appends two a others three b → take b three ≡ more ++ others
@@ -58,6 +58,9 @@ module _ (M : Move) (G : AcceptedMove M) (block page : ℕ) (page-in : page < M 
         rw (t, ← e, ← f, ← g) (ap (λ (xs : List ℕ). readSlots M marks k ++ xs) (append-nil (readSlots M marks j)))
 
 -- ---- a write
+pub held : (chip : Chip) (store marks : List ℕ) → Holds chip store marks → record { store = store; marks = marks } ≡ chip
+held chip store marks H = λ i. record { store = H .store-is i; marks = H .marks-is i }
+
 module _ (M : Move) (pass : Pass) (block page : ℕ) (store marks work : List ℕ) where
   open Sizes (M .sizes) using (m, p as P)
 
@@ -67,38 +70,20 @@ module _ (M : Move) (pass : Pass) (block page : ℕ) (store marks work : List �
   written-is slots new count e f = e ∙ ap (sum (λ t. part P t store)) f
 
   pub wrote : (new store′ marks′ : List ℕ) (mark : ℕ) → new ≡ writtenPage M pass block page (record { store = store; marks = marks }) → mark ≡ markOf (M .sizes) pass
-      → Holds (writePage P (slot m block page) new mark (record { store = store; marks = marks })) store′ marks′
-      → Leaves (perform M (write pass block page) (runningOf store marks work)) store′ marks′ new
+      → _≡_ {A = Chip} (record { store = store′; marks = marks′ }) (writePage P (slot m block page) new mark (record { store = store; marks = marks }))
+      → runningOf store′ marks′ new ≡ perform M (write pass block page) (runningOf store marks work)
   unfolding perform
-  wrote new store′ marks′ mark e f H = rw (← e, ← f) (record { store-is = H .store-is; marks-is = H .marks-is; work-is = refl })
+  wrote new store′ marks′ mark e f g = rw (← e, ← f, ← g)
 
 -- ---- the other steps, and the step at a place
 pub erased : (M : Move) (block : ℕ) (store marks work store′ marks′ : List ℕ)
-    → Holds (eraseBlock (M .sizes .m) (M .sizes .p) block (record { store = store; marks = marks })) store′ marks′
-    → Leaves (perform M (erase block) (runningOf store marks work)) store′ marks′ work
+    → _≡_ {A = Chip} (record { store = store′; marks = marks′ }) (eraseBlock (M .sizes .m) (M .sizes .p) block (record { store = store; marks = marks }))
+    → runningOf store′ marks′ work ≡ perform M (erase block) (runningOf store marks work)
 unfolding perform
-erased M block store marks work store′ marks′ H = record { store-is = H .store-is; marks-is = H .marks-is; work-is = refl }
+erased M block store marks work store′ marks′ e = rw (← e)
 
-pub nothing : (M : Move) (store marks work : List ℕ) → Leaves (perform M done (runningOf store marks work)) store marks work
-unfolding perform
-nothing M store marks work = record { store-is = refl; marks-is = refl; work-is = refl }
-
-module _ (M : Move) (at : ℕ) (op : Operation) (is : operationAt (M .sizes) at ≡ op) where
-  pub stepped : (run : Running) (store marks work : List ℕ) → Leaves (perform M op run) store marks work → Leaves (step M at run) store marks work
-  unfolding step
-  stepped run store marks work L = rw is L
-
-  pub counted : (steps writes erases : ℕ) → Counted (tally (op ∷ [])) steps writes erases → Counted (tally (operationAt (M .sizes) at ∷ [])) steps writes erases
-  counted steps writes erases C = rw is C
-
-pub one-write : (pass : Pass) (block page : ℕ) → Counted (tally (write pass block page ∷ [])) 1 1 0
-unfolding tally tallied
-one-write pass block page = record { steps-is = refl; writes-is = refl; erases-is = refl }
-
-pub one-erase : (block : ℕ) → Counted (tally (erase block ∷ [])) 1 0 1
-unfolding tally tallied
-one-erase block = record { steps-is = refl; writes-is = refl; erases-is = refl }
-
-pub no-step : Counted (tally (done ∷ [])) 0 0 0
-unfolding tally tallied
-no-step = record { steps-is = refl; writes-is = refl; erases-is = refl }
+pub stepped : (M : Move) (at : ℕ) (op : Operation) → operationAt (M .sizes) at ≡ op
+    → (run after : Running) (tally next : Tally) → after ≡ perform M op run → next ≡ tallied op tally
+    → (after ≡ step M at run) × (next ≡ tallied (operationAt (M .sizes) at) tally)
+unfolding step
+stepped M at op is run after tally next e f = rw is (e, f)

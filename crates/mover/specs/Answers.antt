@@ -9,9 +9,7 @@ abbrev pub ranAs : RunResult → (store marks work : List ℕ) → RunAnswer
 ranAs ran store marks work = record {
   number = ran .number;
   place = ran .place;
-  steps = ran .steps;
-  writes = ran .writes;
-  erases = ran .erases;
+  tally = ran .tally;
   finished = ran .finished;
   chip = record { store = store; marks = marks };
   work = work;

@@ -1,2 +1,2 @@
--- How the code works inside: what a step is given and leaves. Nothing here has to be believed.
+-- How the code works inside: how much is counted at most. Nothing here has to be believed.
 pub mod Steps

@@ -2,10 +2,10 @@
 ghost use mathlib.Core.Path.{_≡_};
 ghost use Prim.Native.Nat.{_*_, _<_};
 ghost use lib.ListN.{length};
-ghost use Rattle.method.specs.Move.{moveOf, AcceptedMove};
+ghost use Rattle.split.specs.Request.{requestOf};
+ghost use Rattle.method.specs.Move.{moveOf, AcceptedMove, Lent};
 ghost use Rattle.method.specs.Read.{readSlots, readPage};
 ghost use Rattle.method.specs.Answers.{readAnswer};
-ghost use Rattle.mover.specs.inner.Steps.{Lent};
 ghost use Rattle.mover.specs.Answers.{readAs};
 use crate::refusals::move_refusal;
 use flash::sizes::Sizes;
@@ -37,7 +37,7 @@ fn rebuild(
     work: &mut [u8],
     k: usize,
 ) -> usize
-    requires { ⌜ AcceptedMove (moveOf sizes (now list) (now sets)) × Lent (moveOf sizes (now list) (now sets)) (now store) (now marks) (now work)
+    requires { ⌜ AcceptedMove (moveOf sizes (now list) (now sets)) × Lent sizes (record { store = now store; marks = now marks }) (now work)
         × (k < sizes .n * sizes .m) ⌝ }
     ensures { λ r. ⌜ (r ≡ length (readSlots (moveOf sizes (now (list .entry)) (now (sets .entry))) (now (marks .entry)) k)) × (r < 66) ⌝ }
     ensures { λ _. ⌜ now (work .exit) ≡ readPage (moveOf sizes (now (list .entry)) (now (sets .entry)))
@@ -63,7 +63,7 @@ pub fn read(
     k: usize,
 ) -> ReadResult
     ensures { λ r. ⌜ readAs r (now (work .exit))
-        ≡ readAnswer (moveOf sizes (now (list .entry)) (now (sets .entry))) (record { store = now (store .entry); marks = now (marks .entry) })
+        ≡ readAnswer (requestOf sizes (now (list .entry)) (now (sets .entry))) (record { store = now (store .entry); marks = now (marks .entry) })
         (now (work .entry)) k ⌝ }
 {
     let number = move_refusal(sizes, list, sets, store, marks, work);

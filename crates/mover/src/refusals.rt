@@ -2,7 +2,7 @@
 ghost use mathlib.Core.Path.{_≡_};
 ghost use mathlib.Core.List.{[]};
 ghost use Prim.Native.Nat.{_≤_};
-ghost use Rattle.method.specs.Move.{moveOf};
+ghost use Rattle.split.specs.Request.{requestOf};
 ghost use Rattle.flash.specs.Tables.{refusal};
 ghost use Rattle.method.specs.Answers.{badParts, moveRows};
 use flash::sizes::Sizes;
@@ -23,7 +23,7 @@ fn bad_parts(
     work: &[u8],
 ) -> bool
     requires { ⌜ (sizes .n ≤ 64) × (sizes .m ≤ 64) × (sizes .p ≤ 4096) ⌝ }
-    ensures { λ r. ⌜ r ≡ badParts (moveOf sizes (now (list .entry)) (now (sets .entry)))
+    ensures { λ r. ⌜ r ≡ badParts (requestOf sizes (now (list .entry)) (now (sets .entry)))
         (record { store = now (store .entry); marks = now (marks .entry) }) (now (work .entry)) ⌝ }
 {
     let originals = original_count(sizes);
@@ -43,7 +43,7 @@ pub fn move_refusal(
     marks: &[u8],
     work: &[u8],
 ) -> u32
-    ensures { λ r. ⌜ r ≡ refusal (moveRows (moveOf sizes (now (list .entry)) (now (sets .entry)))
+    ensures { λ r. ⌜ r ≡ refusal (moveRows (requestOf sizes (now (list .entry)) (now (sets .entry)))
         (record { store = now (store .entry); marks = now (marks .entry) }) (now (work .entry)) []) ⌝ }
 {
     if !in_range(sizes) {

@@ -3,18 +3,19 @@ ghost use mathlib.Core.Path.{_≡_};
 ghost use mathlib.Core.Bool.{cond};
 ghost use Prim.Native.Nat.{_+_, _≤_, min};
 ghost use lib.Dec.{eqb};
-ghost use Rattle.method.specs.Move.{moveOf, AcceptedMove};
+ghost use Rattle.split.specs.Request.{requestOf};
+ghost use Rattle.method.specs.Move.{moveOf, AcceptedMove, Lent};
 ghost use Rattle.method.specs.Place.{lastPlace};
 ghost use Rattle.method.specs.Step as method;
-ghost use Rattle.method.specs.Step.{tally, operationsFrom};
+ghost use Rattle.method.specs.Step.{runningOf, nothingDone, tallyOf, operationsFrom};
 ghost use Rattle.method.specs.Answers.{runCarriedOut, runAnswer};
 ghost use Rattle.walk.specs.inner.Moving.{Tables};
-ghost use Rattle.mover.specs.inner.Steps.{Lent, runningOf, Leaves, Counted};
 ghost use Rattle.mover.specs.Answers.{ranAs};
 use crate::refusals::move_refusal;
-use crate::step::Tally;
 use crate::step::step;
+use crate::tally::nothing_done;
 use flash::sizes::Sizes;
+use method::tally::Tally;
 use places::place::Place;
 use places::place::last_place;
 use places::place_marks::is_elsewhere;
@@ -24,9 +25,7 @@ use walk::cycles::follow;
 pub struct RunResult {
     pub number: u32,
     pub place: u32,
-    pub steps: u32,
-    pub writes: u32,
-    pub erases: u32,
+    pub tally: Tally,
     pub finished: u32,
 }
 
@@ -44,31 +43,32 @@ fn take_steps(
     taken: usize,
 ) -> Tally
     requires { ⌜ Tables (moveOf sizes (now list) (now sets)) (now pages) (now from)
-        × Lent (moveOf sizes (now list) (now sets)) (now store) (now marks) (now work) × (place + taken ≤ lastPlace sizes) ⌝ }
-    ensures { λ _. ⌜ Leaves (method.steps (moveOf sizes (now (list .entry)) (now (sets .entry))) taken place
-        (runningOf (now (store .entry)) (now (marks .entry)) (now (work .entry)))) (now (store .exit)) (now (marks .exit))
-        (now (work .exit)) ⌝ }
-    ensures { λ r. ⌜ Counted (tally (operationsFrom (moveOf sizes (now (list .entry)) (now (sets .entry))) place taken)) (r .steps) (r .writes)
-        (r .erases) ⌝ }
+        × Lent sizes (record { store = now store; marks = now marks }) (now work) × (place + taken ≤ lastPlace sizes) ⌝ }
+    ensures { λ _. ⌜ runningOf (now (store .exit)) (now (marks .exit)) (now (work .exit))
+        ≡ method.steps (moveOf sizes (now (list .entry)) (now (sets .entry))) taken place
+        (runningOf (now (store .entry)) (now (marks .entry)) (now (work .entry))) ⌝ }
+    ensures { λ r. ⌜ r ≡ tallyOf (operationsFrom sizes place taken) ⌝ }
 {
     let mut at = Place { at: place };
-    let mut steps: u32 = 0;
-    let mut writes: u32 = 0;
-    let mut erases: u32 = 0;
+    let mut tally = nothing_done();
     let mut i = 0;
     while i < taken {
-        let done = step(sizes, list, sets, pages, from, store, marks, work, at);
-        steps += done.steps;
-        writes += done.writes;
-        erases += done.erases;
+        tally = step(
+            sizes,
+            list,
+            sets,
+            pages,
+            from,
+            store,
+            marks,
+            work,
+            at,
+            tally,
+        );
         at = at.next();
         i += 1;
     }
-    Tally {
-        steps,
-        writes,
-        erases,
-    }
+    tally
 }
 
 fn smaller(a: usize, b: usize) -> usize
@@ -95,7 +95,7 @@ fn carry_out(
     place: usize,
     budget: usize,
 ) -> RunResult
-    requires { ⌜ AcceptedMove (moveOf sizes (now list) (now sets)) × Lent (moveOf sizes (now list) (now sets)) (now store) (now marks) (now work)
+    requires { ⌜ AcceptedMove (moveOf sizes (now list) (now sets)) × Lent sizes (record { store = now store; marks = now marks }) (now work)
         × (place ≤ lastPlace sizes) ⌝ }
     ensures { λ r. ⌜ ranAs r (now (store .exit)) (now (marks .exit)) (now (work .exit))
         ≡ runCarriedOut (moveOf sizes (now (list .entry)) (now (sets .entry))) (record { store = now (store .entry); marks = now (marks .entry) })
@@ -106,7 +106,7 @@ fn carry_out(
     follow(sizes, list, sets, &mut pages, &mut from);
     let last = last_place(sizes);
     let taken = smaller(budget, last - place);
-    let done = take_steps(
+    let tally = take_steps(
         sizes,
         list,
         sets,
@@ -122,22 +122,18 @@ fn carry_out(
     RunResult {
         number: 0,
         place: reached as u32,
-        steps: done.steps,
-        writes: done.writes,
-        erases: done.erases,
+        tally,
         finished: same(reached, last),
     }
 }
 
 fn refused(number: u32) -> RunResult
-    ensures { λ r. ⌜ r ≡ record { number = number; place = 0; steps = 0; writes = 0; erases = 0; finished = 0 } ⌝ }
+    ensures { λ r. ⌜ r ≡ record { number = number; place = 0; tally = nothingDone; finished = 0 } ⌝ }
 {
     RunResult {
         number,
         place: 0,
-        steps: 0,
-        writes: 0,
-        erases: 0,
+        tally: nothing_done(),
         finished: 0,
     }
 }
@@ -154,7 +150,7 @@ pub fn run(
     budget: u32,
 ) -> RunResult
     ensures { λ r. ⌜ ranAs r (now (store .exit)) (now (marks .exit)) (now (work .exit))
-        ≡ runAnswer (moveOf sizes (now (list .entry)) (now (sets .entry))) (record { store = now (store .entry); marks = now (marks .entry) })
+        ≡ runAnswer (requestOf sizes (now (list .entry)) (now (sets .entry))) (record { store = now (store .entry); marks = now (marks .entry) })
         (now (work .entry)) place budget ⌝ }
 {
     let number = move_refusal(sizes, list, sets, store, marks, work);

@@ -1,20 +1,22 @@
 // One step of the move: a page is written or a block is erased.
 ghost use mathlib.Core.Path.{_≡_};
 ghost use mathlib.Core.Bool.{true, false};
-ghost use mathlib.Core.List.{[], _∷_};
 ghost use Prim.Native.Nat.{_+_, _*_, _≤_, _<_};
 ghost use lib.ListN.{length, take, drop};
-ghost use Rattle.method.specs.Move.{moveOf};
+ghost use Rattle.method.specs.Move.{moveOf, Lent};
 ghost use Rattle.method.specs.Place.{operationAt, write as writing, markOf};
 ghost use Rattle.method.specs.Step as method;
-ghost use Rattle.method.specs.Step.{writeSlots, perform, tally};
+ghost use Rattle.method.specs.Step.{runningOf, writeSlots, perform, tallied};
 ghost use Rattle.walk.specs.inner.Moving.{Tables};
 ghost use Rattle.places.specs.inner.Place.{passOf};
-ghost use Rattle.mover.specs.inner.Steps.{Lent, runningOf, Leaves, Counted};
+ghost use Rattle.mover.specs.inner.Steps.{FewCounted};
+use crate::tally::one_erase;
+use crate::tally::one_write;
 use flash::block::erase_block;
 use flash::casts::wide;
 use flash::page::write_page;
 use flash::sizes::Sizes;
+use method::tally::Tally;
 use places::place::Op;
 use places::place::Place;
 use walk::cycles::is_top;
@@ -22,13 +24,6 @@ use walk::cycles::page_of;
 use walk::cycles::sent_to;
 use walk::pages::sum_pages;
 use walk::walk::read_slots;
-
-// What was done: steps, and of these writes and erases.
-pub struct Tally {
-    pub steps: u32,
-    pub writes: u32,
-    pub erases: u32,
-}
 
 // The slots whose pages are summed for a write: in the backward pass those of the original that the list sends there, in the
 // forward pass those of D(i), and of D(pred(i)) unless i is the top.
@@ -82,12 +77,12 @@ fn write(
     mark: u8,
 )
     requires { ⌜ Tables (moveOf sizes (now list) (now sets)) (now pages) (now from)
-        × Lent (moveOf sizes (now list) (now sets)) (now store) (now marks) (now work) ⌝ }
+        × Lent sizes (record { store = now store; marks = now marks }) (now work) ⌝ }
     requires { ⌜ (page < sizes .m) × (block ≤ sizes .n) × (backward ≡ true → 1 ≤ block) × (backward ≡ false → block + 1 ≤ sizes .n)
         × (mark ≡ markOf sizes (passOf backward)) ⌝ }
-    ensures { λ _. ⌜ Leaves (perform (moveOf sizes (now (list .entry)) (now (sets .entry))) (writing (passOf backward) block page)
-        (runningOf (now (store .entry)) (now (marks .entry)) (now (work .entry)))) (now (store .exit)) (now (marks .exit))
-        (now (work .exit)) ⌝ }
+    ensures { λ _. ⌜ runningOf (now (store .exit)) (now (marks .exit)) (now (work .exit))
+        ≡ perform (moveOf sizes (now (list .entry)) (now (sets .entry))) (writing (passOf backward) block page)
+        (runningOf (now (store .entry)) (now (marks .entry)) (now (work .entry))) ⌝ }
 {
     let mut slots = [0usize; 130];
     let count = write_slots(
@@ -106,19 +101,7 @@ fn write(
     write_page(store, marks, sizes.p, block * sizes.m + page, work, mark);
 }
 
-// What one step, or none, comes to.
-fn counted(writes: u32, erases: u32) -> Tally
-    requires { ⌜ (writes ≤ 1) × (erases ≤ 1) ⌝ }
-    ensures { λ r. ⌜ r ≡ record { steps = writes + erases; writes = writes; erases = erases } ⌝ }
-{
-    Tally {
-        steps: writes + erases,
-        writes,
-        erases,
-    }
-}
-
-// Does the step at a place.
+// Does the step at a place, and counts it.
 pub fn step(
     sizes: Sizes,
     list: &[u16],
@@ -129,13 +112,15 @@ pub fn step(
     marks: &mut [u8],
     work: &mut [u8],
     place: Place,
+    tally: Tally,
 ) -> Tally
     requires { ⌜ Tables (moveOf sizes (now list) (now sets)) (now pages) (now from)
-        × Lent (moveOf sizes (now list) (now sets)) (now store) (now marks) (now work) ⌝ }
-    ensures { λ _. ⌜ Leaves (method.step (moveOf sizes (now (list .entry)) (now (sets .entry))) (place .at)
-        (runningOf (now (store .entry)) (now (marks .entry)) (now (work .entry)))) (now (store .exit)) (now (marks .exit))
-        (now (work .exit)) ⌝ }
-    ensures { λ r. ⌜ Counted (tally (operationAt sizes (place .at) ∷ [])) (r .steps) (r .writes) (r .erases) ⌝ }
+        × Lent sizes (record { store = now store; marks = now marks }) (now work) ⌝ }
+    requires { ⌜ FewCounted tally ⌝ }
+    ensures { λ _. ⌜ runningOf (now (store .exit)) (now (marks .exit)) (now (work .exit))
+        ≡ method.step (moveOf sizes (now (list .entry)) (now (sets .entry))) (place .at)
+        (runningOf (now (store .entry)) (now (marks .entry)) (now (work .entry))) ⌝ }
+    ensures { λ r. ⌜ r ≡ tallied (operationAt sizes (place .at)) tally ⌝ }
 {
     match place.operation(sizes) {
         Op::Write {
@@ -158,12 +143,12 @@ pub fn step(
                 page,
                 mark,
             );
-            counted(1, 0)
+            one_write(tally)
         }
         Op::Erase { block } => {
             erase_block(store, marks, sizes.m, sizes.p, block);
-            counted(0, 1)
+            one_erase(tally)
         }
-        Op::Done => counted(0, 0),
+        Op::Done => tally,
     }
 }

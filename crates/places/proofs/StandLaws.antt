@@ -17,7 +17,6 @@ use Rattle.flash.proofs.Bools.{never-both, bool-eq}
 use Rattle.flash.proofs.Ranges.{all-in, all-is, all-not}
 use Rattle.flash.proofs.Same.{eq-same, ne-same}
 use Rattle.flash.proofs.Comparisons.{lt-cases}
-use Rattle.method.specs.Move.{Move}
 use Rattle.method.specs.Place.{Pass, forward, backward, lastPlace, passAt, filling, filled, Held, code, written, above, heldAt, heldMark, marksOf}
 use Rattle.method.specs.Answers.{isElsewhere}
 use Rattle.method.proofs.places.StepsAtPlaces.{pages-in, forward-until, backward-from}
@@ -149,16 +148,16 @@ module _ (P : ℕ) (chip : Chip) where
   is-torn t r e f = rw (eq-eqb _ _ f, e) refl
 
 -- ---- the three grounds of number 5
-module _ (M : Move) (chip : Chip) (place : ℕ) where
-  pub too-far : lastPlace (M .sizes) < place → true ≡ isElsewhere M chip place
+module _ (Z : Sizes) (chip : Chip) (place : ℕ) where
+  pub too-far : lastPlace Z < place → true ≡ isElsewhere Z chip place
   unfolding isElsewhere
-  too-far h = rw (lt-ltb (lastPlace (M .sizes)) place h) refl
+  too-far h = rw (lt-ltb (lastPlace Z) place h) refl
 
-  pub other-marks : place ≤ lastPlace (M .sizes) → isSame (chip .marks) (marksOf (M .sizes) place) ≡ false → true ≡ isElsewhere M chip place
+  pub other-marks : place ≤ lastPlace Z → isSame (chip .marks) (marksOf Z place) ≡ false → true ≡ isElsewhere Z chip place
   unfolding isElsewhere
-  other-marks h e = rw (le-ltb (lastPlace (M .sizes)) place h, e) refl
+  other-marks h e = rw (le-ltb (lastPlace Z) place h, e) refl
 
-  pub else-torn : place ≤ lastPlace (M .sizes) → isSame (chip .marks) (marksOf (M .sizes) place) ≡ true
-      → any (torn (M .sizes .p) chip) (range 0 (slotCount (M .sizes))) ≡ isElsewhere M chip place
+  pub else-torn : place ≤ lastPlace Z → isSame (chip .marks) (marksOf Z place) ≡ true
+      → any (torn (Z .p) chip) (range 0 (slotCount Z)) ≡ isElsewhere Z chip place
   unfolding isElsewhere
-  else-torn h e = rw (le-ltb (lastPlace (M .sizes)) place h, e) refl
+  else-torn h e = rw (le-ltb (lastPlace Z) place h, e) refl

@@ -1,11 +1,9 @@
 // Number 5: whether store and marks are as a place has them.
 ghost use mathlib.Core.Path.{_≡_};
 ghost use mathlib.Core.Bool.{cond, _&&_, not};
-ghost use mathlib.Core.List.{List};
-ghost use Prim.Native.Nat.{ℕ, _+_, _*_, _≤_, _<_};
+ghost use Prim.Native.Nat.{_+_, _*_, _≤_, _<_};
 ghost use lib.Dec.{eqb, ltb};
 ghost use lib.ListN.{length};
-ghost use Rattle.method.specs.Move.{moveOf};
 ghost use Rattle.flash.specs.Lists.{range, any, isSame};
 ghost use Rattle.flash.specs.Chip.{erased, markAt, isBlank};
 ghost use Rattle.method.specs.Place as method;
@@ -141,8 +139,7 @@ fn some_torn(p: usize, store: &[u8], marks: &[u8]) -> bool
 // The three grounds of number 5.
 pub fn is_elsewhere(sizes: Sizes, store: &[u8], marks: &[u8], place: usize) -> bool
     requires { ⌜ Within sizes × (length (now marks) ≡ (sizes .n + 1) * sizes .m) × (length (now store) ≡ (sizes .n + 1) * sizes .m * sizes .p) ⌝ }
-    ensures { λ r. ⌜ ((list sets : List ℕ) → r
-        ≡ isElsewhere (moveOf sizes list sets) (record { store = now (store .entry); marks = now (marks .entry) }) place) ⌝ }
+    ensures { λ r. ⌜ r ≡ isElsewhere sizes (record { store = now (store .entry); marks = now (marks .entry) }) place ⌝ }
 {
     if last_place(sizes) < place {
         return true;

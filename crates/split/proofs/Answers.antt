@@ -13,6 +13,7 @@ use Rattle.flash.specs.declared.sizes.Sizes.{Sizes}
 use Rattle.flash.specs.Geometry.{inRange, originalCount}
 use Rattle.split.specs.OneToOne.{badList, isOneToOne}
 use Rattle.split.specs.Rule.{splitByRule}
+use Rattle.split.specs.Request.{Request}
 use Rattle.split.specs.Answer.{splitRows, splitAnswer}
 use Rattle.split.specs.inner.Accepted.{Accepted}
 use Rattle.flash.proofs.Bools.{or-false-left, or-false-right}
@@ -23,23 +24,25 @@ pub small : (Z : Sizes) → inRange Z ≡ true → originalCount Z ≤ 4096
 small Z e = let B = in-range Z e in product-le (Z .n) (Z .m) {c = 64} {d = 64} (B .n-high) (B .m-high)
 
 -- ---- the rows
-module _ (Z : Sizes) (list sets : List ℕ) where
-  pub gives-1 : inRange Z ≡ false → refusal (splitRows Z list sets) ≡ 1
+module _ (R : Request) where
+  open Request R using (sizes as Z, list, sets)
+
+  pub gives-1 : inRange Z ≡ false → refusal (splitRows R) ≡ 1
   unfolding refusal firstFit numberOr0 splitRows
   gives-1 e = rw e
 
   module _ (in-range : inRange Z ≡ true) where
-    pub gives-2-list : length list ≢ originalCount Z → refusal (splitRows Z list sets) ≡ 2
+    pub gives-2-list : length list ≢ originalCount Z → refusal (splitRows R) ≡ 2
     unfolding refusal firstFit numberOr0 splitRows
     gives-2-list ne = rw (in-range, ne-eqb (length list) (originalCount Z) ne)
 
     module _ (listed : length list ≡ originalCount Z) where
-      pub gives-2-sets : length sets ≢ originalCount Z → refusal (splitRows Z list sets) ≡ 2
+      pub gives-2-sets : length sets ≢ originalCount Z → refusal (splitRows R) ≡ 2
       unfolding refusal firstFit numberOr0 splitRows
       gives-2-sets ne = rw (in-range, eq-eqb (length list) (originalCount Z) listed, ne-eqb (length sets) (originalCount Z) ne)
 
       module _ (sized : length sets ≡ originalCount Z) where
-        pub gives-3 : isOneToOne (originalCount Z) list ≡ false → refusal (splitRows Z list sets) ≡ 3
+        pub gives-3 : isOneToOne (originalCount Z) list ≡ false → refusal (splitRows R) ≡ 3
         unfolding refusal firstFit numberOr0 splitRows isOneToOne
         gives-3 e =
             rw (
@@ -50,7 +53,7 @@ module _ (Z : Sizes) (list sets : List ℕ) where
                   (badList (originalCount Z) list) e,
             )
 
-        pub gives-0 : isOneToOne (originalCount Z) list ≡ true → refusal (splitRows Z list sets) ≡ 0
+        pub gives-0 : isOneToOne (originalCount Z) list ≡ true → refusal (splitRows R) ≡ 0
         unfolding refusal firstFit numberOr0 splitRows isOneToOne
         gives-0 e =
             rw (
@@ -74,30 +77,32 @@ lengths-are list sets count e =
     (eqb-true _ _ (not-false _ (or-false-left list-test sets-test e)), eqb-true _ _ (not-false _ (or-false-right list-test sets-test e)))
 
 -- a call carried out fits no row
-pub record Passed (Z : Sizes) (list sets : List ℕ) : Type 0 where
-  pub in-range : inRange Z ≡ true
-  pub listed : length list ≡ originalCount Z
-  pub sized : length sets ≡ originalCount Z
-  pub good : badList (originalCount Z) list ≡ false
+pub record Passed (R : Request) : Type 0 where
+  pub in-range : inRange (R .sizes) ≡ true
+  pub listed : length (R .list) ≡ originalCount (R .sizes)
+  pub sized : length (R .sets) ≡ originalCount (R .sizes)
+  pub good : badList (originalCount (R .sizes)) (R .list) ≡ false
 
-pub passed : (Z : Sizes) (list sets : List ℕ) → refusal (splitRows Z list sets) ≡ 0 → Passed Z list sets
+pub passed : (R : Request) → refusal (splitRows R) ≡ 0 → Passed R
 unfolding splitRows
-passed Z list sets e =
+passed R e =
     let one = refusal-zero _ _ (omega arith) e in
     let two = refusal-zero _ _ (omega arith) (one .1) in
     let three = refusal-zero _ _ (omega arith) (two .1) in
-    let lengths = lengths-are list sets (originalCount Z) (two .0) in
+    let lengths = lengths-are (R .list) (R .sets) (originalCount (R .sizes)) (two .0) in
     record {
-      in-range = not-false (inRange Z) (one .0);
+      in-range = not-false (inRange (R .sizes)) (one .0);
       listed = lengths .0;
       sized = lengths .1;
       good = three .0;
     }
 
-module _ (Z : Sizes) (list sets : List ℕ) where
-  pub accepted : refusal (splitRows Z list sets) ≡ 0 → Accepted (Z .n) (Z .m) list × (length sets ≡ originalCount Z)
+module _ (R : Request) where
+  open Request R using (sizes as Z, list, sets)
+
+  pub accepted : refusal (splitRows R) ≡ 0 → Accepted (Z .n) (Z .m) list × (length sets ≡ originalCount Z)
   accepted e =
-      let p = passed Z list sets e in
+      let p = passed R e in
       let B = in-range Z (p .in-range) in (
         record {
           some-pages = B .m-low;
@@ -110,13 +115,13 @@ module _ (Z : Sizes) (list sets : List ℕ) where
         p .sized,
       )
 
-  pub answered-0 : (number : ℕ) (sets′ : List ℕ) → number ≡ refusal (splitRows Z list sets) → number ≡ 0
+  pub answered-0 : (number : ℕ) (sets′ : List ℕ) → number ≡ refusal (splitRows R) → number ≡ 0
       → sets′ ≡ splitByRule (Z .n) (Z .m) list
-      → record { number = number; sets = sets′ } ≡ splitAnswer Z list sets
+      → record { number = number; sets = sets′ } ≡ splitAnswer R
   unfolding splitAnswer
   answered-0 number sets′ e z s = rw (← e, eq-eqb number 0 z, s)
 
-  pub answered-refused : (number : ℕ) → number ≡ refusal (splitRows Z list sets) → number ≢ 0
-      → record { number = number; sets = sets } ≡ splitAnswer Z list sets
+  pub answered-refused : (number : ℕ) → number ≡ refusal (splitRows R) → number ≢ 0
+      → record { number = number; sets = sets } ≡ splitAnswer R
   unfolding splitAnswer
   answered-refused number e ne = rw (← e, ne-eqb number 0 ne)

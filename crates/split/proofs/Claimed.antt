@@ -34,8 +34,10 @@ walk-bound-met = refl
 
 pub filled-fits : FilledFits
 unfolding splitAnswer
-filled-fits Z list sets e =
-    let p = passed Z list sets e in
-    let s : splitAnswer Z list sets .sets ≡ splitByRule (Z .n) (Z .m) list = rw (eq-eqb _ 0 e) in
+filled-fits R e =
+    let Z = R .sizes in
+    let list = R .list in
+    let p = passed R e in
+    let s : splitAnswer R .sets ≡ splitByRule (Z .n) (Z .m) list = rw (eq-eqb _ 0 e) in
     let accepted : isOneToOne (originalCount Z) list ≡ true = accept (originalCount Z) list (p .good) in
     rw s (rule-length (Z .n) (Z .m) list (p .listed) accepted, p .good, rule-split (Z .n) (Z .m) list (p .listed) accepted)

@@ -4,11 +4,11 @@ use mathlib.Core.Bool.{true, false}
 use mathlib.Core.List.{List, [], _∷_}
 use Prim.Native.Nat.{ℕ, _+_, _-_, _*_, _≤_, _<_}
 use lib.ListN.{length}
-use Rattle.flash.specs.declared.sizes.Sizes.{Sizes}
 use Rattle.flash.specs.Geometry.{originalCount, setsLength}
 use Rattle.split.specs.OneToOne.{badList, isOneToOne}
 use Rattle.split.specs.Split.{isSplit}
 use Rattle.split.specs.Rule.{source, destination, blockAt, lowestUnused, pagesMet, setsGiven, splitByRule}
+use Rattle.split.specs.Request.{Request}
 use Rattle.split.specs.Answer.{splitAnswer}
 
 -- "Every one-to-one list ends in a split."
@@ -42,7 +42,7 @@ WalkBoundMet = length (walkOf 2 (0 ∷ 2 ∷ 1 ∷ 4 ∷ 3 ∷ 5 ∷ []) 4 4) �
 -- What a split call filled passes the tests of run and read: their numbers 2, 3 and 4 are not given for it.
 abbrev pub FilledFits : Type 0
 FilledFits =
-    (Z : Sizes) (list sets : List ℕ) → splitAnswer Z list sets .number ≡ 0
-    → (length (splitAnswer Z list sets .sets) ≡ setsLength Z)
-    × (badList (originalCount Z) list ≡ false)
-    × (isSplit (Z .n) (Z .m) list (splitAnswer Z list sets .sets) ≡ true)
+    (R : Request) → splitAnswer R .number ≡ 0
+    → (length (splitAnswer R .sets) ≡ setsLength (R .sizes))
+    × (badList (originalCount (R .sizes)) (R .list) ≡ false)
+    × (isSplit (R .sizes .n) (R .sizes .m) (R .list) (splitAnswer R .sets) ≡ true)

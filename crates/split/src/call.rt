@@ -1,6 +1,7 @@
 // The split call: its refusals in the table's order, then the rule.
 ghost use mathlib.Core.Path.{_≡_};
 ghost use Rattle.flash.specs.Tables.{refusal};
+ghost use Rattle.split.specs.Request.{requestOf};
 ghost use Rattle.split.specs.Answer.{splitRows, splitAnswer};
 use crate::list::check;
 use crate::rule::fill;
@@ -10,7 +11,7 @@ use flash::sizes::original_count;
 
 // The number of the first row of the table that fits, or 0. Nothing is multiplied before the sizes are in range.
 fn refusal(sizes: Sizes, list: &[u16], sets: &[u8]) -> u32
-    ensures { λ r. ⌜ r ≡ refusal (splitRows sizes (now (list .entry)) (now (sets .entry))) ⌝ }
+    ensures { λ r. ⌜ r ≡ refusal (splitRows (requestOf sizes (now (list .entry)) (now (sets .entry)))) ⌝ }
 {
     if !in_range(sizes) {
         return 1;
@@ -30,7 +31,8 @@ fn refusal(sizes: Sizes, list: &[u16], sets: &[u8]) -> u32
 
 // Fills the set bytes by document 01's rule, or refuses and leaves them.
 pub fn split(sizes: Sizes, list: &[u16], sets: &mut [u8]) -> u32
-    ensures { λ r. ⌜ record { number = r; sets = now (sets .exit) } ≡ splitAnswer sizes (now (list .entry)) (now (sets .entry)) ⌝ }
+    ensures { λ r. ⌜ record { number = r; sets = now (sets .exit) }
+        ≡ splitAnswer (requestOf sizes (now (list .entry)) (now (sets .entry))) ⌝ }
 {
     let number = refusal(sizes, list, sets);
     if number == 0 {

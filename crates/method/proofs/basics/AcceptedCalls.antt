@@ -19,21 +19,16 @@ use Rattle.flash.proofs.Bounds.{in-range, range-in}
 use Rattle.flash.proofs.Ranges.{none-in, none-is}
 use Rattle.flash.proofs.Same.{same-eq, eq-same}
 use Rattle.split.specs.OneToOne.{isOneToOne}
-use Rattle.method.specs.Move.{Move, AcceptedMove}
+use Rattle.split.specs.Request.{Request}
+use Rattle.method.specs.Move.{move, AcceptedMove, Lent}
 use Rattle.method.specs.Place.{lastPlace, marksOf}
 use Rattle.method.specs.Answers.{badChip, badParts, isElsewhere, moveRows, runRows}
 
--- lent parts of their exact lengths
-pub record Lent (M : Move) (chip : Chip) (work : List ℕ) : Type 0 where
-  pub store-length : length (chip .store) ≡ storeLength (M .sizes)
-  pub marks-length : length (chip .marks) ≡ marksLength (M .sizes)
-  pub work-length : length work ≡ workLength (M .sizes)
-
 -- store and marks as a place has them: its marks, and every page marked 255 is blank
-pub record StandsAt (M : Move) (chip : Chip) (place : ℕ) : Type 0 where
-  pub inside : place ≤ lastPlace (M .sizes)
-  pub marks : chip .marks ≡ marksOf (M .sizes) place
-  pub blank : (t : ℕ) → t < slotCount (M .sizes) → markAt (chip .marks) t ≡ erased → isBlank (M .sizes .p) chip t ≡ true
+pub record StandsAt (Z : Sizes) (chip : Chip) (place : ℕ) : Type 0 where
+  pub inside : place ≤ lastPlace Z
+  pub marks : chip .marks ≡ marksOf Z place
+  pub blank : (t : ℕ) → t < slotCount Z → markAt (chip .marks) t ≡ erased → isBlank (Z .p) chip t ≡ true
 
 same-length : (x y : ℕ) → not (eqb x y) ≡ false → x ≡ y
 same-length x y e = eqb-true x y (not-false (eqb x y) e)
@@ -42,23 +37,22 @@ length-same : (x y : ℕ) → x ≡ y → not (eqb x y) ≡ false
 length-same x y e = rw (eq-eqb x y e)
 
 -- rows 1 to 4
-module _ (M : Move) (chip : Chip) (work : List ℕ) where
-  abbrev Z : Sizes
-  Z = M .sizes
+module _ (R : Request) (chip : Chip) (work : List ℕ) where
+  open Request R using (sizes as Z, list, sets)
 
-  pub parts-ok : badParts M chip work ≡ false → (length (M .list) ≡ listLength Z) × (length (M .sets) ≡ setsLength Z) × Lent M chip work
+  pub parts-ok : badParts R chip work ≡ false → (length list ≡ listLength Z) × (length sets ≡ setsLength Z) × Lent Z chip work
   unfolding badParts badChip
   parts-ok e =
-      let a = not (eqb (length (M .list)) (listLength Z)) in
-      let b = not (eqb (length (M .sets)) (setsLength Z)) in
+      let a = not (eqb (length list) (listLength Z)) in
+      let b = not (eqb (length sets) (setsLength Z)) in
       let c = not (eqb (length (chip .store)) (storeLength Z)) in
       let d = not (eqb (length (chip .marks)) (marksLength Z)) in
       let f = not (eqb (length work) (workLength Z)) in
       let abc = or-false-left (a || b || (c || d)) f e in
       let ab = or-false-left (a || b) (c || d) abc in
       let cd = or-false-right (a || b) (c || d) abc in (
-        same-length (length (M .list)) (listLength Z) (or-false-left a b ab),
-        same-length (length (M .sets)) (setsLength Z) (or-false-right a b ab),
+        same-length (length list) (listLength Z) (or-false-left a b ab),
+        same-length (length sets) (setsLength Z) (or-false-right a b ab),
         record {
           store-length = same-length (length (chip .store)) (storeLength Z) (or-false-left c d cd);
           marks-length = same-length (length (chip .marks)) (marksLength Z) (or-false-right c d cd);
@@ -66,17 +60,17 @@ module _ (M : Move) (chip : Chip) (work : List ℕ) where
         },
       )
 
-  ok-parts : length (M .list) ≡ listLength Z → length (M .sets) ≡ setsLength Z → Lent M chip work → badParts M chip work ≡ false
+  ok-parts : length list ≡ listLength Z → length sets ≡ setsLength Z → Lent Z chip work → badParts R chip work ≡ false
   unfolding badParts badChip
   ok-parts a b L = rw (
-    length-same (length (M .list)) (listLength Z) a,
-    length-same (length (M .sets)) (setsLength Z) b,
+    length-same (length list) (listLength Z) a,
+    length-same (length sets) (setsLength Z) b,
     length-same (length (chip .store)) (storeLength Z) (L .store-length),
     length-same (length (chip .marks)) (marksLength Z) (L .marks-length),
     length-same (length work) (workLength Z) (L .work-length),
   )
 
-  pub move-accepted : (rest : List (Row ℕ)) → refusal (moveRows M chip work rest) ≡ 0 → AcceptedMove M × Lent M chip work × (refusal rest ≡ 0)
+  pub move-accepted : (rest : List (Row ℕ)) → refusal (moveRows R chip work rest) ≡ 0 → AcceptedMove (move R) × Lent Z chip work × (refusal rest ≡ 0)
   unfolding moveRows isOneToOne
   move-accepted rest e =
       let one = refusal-zero _ _ (omega arith) e in
@@ -95,58 +89,55 @@ module _ (M : Move) (chip : Chip) (work : List ℕ) where
         four .1,
       )
 
-  pub accepted-move : (rest : List (Row ℕ)) → AcceptedMove M → Lent M chip work → refusal rest ≡ 0 → refusal (moveRows M chip work rest) ≡ 0
+  pub accepted-move : (rest : List (Row ℕ)) → AcceptedMove (move R) → Lent Z chip work → refusal rest ≡ 0 → refusal (moveRows R chip work rest) ≡ 0
   unfolding moveRows isOneToOne
   accepted-move rest A L e =
       refusal-skip _ _ (ap not (range-in Z (A .ranges))) (refusal-skip _ _ (ok-parts (A .list-length) (A .sets-length) L)
       (refusal-skip _ _ (not-true _ (A .one-to-one)) (refusal-skip _ _ (ap not (A .split)) e)))
 
 -- row 5
-module _ (M : Move) (chip : Chip) (place : ℕ) where
-  abbrev W : Sizes
-  W = M .sizes
-
+module _ (Z : Sizes) (chip : Chip) (place : ℕ) where
   abbrev torn : ℕ → Bool
-  torn t = eqb (markAt (chip .marks) t) erased && not (isBlank (W .p) chip t)
+  torn t = eqb (markAt (chip .marks) t) erased && not (isBlank (Z .p) chip t)
 
-  stands-at : isElsewhere M chip place ≡ false → StandsAt M chip place
+  stands-at : isElsewhere Z chip place ≡ false → StandsAt Z chip place
   unfolding isElsewhere
   stands-at e =
-      let far = ltb (lastPlace W) place in
-      let other = not (isSame (chip .marks) (marksOf W place)) in
-      let ab = or-false-left (far || other) (any torn (range 0 (slotCount W))) e in
-      let c = or-false-right (far || other) (any torn (range 0 (slotCount W))) e in
+      let far = ltb (lastPlace Z) place in
+      let other = not (isSame (chip .marks) (marksOf Z place)) in
+      let ab = or-false-left (far || other) (any torn (range 0 (slotCount Z))) e in
+      let c = or-false-right (far || other) (any torn (range 0 (slotCount Z))) e in
       record {
-        inside = ltb-false (lastPlace W) place (or-false-left far other ab);
+        inside = ltb-false (lastPlace Z) place (or-false-left far other ab);
         marks = same-eq _ _ (not-false _ (or-false-right far other ab));
         blank = λ t h q.
-            let r : torn t ≡ false = none-in torn 0 (slotCount W) c t (omega arith) (omega arith) in
+            let r : torn t ≡ false = none-in torn 0 (slotCount Z) c t (omega arith) (omega arith) in
             not-false _ (rw (eq-eqb (markAt (chip .marks) t) erased q) at r);
       }
 
-  at-stands : StandsAt M chip place → isElsewhere M chip place ≡ false
+  at-stands : StandsAt Z chip place → isElsewhere Z chip place ≡ false
   unfolding isElsewhere
   at-stands S =
-      let c : any torn (range 0 (slotCount W)) ≡ false = none-is torn 0 (slotCount W) (λ t a h. whole t (omega arith) (bool-cases (eqb (markAt (chip .marks) t) erased))) in
-      rw (le-ltb (lastPlace W) place (S .inside), eq-same _ _ (S .marks), c)
+      let c : any torn (range 0 (slotCount Z)) ≡ false = none-is torn 0 (slotCount Z) (λ t a h. whole t (omega arith) (bool-cases (eqb (markAt (chip .marks) t) erased))) in
+      rw (le-ltb (lastPlace Z) place (S .inside), eq-same _ _ (S .marks), c)
     where
-      whole : (t : ℕ) → t < slotCount W → (eqb (markAt (chip .marks) t) erased ≡ true) ⊎ (eqb (markAt (chip .marks) t) erased ≡ false) → torn t ≡ false
+      whole : (t : ℕ) → t < slotCount Z → (eqb (markAt (chip .marks) t) erased ≡ true) ⊎ (eqb (markAt (chip .marks) t) erased ≡ false) → torn t ≡ false
       whole t h (inl q) = rw (q, S .blank t h (eqb-true _ _ q))
       whole t h (inr q) = rw q
 
 -- what a run that is not refused was given
-pub record RunTaken (M : Move) (chip : Chip) (work : List ℕ) (place : ℕ) : Type 0 where
-  pub accepted : AcceptedMove M
-  pub lent : Lent M chip work
-  pub stands : StandsAt M chip place
+pub record RunTaken (R : Request) (chip : Chip) (work : List ℕ) (place : ℕ) : Type 0 where
+  pub accepted : AcceptedMove (move R)
+  pub lent : Lent (R .sizes) chip work
+  pub stands : StandsAt (R .sizes) chip place
 
-pub run-taken : (M : Move) (chip : Chip) (work : List ℕ) (place : ℕ) → refusal (runRows M chip work place) ≡ 0 → RunTaken M chip work place
+pub run-taken : (R : Request) (chip : Chip) (work : List ℕ) (place : ℕ) → refusal (runRows R chip work place) ≡ 0 → RunTaken R chip work place
 unfolding runRows
-run-taken M chip work place e =
-    let a = move-accepted M chip work _ e in
-    record { accepted = a .0; lent = a .1; stands = stands-at M chip place (refusal-zero _ _ (omega arith) (a .2) .0) }
+run-taken R chip work place e =
+    let a = move-accepted R chip work _ e in
+    record { accepted = a .0; lent = a .1; stands = stands-at (R .sizes) chip place (refusal-zero _ _ (omega arith) (a .2) .0) }
 
-pub taken-run : (M : Move) (chip : Chip) (work : List ℕ) (place : ℕ) → RunTaken M chip work place → refusal (runRows M chip work place) ≡ 0
+pub taken-run : (R : Request) (chip : Chip) (work : List ℕ) (place : ℕ) → RunTaken R chip work place → refusal (runRows R chip work place) ≡ 0
 unfolding runRows
-taken-run M chip work place T =
-    accepted-move M chip work _ (T .accepted) (T .lent) (refusal-skip _ [] (at-stands M chip place (T .stands)) refusal-nil)
+taken-run R chip work place T =
+    accepted-move R chip work _ (T .accepted) (T .lent) (refusal-skip _ [] (at-stands (R .sizes) chip place (T .stands)) refusal-nil)

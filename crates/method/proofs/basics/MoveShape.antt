@@ -4,14 +4,12 @@ use mathlib.Core.Logic.{_⊎_}
 use mathlib.Core.Bool.{true, false}
 use mathlib.Core.List.{List}
 use Prim.Native.Nat.{ℕ, suc, _-_, _≤_, _<_}
-use lib.ListN.{length, getD}
+use lib.ListN.{getD}
 use Rattle.flash.specs.Lists.{part}
 use Rattle.flash.specs.declared.sizes.Sizes.{Sizes}
-use Rattle.flash.specs.Geometry.{Bounds, slot, slotOf, originalCount, listLength, setsLength, letter}
+use Rattle.flash.specs.Geometry.{slot, slotOf, originalCount, letter}
 use Rattle.flash.specs.PageSum.{sum}
 use Rattle.flash.specs.Chip.{Chip, pageAt, markAt, isFull}
-use Rattle.split.specs.OneToOne.{isOneToOne}
-use Rattle.split.specs.Split.{isSplit}
 use Rattle.method.specs.Move.{Move}
 use Rattle.method.specs.Cycle.{coded}
 

@@ -1,3 +1,4 @@
+-- The theorems of the crate, each with its proof: what `claims` asks for.
 use Rattle.method.proofs.examples.Cases.{cases-hold}
 use Rattle.method.proofs.places.StepsCounted.{steps-counted}
 use Rattle.method.proofs.places.PlacesDiffer.{places-differ}

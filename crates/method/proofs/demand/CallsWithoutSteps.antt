@@ -56,7 +56,7 @@ module _ (M : Move) (originals : List ℕ) where
       fresh : Fresh M h → Fresh M g
       fresh F = record {
         taken = F .taken;
-        stands = subst (λ (c : Chip). StandsAt M c (F .taken)) (sym (L .chip)) (F .stands);
+        stands = subst (λ (c : Chip). StandsAt (M .sizes) c (F .taken)) (sym (L .chip)) (F .stands);
         done = L .begun ∙ F .done;
       }
 

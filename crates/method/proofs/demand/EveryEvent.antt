@@ -17,7 +17,8 @@ use Rattle.flash.specs.Geometry.{originalCount}
 use Rattle.flash.specs.PageSum.{sum}
 use Rattle.flash.specs.Chip.{Chip, pageAt}
 use Rattle.flash.proofs.Bools.{bool-cases}
-use Rattle.method.specs.Move.{Move, AcceptedMove}
+use Rattle.split.specs.Request.{Request}
+use Rattle.method.specs.Move.{Move, move, AcceptedMove}
 use Rattle.method.specs.Place.{Operation, filled}
 use Rattle.method.specs.Step.{operationsFrom}
 use Rattle.method.specs.State.{originalsIn}
@@ -38,10 +39,10 @@ use Rattle.method.proofs.demand.RunEvents.{run-number, run-kept}
 use Rattle.method.proofs.demand.MendEvents.{mend-kept}
 
 -- ---- refused calls leave all as it was
-run-refused : (M : Move) (chip : Chip) (work : List ℕ) (place budget : ℕ) → refusal (runRows M chip work place) ≢ 0
-    → runAnswer M chip work place budget ≡ runRefused (refusal (runRows M chip work place)) chip work
+run-refused : (R : Request) (chip : Chip) (work : List ℕ) (place budget : ℕ) → refusal (runRows R chip work place) ≢ 0
+    → runAnswer R chip work place budget ≡ runRefused (refusal (runRows R chip work place)) chip work
 unfolding runAnswer
-run-refused M chip work place budget ne = rw (ne-eqb (refusal (runRows M chip work place)) 0 ne)
+run-refused R chip work place budget ne = rw (ne-eqb (refusal (runRows R chip work place)) 0 ne)
 
 mended-number : (Z : Sizes) (chip : Chip) (found : Reading) → mended Z chip found .number ≡ 0
 unfolding mended
@@ -66,23 +67,26 @@ mend-refused Z chip ne = ⊎-elim
     go q (some found) e = absurd (ne (rw (q, e) (mended-number Z chip found)))
 
 -- ---- one event
-module _ (M : Move) (chip₀ : Chip) (S : Start M chip₀) where
+module _ (R : Request) (chip₀ : Chip) (S : Start R chip₀) where
+  abbrev M : Move
+  M = move R
+
   A : AcceptedMove M
-  A = start-accepted M chip₀ S
+  A = start-accepted R chip₀ S
 
   abbrev originals : List ℕ
-  originals = originalsIn (M .sizes) chip₀
+  originals = originalsIn (R .sizes) chip₀
 
-  full : length originals ≡ originalCount (M .sizes) * M .sizes .p
+  full : length originals ≡ originalCount (R .sizes) * R .sizes .p
   full = rest-length M A chip₀ (S .store-length) (S .marks-length) (S .at-rest)
 
   module _ (h : History) (K : Kept M originals h) where
-    run-idle : (N : Move) (work : List ℕ) (place budget : ℕ) → numberOf (run N work place budget) (h .chip) ≢ 0
+    run-idle : (N : Request) (work : List ℕ) (place budget : ℕ) → numberOf (run N work place budget) (h .chip) ≢ 0
         → (cut : CutPoint) → CutObeys (run N work place budget) cut (h .chip) → EventKept M originals h (run N work place budget) cut
     unfolding numberOf stepsOf chipAfter chipReturned returnsFinished runRefused answerOf
     run-idle N work place budget ne =
         let refused : refusal (runRows N (h .chip) work place) ≢ 0 = λ e. ne (ap (λ (a : RunAnswer). a .number) (run-answer N (h .chip) work place budget e)) in
-        let no-steps : List Operation = operationsFrom N place (stepsTaken (N .sizes) place budget) in
+        let no-steps : List Operation = operationsFrom (N .sizes) place (stepsTaken (N .sizes) place budget) in
         idle M originals h K (run N work place budget)
         (ap (λ (b : Bool). cond b no-steps []) (ne-eqb (runAnswer N (h .chip) work place budget .number) 0 ne))
         (ap (λ (a : RunAnswer). a .chip) (run-refused N (h .chip) work place 0 refused))
@@ -94,25 +98,25 @@ module _ (M : Move) (chip₀ : Chip) (S : Start M chip₀) where
     mend-idle Z ne =
         idle M originals h K (mend Z) (ap (λ (b : Bool). cond b (mendSteps (reading Z (h .chip .marks))) []) (ne-eqb (mendAnswer Z (h .chip) .number) 0 ne)) refl (mend-refused Z (h .chip) ne) refl
 
-    read-idle : (N : Move) (work : List ℕ) (k : ℕ) → (cut : CutPoint) → CutObeys (read N work k) cut (h .chip) → EventKept M originals h (read N work k) cut
+    read-idle : (N : Request) (work : List ℕ) (k : ℕ) → (cut : CutPoint) → CutObeys (read N work k) cut (h .chip) → EventKept M originals h (read N work k) cut
     unfolding stepsOf chipAfter chipReturned returnsFinished
     read-idle N work k = idle M originals h K (read N work k) refl refl refl refl
 
-    run-shared : (N : Move) → N ≡ M → (work : List ℕ) (place budget : ℕ) → numberOf (run N work place budget) (h .chip) ≡ 0 → h .unmended ≡ false
+    run-shared : (N : Request) → N ≡ R → (work : List ℕ) (place budget : ℕ) → numberOf (run N work place budget) (h .chip) ≡ 0 → h .unmended ≡ false
         → (cut : CutPoint) → CutObeys (run N work place budget) cut (h .chip) → EventKept M originals h (run N work place budget) cut
     unfolding numberOf
     run-shared N e =
         subst
-        (λ (N : Move). (work : List ℕ) (place budget : ℕ) → numberOf (run N work place budget) (h .chip) ≡ 0 → h .unmended ≡ false
+        (λ (N : Request). (work : List ℕ) (place budget : ℕ) → numberOf (run N work place budget) (h .chip) ≡ 0 → h .unmended ≡ false
         → (cut : CutPoint) → CutObeys (run N work place budget) cut (h .chip) → EventKept M originals h (run N work place budget) cut)
         (sym e)
-        (λ work place budget ok mended. run-kept M A originals full h K work place budget (run-number M (h .chip) work place budget ok) mended)
+        (λ work place budget ok mended. run-kept R A originals full h K work place budget (run-number R (h .chip) work place budget ok) mended)
 
-    mend-shared : (Z : Sizes) → Z ≡ M .sizes → (cut : CutPoint) → CutObeys (mend Z) cut (h .chip) → EventKept M originals h (mend Z) cut
+    mend-shared : (Z : Sizes) → Z ≡ R .sizes → (cut : CutPoint) → CutObeys (mend Z) cut (h .chip) → EventKept M originals h (mend Z) cut
     mend-shared Z e =
         subst (λ (Z : Sizes). (cut : CutPoint) → CutObeys (mend Z) cut (h .chip) → EventKept M originals h (mend Z) cut) (sym e) (mend-kept M A originals h K)
 
-    pub event-kept : (call : Call) (cut : CutPoint) → Allowed M (record { call = call; cut = cut }) h → EventKept M originals h call cut
+    pub event-kept : (call : Call) (cut : CutPoint) → Allowed R (record { call = call; cut = cut }) h → EventKept M originals h call cut
     event-kept (run N work place budget) cut O = ⊎-elim
         (λ (q : eqb (numberOf (run N work place budget) (h .chip)) 0 ≡ true).
         let ok = eqb-true _ 0 q in run-shared N (O .shares ok) work place budget ok (O .mended ok) cut (O .cut-obeys))
@@ -134,13 +138,13 @@ module _ (M : Move) (chip₀ : Chip) (S : Start M chip₀) where
   each-map P f start zero p = none
   each-map P f start (suc count) p = more (p start (omega arith) (omega arith)) (each-map P f (suc start) count (λ i a b. p i (omega arith) (omega arith)))
 
-  all-kept : (events : List Event) (h : History) → Kept M originals h → AllAllowed M events h → AtEach (Keeps M chip₀) (moments events h)
+  all-kept : (events : List Event) (h : History) → Kept M originals h → AllAllowed R events h → AtEach (Keeps R chip₀) (moments events h)
   unfolding moments after
-  all-kept [] h K O = more (keeps M chip₀ S h K) none
+  all-kept [] h K O = more (keeps R chip₀ S h K) none
   all-kept (event ∷ events) h K (goes o O) =
       let E = event-kept h K (event .call) (event .cut) o in
-      each-append (Keeps M chip₀) (map (during h (event .call)) (range 0 (suc (stepsFinished h (event .call) (event .cut))))) (moments events (after event h))
-      (each-map (Keeps M chip₀) (during h (event .call)) 0 (suc (stepsFinished h (event .call) (event .cut))) (λ i a b. keeps M chip₀ S (during h (event .call) i) (E .inside i (omega arith))))
+      each-append (Keeps R chip₀) (map (during h (event .call)) (range 0 (suc (stepsFinished h (event .call) (event .cut))))) (moments events (after event h))
+      (each-map (Keeps R chip₀) (during h (event .call)) 0 (suc (stepsFinished h (event .call) (event .cut))) (λ i a b. keeps R chip₀ S (during h (event .call) i) (E .inside i (omega arith))))
       (all-kept events (after event h) (E .after) O)
 
   -- ---- the start
@@ -148,7 +152,7 @@ module _ (M : Move) (chip₀ : Chip) (S : Start M chip₀) where
   unfolding starting filled count
   started = record {
     place = 0;
-    moment = subst (Moment (M .sizes) (chip₀ .marks)) (resumes-begun (M .sizes) 0 start-filled) (stands-moment M chip₀ 0 at-0);
+    moment = subst (Moment (R .sizes) (chip₀ .marks)) (resumes-begun (R .sizes) 0 start-filled) (stands-moment (R .sizes) chip₀ 0 at-0);
     store-length = S .store-length;
     holds = rest-holds M A chip₀ (S .store-length) (S .marks-length) (S .at-rest);
     bounded = within (omega arith);
@@ -156,28 +160,28 @@ module _ (M : Move) (chip₀ : Chip) (S : Start M chip₀) where
     fresh = λ c m. record { taken = 0; stands = at-0; done = refl };
   }
     where
-      at-0 : StandsAt M chip₀ 0
+      at-0 : StandsAt (R .sizes) chip₀ 0
       at-0 = rest-stands M A chip₀ (S .store-length) (S .marks-length) (S .at-rest)
 
-      start-filled : filled (M .sizes) 0 ≡ 0
-      start-filled = zero-mod (M .sizes .m + 1)
+      start-filled : filled (R .sizes) 0 ≡ 0
+      start-filled = zero-mod (R .sizes .m + 1)
 
 -- ---- equal marks
-read-answer : (M : Move) (chip : Chip) (work : List ℕ) (k : ℕ) → readAnswer M chip work k .number ≡ 0
-    → readAnswer M chip work k ≡ record { number = 0; count = length (readSlots M (chip .marks) k); work = readPage M chip k }
+read-answer : (R : Request) (chip : Chip) (work : List ℕ) (k : ℕ) → readAnswer R chip work k .number ≡ 0
+    → readAnswer R chip work k ≡ record { number = 0; count = length (readSlots (move R) (chip .marks) k); work = readPage (move R) chip k }
 unfolding readAnswer
-read-answer M chip work k e = ⊎-elim
-    (λ (q : eqb (refusal (readRows M chip work k)) 0 ≡ true). rw q)
-    (λ (q : eqb (refusal (readRows M chip work k)) 0 ≡ false). absurd (eqb-false _ 0 q (rw q at e)))
-    (bool-cases (eqb (refusal (readRows M chip work k)) 0))
+read-answer R chip work k e = ⊎-elim
+    (λ (q : eqb (refusal (readRows R chip work k)) 0 ≡ true). rw q)
+    (λ (q : eqb (refusal (readRows R chip work k)) 0 ≡ false). absurd (eqb-false _ 0 q (rw q at e)))
+    (bool-cases (eqb (refusal (readRows R chip work k)) 0))
 
-by-marks : (M : Move) (marks : List ℕ) (k : ℕ) (chip : Chip) → chip .marks ≡ marks → (work : List ℕ) → readAnswer M chip work k .number ≡ 0
-    → readAnswer M chip work k ≡ record { number = 0; count = length (readSlots M marks k); work = sum (pageAt (M .sizes .p) chip) (readSlots M marks k) }
+by-marks : (R : Request) (marks : List ℕ) (k : ℕ) (chip : Chip) → chip .marks ≡ marks → (work : List ℕ) → readAnswer R chip work k .number ≡ 0
+    → readAnswer R chip work k ≡ record { number = 0; count = length (readSlots (move R) marks k); work = sum (pageAt (R .sizes .p) chip) (readSlots (move R) marks k) }
 unfolding readPage
-by-marks M marks k chip same work e = rw (← same) (read-answer M chip work k e)
+by-marks R marks k chip same work e = rw (← same) (read-answer R chip work k e)
 
 pub demand-3 : Demand3
 demand-3 = record {
-  kept = λ M chip₀ S events O. all-kept M chip₀ S events (starting chip₀) (started M chip₀ S) O;
-  same-slots = λ M marks k. (readSlots M marks k, by-marks M marks k);
+  kept = λ R chip₀ S events O. all-kept R chip₀ S events (starting chip₀) (started R chip₀ S) O;
+  same-slots = λ R marks k. (readSlots (move R) marks k, by-marks R marks k);
 }

@@ -14,7 +14,8 @@ use Rattle.flash.specs.Geometry.{slotOf, blockOf, pageOf, originalCount, storeL
 use Rattle.flash.specs.Chip.{Chip, pageAt}
 use Rattle.flash.proofs.Searches.{count-append}
 use Rattle.flash.proofs.Tables.{refusal-skip, refusal-nil}
-use Rattle.method.specs.Move.{Move, AcceptedMove}
+use Rattle.split.specs.Request.{Request}
+use Rattle.method.specs.Move.{Move, move, AcceptedMove, Lent}
 use Rattle.method.specs.Place.{operations, lastPlace, filled}
 use Rattle.method.specs.Read.{readPage}
 use Rattle.method.specs.State.{originalsIn}
@@ -24,7 +25,7 @@ use Rattle.method.specs.Runs.{Start}
 use Rattle.method.specs.Events.{History}
 use Rattle.method.specs.Demand3.{Stays, Keeps}
 use Rattle.method.proofs.basics.MoveShape.{Holding}
-use Rattle.method.proofs.basics.AcceptedCalls.{Lent, StandsAt, RunTaken, accepted-move, run-taken, taken-run}
+use Rattle.method.proofs.basics.AcceptedCalls.{StandsAt, RunTaken, accepted-move, run-taken, taken-run}
 use Rattle.method.proofs.basics.Indexes.{Order, less, same, more, order}
 use Rattle.method.proofs.places.StepsAtPlaces.{last-stands}
 use Rattle.method.proofs.cycles.SetCycles.{block-in, entry-in}
@@ -64,7 +65,7 @@ module _ (M : Move) where
   -- with no cut and no mend: just the first steps of the move were begun
   pub record Fresh (h : History) : Type 0 where
     pub taken : ℕ
-    pub stands : StandsAt M (h .chip) taken
+    pub stands : StandsAt Z (h .chip) taken
     pub done : h .begun ≡ take taken (operations Z)
 
   -- what every list of events keeps; `place` is where the move goes on after a mend
@@ -77,12 +78,15 @@ module _ (M : Move) where
     pub ended : h .finished ≡ true → place ≡ lastPlace Z
     pub fresh : h .cuts ≡ 0 → h .mends ≡ 0 → Fresh h
 
-module _ (M : Move) (chip₀ : Chip) (S : Start M chip₀) where
+module _ (R : Request) (chip₀ : Chip) (S : Start R chip₀) where
+  abbrev M : Move
+  M = move R
+
   abbrev W : Sizes
-  W = M .sizes
+  W = R .sizes
 
   A : AcceptedMove M
-  A = start-accepted M chip₀ S
+  A = start-accepted R chip₀ S
 
   abbrev originals : List ℕ
   originals = originalsIn W chip₀
@@ -97,26 +101,26 @@ module _ (M : Move) (chip₀ : Chip) (S : Start M chip₀) where
     abbrev chip : Chip
     chip = h .chip
 
-    lent : (work : List ℕ) → length work ≡ workLength W → Lent M chip work
+    lent : (work : List ℕ) → length work ≡ workLength W → Lent W chip work
     lent work l = record { store-length = K .store-length; marks-length = K .moment .marks-length; work-length = l }
 
     -- read is not refused
-    read-taken : (work : List ℕ) → length work ≡ workLength W → (k : ℕ) → k < originalCount W → refusal (readRows M chip work k) ≡ 0
+    read-taken : (work : List ℕ) → length work ≡ workLength W → (k : ℕ) → k < originalCount W → refusal (readRows R chip work k) ≡ 0
     unfolding readRows
     read-taken work l k h =
-        accepted-move M chip work _ A (lent work l)
+        accepted-move R chip work _ A (lent work l)
         (refusal-skip _ _ (moment-fits W (A .ranges) (chip .marks) (K .place) (K .moment)) (refusal-skip _ [] (lt-leb (originalCount W) k h) refusal-nil))
 
-    stays : (k : ℕ) → k < originalCount W → Stays M chip k (pageAt (W .p) chip₀ (slotOf (W .m) k))
+    stays : (k : ℕ) → k < originalCount W → Stays R chip k (pageAt (W .p) chip₀ (slotOf (W .m) k))
     unfolding readAnswer readPage
     stays k k-in =
         let T = moment-shape W (chip .marks) (K .place) (K .moment) in
-        let R = reads M A (chip .marks) (T .low) (T .high) k k-in (T .i) (T .pass) (T .shape) in
-        let total = R .original originals chip refl full (K .holds) ∙ first-page k in
+        let D = reads M A (chip .marks) (T .low) (T .high) k k-in (T .i) (T .pass) (T .shape) in
+        let total = D .original originals chip refl full (K .holds) ∙ first-page k in
         record {
-          few = R .few;
-          stored = λ i l. R .sited i l .inside;
-          whole = λ i l. R .sited i l .whole;
+          few = D .few;
+          stored = λ i l. D .sited i l .inside;
+          whole = λ i l. D .sited i l .whole;
           total = total;
           read-gives = λ work l. rw (read-taken work l k k-in, total);
         }
@@ -141,25 +145,25 @@ module _ (M : Move) (chip₀ : Chip) (S : Start M chip₀) where
         K .holds .final k k-in (finished-marks W (chip .marks) last (blockOf (W .m) to) (pageOf (W .m) to) (b .low) (b .high) (mod-lt to (A .ranges .m-low))) ∙ first-page k
 
     goes-on : (work : List ℕ) → length work ≡ workLength W → (budget : ℕ) → lastPlace W ≤ budget
-        → runAnswer M (mendAnswer W chip .chip) work (mendAnswer W chip .place) budget .finished ≡ 1
+        → runAnswer R (mendAnswer W chip .chip) work (mendAnswer W chip .place) budget .finished ≡ 1
     unfolding answerOf stepsTaken
     goes-on work l budget enough =
-        let R = recovers M (A .ranges) chip (K .store-length) (K .place) (K .moment) in
-        let T : RunTaken M (mendAnswer W chip .chip) work (K .place) = record {
+        let C = recovers W (A .ranges) chip (K .store-length) (K .place) (K .moment) in
+        let T : RunTaken R (mendAnswer W chip .chip) work (K .place) = record {
           accepted = A;
-          lent = record { store-length = R .store-length; marks-length = R .marks-length; work-length = l };
-          stands = R .stands;
+          lent = record { store-length = C .store-length; marks-length = C .marks-length; work-length = l };
+          stands = C .stands;
         } in
         let to-end : K .place + min budget (lastPlace W - K .place) ≡ lastPlace W = omega (arith, K .moment .in-move) in
-        rw (R .place-is, run-answer M (mendAnswer W chip .chip) work (K .place) budget (taken-run M _ _ _ T), to-end, eq-eqb (lastPlace W) (lastPlace W) refl)
+        rw (C .place-is, run-answer R (mendAnswer W chip .chip) work (K .place) budget (taken-run R _ _ _ T), to-end, eq-eqb (lastPlace W) (lastPlace W) refl)
 
-    pub keeps : Keeps M chip₀ h
+    pub keeps : Keeps R chip₀ h
     keeps = record {
       stays = stays;
       erases = few-erases;
       block-erases = block-erases;
       final = final;
-      placed = λ work place e. (let T = run-taken M chip work place e in is-state M A originals chip place (T .stands) (K .store-length) (K .holds));
-      recovers = recovers M (A .ranges) chip (K .store-length) (K .place) (K .moment) .number-is;
+      placed = λ work place e. (let T = run-taken R chip work place e in is-state M A originals chip place (T .stands) (K .store-length) (K .holds));
+      recovers = recovers W (A .ranges) chip (K .store-length) (K .place) (K .moment) .number-is;
       goes-on = goes-on;
     }

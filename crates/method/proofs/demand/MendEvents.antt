@@ -17,7 +17,7 @@ use Rattle.method.specs.Step.{isErase}
 use Rattle.method.specs.Cut.{CutInside}
 use Rattle.method.specs.Mend.{Reading, reading}
 use Rattle.method.specs.Answers.{MendAnswer, mendAnswer}
-use Rattle.method.specs.Events.{Call, mend, CutPoint, uncut, between, inside, History, numberOf, mendSteps, stepsOf, chipAfter, chipReturned, returnsFinished, isMend, during, returned, cutShort, afterCall, stepsFinished, sizesOf}
+use Rattle.method.specs.Events.{Call, mend, CutPoint, uncut, between, inside, History, numberOf, mendSteps, stepsOf, chipAfter, chipReturned, returnsFinished, isMend, during, returned, cutShort, afterCall, stepsFinished, sizesGiven}
 use Rattle.method.specs.Demand3.{CutObeys}
 use Rattle.method.proofs.basics.MoveShape.{Holding}
 use Rattle.method.proofs.places.Turns.{turn}
@@ -38,8 +38,8 @@ module _ (M : Move) (A : AcceptedMove M) (originals : List ℕ) (h : History) (K
   abbrev answer : MendAnswer
   answer = mendAnswer Z (h .chip)
 
-  R : Recovered M (h .chip) (K .place) answer
-  R = recovers M (A .ranges) (h .chip) (K .store-length) (K .place) (K .moment)
+  R : Recovered Z (h .chip) (K .place) answer
+  R = recovers Z (A .ranges) (h .chip) (K .store-length) (K .place) (K .moment)
 
   steps-are : (found : Reading) → reading Z (h .chip .marks) ≡ some found → stepsOf call (h .chip) ≡ mendSteps (some found)
   unfolding stepsOf numberOf
@@ -126,7 +126,7 @@ module _ (M : Move) (A : AcceptedMove M) (originals : List ℕ) (h : History) (K
     steps-count = ap length one-step
 
     erases-one : (cut : CutPoint) → CutObeys call cut (h .chip) → EventKept M originals h call cut
-    unfolding stepsFinished afterCall sizesOf chipAfter
+    unfolding stepsFinished afterCall sizesGiven chipAfter
     erases-one uncut o = record { inside = λ i l. during-kept i (omega (arith, steps-count)); after = returned-kept }
     erases-one (between f) o = record { inside = λ i l. during-kept i (omega (arith, steps-count)); after = between-kept f (omega (arith, steps-count)) }
     erases-one (inside zero left) o = record {
@@ -136,7 +136,7 @@ module _ (M : Move) (A : AcceptedMove M) (originals : List ℕ) (h : History) (K
     erases-one (inside (suc f) left) o = absurd (omega (arith, steps-count, o .0))
 
   pub mend-kept : (cut : CutPoint) → CutObeys call cut (h .chip) → EventKept M originals h call cut
-  mend-kept = go (mends M (A .ranges) (h .chip) (K .store-length) (K .place) (K .moment))
+  mend-kept = go (mends Z (A .ranges) (h .chip) (K .store-length) (K .place) (K .moment))
     where
       go : Mends Z (h .chip) (K .place) → (cut : CutPoint) → CutObeys call cut (h .chip) → EventKept M originals h call cut
       go (erases z e a) = erases-one z e

@@ -18,12 +18,13 @@ use Rattle.flash.specs.Chip.{Chip}
 use Rattle.flash.proofs.Bools.{bool-cases}
 use Rattle.flash.proofs.Bounds.{range-in}
 use Rattle.flash.proofs.Searches.{count-append}
-use Rattle.method.specs.Move.{Move, AcceptedMove}
+use Rattle.split.specs.Request.{Request}
+use Rattle.method.specs.Move.{Move, move, AcceptedMove}
 use Rattle.method.specs.Place.{Operation, write, erase, done, operations, operationAt, lastPlace, filled}
-use Rattle.method.specs.Step.{Running, steps, isErase, tallied, tally, operationsFrom}
+use Rattle.method.specs.Step.{Running, steps, isErase, tallied, tallyOf, operationsFrom}
 use Rattle.method.specs.Cut.{CutInside}
 use Rattle.method.specs.Answers.{RunAnswer, runRows, stepsTaken, runRefused, runAnswer}
-use Rattle.method.specs.Events.{Call, run, CutPoint, uncut, between, inside, History, numberOf, stepsOf, chipAfter, chipReturned, returnsFinished, isMend, during, returned, cutShort, afterCall, stepsFinished, sizesOf}
+use Rattle.method.specs.Events.{Call, run, CutPoint, uncut, between, inside, History, numberOf, stepsOf, chipAfter, chipReturned, returnsFinished, isMend, during, returned, cutShort, afterCall, stepsFinished, sizesGiven}
 use Rattle.method.specs.Demand3.{CutObeys}
 use Rattle.method.specs.Claims.{StepsCounted, PlacesDiffer}
 use Rattle.method.proofs.basics.AcceptedCalls.{StandsAt, RunTaken, run-taken}
@@ -43,35 +44,38 @@ use Rattle.method.proofs.demand.KeptByHistories.{Bounded, within, once-
 use Rattle.method.proofs.demand.CallsWithoutSteps.{EventKept}
 
 -- the two ways to count erases
-counts-agree : (ops : List Operation) → count isErase ops ≡ tally ops .erases
-unfolding count isErase tally tallied
+counts-agree : (ops : List Operation) → count isErase ops ≡ tallyOf ops .erases
+unfolding count isErase tallyOf tallied
 counts-agree [] = refl
 counts-agree (write pass b q ∷ ops) = counts-agree ops
-counts-agree (erase b ∷ ops) = ap suc (counts-agree ops)
+counts-agree (erase b ∷ ops) = omega (arith, counts-agree ops)
 counts-agree (done ∷ ops) = counts-agree ops
 
 -- the number that run returns is that of its table
-pub run-number : (M : Move) (chip : Chip) (work : List ℕ) (place budget : ℕ) → runAnswer M chip work place budget .number ≡ 0 → refusal (runRows M chip work place) ≡ 0
+pub run-number : (R : Request) (chip : Chip) (work : List ℕ) (place budget : ℕ) → runAnswer R chip work place budget .number ≡ 0 → refusal (runRows R chip work place) ≡ 0
 unfolding runAnswer runRefused
-run-number M chip work place budget e = ⊎-elim
-    (λ (q : eqb (refusal (runRows M chip work place)) 0 ≡ true). eqb-true _ 0 q)
-    (λ (q : eqb (refusal (runRows M chip work place)) 0 ≡ false). rw q at e)
-    (bool-cases (eqb (refusal (runRows M chip work place)) 0))
+run-number R chip work place budget e = ⊎-elim
+    (λ (q : eqb (refusal (runRows R chip work place)) 0 ≡ true). eqb-true _ 0 q)
+    (λ (q : eqb (refusal (runRows R chip work place)) 0 ≡ false). rw q at e)
+    (bool-cases (eqb (refusal (runRows R chip work place)) 0))
 
-module _ (M : Move) (A : AcceptedMove M) (originals : List ℕ) (full : length originals ≡ originalCount (M .sizes) * M .sizes .p)
-    (h : History) (K : Kept M originals h) (work : List ℕ) (place budget : ℕ)
-    (ok : refusal (runRows M (h .chip) work place) ≡ 0) (mended : h .unmended ≡ false) where
+module _ (R : Request) (A : AcceptedMove (move R)) (originals : List ℕ) (full : length originals ≡ originalCount (R .sizes) * R .sizes .p)
+    (h : History) (K : Kept (move R) originals h) (work : List ℕ) (place budget : ℕ)
+    (ok : refusal (runRows R (h .chip) work place) ≡ 0) (mended : h .unmended ≡ false) where
+  abbrev M : Move
+  M = move R
+
   abbrev Z : Sizes
-  Z = M .sizes
+  Z = R .sizes
 
   abbrev call : Call
-  call = run M work place budget
+  call = run R work place budget
 
   abbrev total : ℕ
   total = stepsTaken Z place budget
 
-  T : RunTaken M (h .chip) work place
-  T = run-taken M (h .chip) work place ok
+  T : RunTaken R (h .chip) work place
+  T = run-taken R (h .chip) work place ok
 
   total-in : place + total ≤ lastPlace Z
   unfolding stepsTaken
@@ -81,29 +85,29 @@ module _ (M : Move) (A : AcceptedMove M) (originals : List ℕ) (full : length o
   start = record { chip = h .chip; work = work }
 
   -- ---- the steps
-  steps-are : stepsOf call (h .chip) ≡ operationsFrom M place total
+  steps-are : stepsOf call (h .chip) ≡ operationsFrom Z place total
   unfolding stepsOf numberOf answerOf
   steps-are =
-      ap (λ (a : RunAnswer). cond (eqb (a .number) 0) (operationsFrom M place total) []) (run-answer M (h .chip) work place budget ok)
+      ap (λ (a : RunAnswer). cond (eqb (a .number) 0) (operationsFrom Z place total) []) (run-answer R (h .chip) work place budget ok)
 
   chip-after : (i : ℕ) → i ≤ total → chipAfter call (h .chip) i ≡ steps M i place start .chip
   unfolding chipAfter answerOf stepsTaken
   chip-after i l =
       let all : min i (lastPlace Z - place) ≡ i = omega (arith, total-in) in
-      ap (λ (a : RunAnswer). a .chip) (run-answer M (h .chip) work place i ok) ∙ ap (λ (x : ℕ). steps M x place start .chip) all
+      ap (λ (a : RunAnswer). a .chip) (run-answer R (h .chip) work place i ok) ∙ ap (λ (x : ℕ). steps M x place start .chip) all
 
-  some-steps : (i : ℕ) → i ≤ total → take i (operationsFrom M place total) ≡ operationsFrom M place i
+  some-steps : (i : ℕ) → i ≤ total → take i (operationsFrom Z place total) ≡ operationsFrom Z place i
   unfolding operationsFrom
   some-steps i l = take-take i total (drop place (operations Z)) l
 
-  steps-length : length (operationsFrom M place total) ≡ total
+  steps-length : length (operationsFrom Z place total) ≡ total
   unfolding operationsFrom StepsCounted
   steps-length =
       length-take total (drop place (operations Z)) ∙ omega (arith, length-drop place (operations Z), steps-counted Z, total-in)
 
   -- ---- where the move is
   here : K .place ≡ resumesAt Z place
-  here = moment-unique Z (A .ranges) (h .chip .marks) (K .place) (resumesAt Z place) (K .moment) (stands-moment M (h .chip) place (T .stands))
+  here = moment-unique Z (A .ranges) (h .chip .marks) (K .place) (resumesAt Z place) (K .moment) (stands-moment Z (h .chip) place (T .stands))
 
   few : count isErase (h .begun) ≤ turn Z place + h .mends
   few = go (K .bounded)
@@ -115,9 +119,9 @@ module _ (M : Move) (A : AcceptedMove M) (originals : List ℕ) (full : length o
       go (within b) = omega (arith, at)
       go (once-more u k b) = absurd (true≢false (sym u ∙ mended))
 
-  erases-to : (i : ℕ) → i ≤ total → count isErase (h .begun ++ operationsFrom M place i) ≤ turn Z (place + i) + h .mends
+  erases-to : (i : ℕ) → i ≤ total → count isErase (h .begun ++ operationsFrom Z place i) ≤ turn Z (place + i) + h .mends
   erases-to i l =
-      omega (arith, few, count-append isErase (h .begun) (operationsFrom M place i), counts-agree (operationsFrom M place i), erases-tallied M i place (omega (arith, total-in)))
+      omega (arith, few, count-append isErase (h .begun) (operationsFrom Z place i), counts-agree (operationsFrom Z place i), erases-tallied Z i place (omega (arith, total-in)))
 
   -- once the finish was reported the move is over, and no step is left
   over : h .finished ≡ true → place ≡ lastPlace Z
@@ -131,31 +135,31 @@ module _ (M : Move) (A : AcceptedMove M) (originals : List ℕ) (full : length o
     abbrev now : Chip
     now = steps M i place start .chip
 
-    S : RunTaken M now (steps M i place start .work) (place + i)
-    S = still-taken M (h .chip) work place i (omega (arith, total-in)) T
+    S : RunTaken R now (steps M i place start .work) (place + i)
+    S = still-taken R (h .chip) work place i (omega (arith, total-in)) T
 
     now-holds : Holding M originals now
     now-holds =
         steps-hold M A originals full i place start (omega (arith, total-in)) (record { lent = T .lent; stands = T .stands }) (K .holds)
 
     -- with no cut and no mend the steps from place 0 on were taken
-    now-fresh : Fresh M h → (g : History) → g .chip ≡ now → g .begun ≡ h .begun ++ operationsFrom M place i → Fresh M g
+    now-fresh : Fresh M h → (g : History) → g .chip ≡ now → g .begun ≡ h .begun ++ operationsFrom Z place i → Fresh M g
     unfolding operationsFrom PlacesDiffer
     now-fresh F g c b =
         let same : F .taken ≡ place = places-differ Z (range-in Z (A .ranges)) (F .taken) place (F .stands .inside) (T .stands .inside) (sym (F .stands .marks) ∙ T .stands .marks) in
         record {
           taken = place + i;
-          stands = subst (λ (x : Chip). StandsAt M x (place + i)) (sym c) (S .stands);
+          stands = subst (λ (x : Chip). StandsAt Z x (place + i)) (sym c) (S .stands);
           done = b ∙ ap (λ (o : List Operation). o ++ take i (drop place (operations Z))) (F .done ∙ ap (λ (x : ℕ). take x (operations Z)) same)
               ∙ sym (take-add place i (operations Z));
         }
 
     -- a history of this run, with i steps finished
-    kept-at : (g : History) → g .chip ≡ now → g .begun ≡ h .begun ++ operationsFrom M place i → g .mends ≡ h .mends → (g .cuts ≡ 0 → h .cuts ≡ 0)
+    kept-at : (g : History) → g .chip ≡ now → g .begun ≡ h .begun ++ operationsFrom Z place i → g .mends ≡ h .mends → (g .cuts ≡ 0 → h .cuts ≡ 0)
         → (g .finished ≡ true → resumesAt Z (place + i) ≡ lastPlace Z) → Kept M originals g
     kept-at g c b m cuts ended = record {
       place = resumesAt Z (place + i);
-      moment = subst (λ (x : Chip). Moment Z (x .marks) (resumesAt Z (place + i))) (sym c) (stands-moment M now (place + i) (S .stands));
+      moment = subst (λ (x : Chip). Moment Z (x .marks) (resumesAt Z (place + i))) (sym c) (stands-moment Z now (place + i) (S .stands));
       store-length = ap (λ (x : Chip). length (x .store)) c ∙ S .lent .store-length;
       holds = subst (Holding M originals) (sym c) now-holds;
       bounded = within (rw (b, m, turn-resumes Z (place + i)) (erases-to i l));
@@ -171,7 +175,7 @@ module _ (M : Move) (A : AcceptedMove M) (originals : List ℕ) (full : length o
         ap (resumesAt Z) z ∙ resumes-begun Z (lastPlace Z) (last-stands Z .pages-is)
 
   -- ---- the event
-  begun-to : (i : ℕ) → i ≤ total → h .begun ++ take i (stepsOf call (h .chip)) ≡ h .begun ++ operationsFrom M place i
+  begun-to : (i : ℕ) → i ≤ total → h .begun ++ take i (stepsOf call (h .chip)) ≡ h .begun ++ operationsFrom Z place i
   begun-to i l = ap (λ (o : List Operation). h .begun ++ o) (ap (take i) steps-are ∙ some-steps i l)
 
   steps-count : length (stepsOf call (h .chip)) ≡ total
@@ -185,24 +189,24 @@ module _ (M : Move) (A : AcceptedMove M) (originals : List ℕ) (full : length o
   unfolding returned isMend chipReturned returnsFinished answerOf
   returned-kept =
       kept-at total (omega arith) (returned h call)
-      (ap (λ (a : RunAnswer). a .chip) (run-answer M (h .chip) work place budget ok))
+      (ap (λ (a : RunAnswer). a .chip) (run-answer R (h .chip) work place budget ok))
       (ap (λ (o : List Operation). h .begun ++ o) steps-are)
       refl (λ e. e) (λ e. done-now (h .finished) refl e)
     where
       at-end : place + total ≡ lastPlace Z → resumesAt Z (place + total) ≡ lastPlace Z
       at-end z = ap (resumesAt Z) z ∙ resumes-begun Z (lastPlace Z) (last-stands Z .pages-is)
 
-      reported : eqb (runAnswer M (h .chip) work place budget .finished) 1 ≡ true → place + total ≡ lastPlace Z
+      reported : eqb (runAnswer R (h .chip) work place budget .finished) 1 ≡ true → place + total ≡ lastPlace Z
       reported e = told (bool-cases (eqb (place + total) (lastPlace Z)))
         where
           f : eqb (cond (eqb (place + total) (lastPlace Z)) 1 0) 1 ≡ true
-          f = sym (ap (λ (a : RunAnswer). eqb (a .finished) 1) (run-answer M (h .chip) work place budget ok)) ∙ e
+          f = sym (ap (λ (a : RunAnswer). eqb (a .finished) 1) (run-answer R (h .chip) work place budget ok)) ∙ e
 
           told : (eqb (place + total) (lastPlace Z) ≡ true) ⊎ (eqb (place + total) (lastPlace Z) ≡ false) → place + total ≡ lastPlace Z
           told (inl q) = eqb-true _ _ q
           told (inr q) = absurd (true≢false (sym (rw q at f)))
 
-      done-now : (b : Bool) → h .finished ≡ b → (b || eqb (runAnswer M (h .chip) work place budget .finished) 1) ≡ true → resumesAt Z (place + total) ≡ lastPlace Z
+      done-now : (b : Bool) → h .finished ≡ b → (b || eqb (runAnswer R (h .chip) work place budget .finished) 1) ≡ true → resumesAt Z (place + total) ≡ lastPlace Z
       done-now true e q = still-over total (omega arith) e
       done-now false e q = at-end (reported q)
 
@@ -226,7 +230,7 @@ module _ (M : Move) (A : AcceptedMove M) (originals : List ℕ) (full : length o
       left-holds : Holding M originals left
       left-holds = holding-fades M originals (now i (omega arith)) left (now-holds i (omega arith)) (cut-fades Z (operationAt Z (place + i)) (now i (omega arith)) left C)
 
-      one-more : count isErase (h .begun ++ operationsFrom M place (suc i)) ≤ turn Z (suc (place + i)) + h .mends
+      one-more : count isErase (h .begun ++ operationsFrom Z place (suc i)) ≤ turn Z (suc (place + i)) + h .mends
       one-more = (let s : place + suc i ≡ suc (place + i) = omega arith in rw s at (erases-to (suc i) l))
 
       kept-left : (at : ℕ) → Moment Z (left .marks) at → Bounded M (cutShort h call (suc i) left) at → Kept M originals (cutShort h call (suc i) left)
@@ -245,7 +249,7 @@ module _ (M : Move) (A : AcceptedMove M) (originals : List ℕ) (full : length o
       unfolding cutShort isMend
       inside-kept = go (after-cut Z (place + i) early (now i (omega arith)) left (S i (omega arith) .stands .marks) C)
         where
-          begun : count isErase (h .begun ++ take (suc i) (stepsOf call (h .chip))) ≡ count isErase (h .begun ++ operationsFrom M place (suc i))
+          begun : count isErase (h .begun ++ take (suc i) (stepsOf call (h .chip))) ≡ count isErase (h .begun ++ operationsFrom Z place (suc i))
           begun = ap (count isErase) (begun-to (suc i) l)
 
           go : AfterCut Z (place + i) (left .marks) → Kept M originals (cutShort h call (suc i) left)
@@ -256,7 +260,7 @@ module _ (M : Move) (A : AcceptedMove M) (originals : List ℕ) (full : length o
           go (torn-erase k op m) = kept-left (suc (place + i)) m (within (omega (arith, begun, one-more)))
 
   pub run-kept : (cut : CutPoint) → CutObeys call cut (h .chip) → EventKept M originals h call cut
-  unfolding stepsFinished afterCall sizesOf
+  unfolding stepsFinished afterCall sizesGiven
   run-kept uncut o = record { inside = λ i l. during-kept i (omega (arith, steps-count)); after = returned-kept }
   run-kept (between f) o = record { inside = λ i l. during-kept i (omega (arith, steps-count)); after = between-kept f (omega (arith, steps-count)) }
   run-kept (inside f left) o =

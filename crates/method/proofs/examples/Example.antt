@@ -10,7 +10,7 @@ use Rattle.method.specs.Place.{forward, write, erase}
 use Rattle.method.specs.Cut.{CutInside, touches, isTornMark}
 use Rattle.method.specs.Step.{isErase}
 use Rattle.method.specs.Runs.{Start}
-use Rattle.method.specs.Events.{starting, sizesOf, numberOf, mendSteps, stepsOf, chipAfter, chipReturned, returnsFinished, isMend, during, returned, cutShort, afterCall, after}
+use Rattle.method.specs.Events.{starting, sizesGiven, numberOf, mendSteps, stepsOf, chipAfter, chipReturned, returnsFinished, isMend, during, returned, cutShort, afterCall, after}
 use Rattle.method.specs.Demand3.{AllAllowed, ends, goes}
 use Rattle.method.specs.Cases.{three, threeAtRest}
 use Rattle.method.specs.Example.{tornWrite, untouched, cutInWrite, cutInMend, wholeMend, cutInErase, lastRun, exampleEvents, afterAll, ExampleHolds}
@@ -19,7 +19,7 @@ use Rattle.method.proofs.examples.ExampleCuts.{end, _next_, beside-it, 
 use Rattle.method.proofs.demand.EveryEvent.{demand-3}
 
 unfoldable pub events-open : Unit {0}
-unfolding all-open starting sizesOf numberOf mendSteps stepsOf chipAfter chipReturned returnsFinished isMend during returned cutShort afterCall after exampleEvents afterAll isErase touches isTornMark
+unfolding all-open starting sizesGiven numberOf mendSteps stepsOf chipAfter chipReturned returnsFinished isMend during returned cutShort afterCall after exampleEvents afterAll isErase touches isTornMark
 events-open = tt
 
 cut-write : CutInside (three .sizes) (write forward 1 0) (record { store = 5 ∷ 255 ∷ 2 ∷ 4 ∷ []; marks = 1 ∷ 255 ∷ 0 ∷ 0 ∷ [] }) tornWrite

@@ -15,9 +15,8 @@ use Rattle.flash.proofs.Bools.{bool-cases}
 use Rattle.flash.proofs.Searches.{count-append, count-none}
 use Rattle.flash.proofs.Ranges.{none-is, one-counted}
 use Rattle.flash.proofs.Bounds.{in-range}
-use Rattle.method.specs.Move.{Move}
 use Rattle.method.specs.Place.{Pass, forward, backward, write, erase, writes, forwardTurn, backwardTurn, operations, lastPlace}
-use Rattle.method.specs.Step.{erasesBlock, tally, operationsFrom}
+use Rattle.method.specs.Step.{erasesBlock, tallyOf, operationsFrom}
 use Rattle.method.specs.Claims.{StepsCounted, ErasesCounted}
 use Rattle.method.proofs.basics.Indexes.{Order, less, same, more, order}
 use Rattle.method.proofs.places.StepsCounted.{steps-counted}
@@ -105,27 +104,24 @@ module _ (Z : Sizes) (block : ℕ) where
       go (less l) (less h) = omega (arith, both-passes, last, forward-once (omega arith) (omega arith))
       go (less l) (same e) = omega (arith, both-passes, last, forward-once (omega arith) (omega arith))
 
--- all the steps, as the steps of a run from place 0; they are the same for every list and split
+-- all the steps, as the steps of a run from place 0
 module _ (Z : Sizes) where
   open Sizes Z using (n, m)
 
-  abbrev any-move : Move
-  any-move = record { sizes = Z; list = []; sets = [] }
-
-  all-steps : operationsFrom any-move 0 (lastPlace Z) ≡ operations Z
+  all-steps : operationsFrom Z 0 (lastPlace Z) ≡ operations Z
   unfolding operationsFrom StepsCounted
   all-steps = take-all (lastPlace Z) (operations Z) (omega (arith, steps-counted Z))
 
-  all-erases : tally (operations Z) .erases ≡ 2 * n
+  all-erases : tallyOf (operations Z) .erases ≡ 2 * n
   unfolding lastPlace
   all-erases =
       let turns : (0 + 2 * n * (m + 1)) / (m + 1) ≡ 2 * n = ap (λ (p : ℕ). p / (m + 1)) (omega arith) ∙ mul-div-cancel (2 * n) (omega arith) in
-      let found = erases-tallied any-move (lastPlace Z) 0 (omega arith) in
+      let found = erases-tallied Z (lastPlace Z) 0 (omega arith) in
       omega (arith, rw all-steps at found, zero-div (m + 1))
 
-  all-writes : tally (operations Z) .writes ≡ 2 * n * m
+  all-writes : tallyOf (operations Z) .writes ≡ 2 * n * m
   unfolding lastPlace
-  all-writes = omega (arith, rw all-steps at (steps-tallied any-move (lastPlace Z) 0 (omega arith)), tally-total (operations Z), all-erases)
+  all-writes = omega (arith, rw all-steps at (steps-tallied Z (lastPlace Z) 0 (omega arith)), tally-total (operations Z), all-erases)
 
 pub erases-counted : ErasesCounted
 erases-counted = record {
@@ -134,6 +130,6 @@ erases-counted = record {
   between = λ Z b h l. both-passes Z b ∙ rw (forward-once Z b h (omega arith), lt-ltb b (Z .n) l) (omega arith);
   all-erases = all-erases;
   all-writes = all-writes;
-  run-steps = λ M place taken h. steps-tallied M taken place h;
-  run-total = λ M place taken. tally-total (operationsFrom M place taken);
+  run-steps = λ Z place taken h. steps-tallied Z taken place h;
+  run-total = λ Z place taken. tally-total (operationsFrom Z place taken);
 }

@@ -15,7 +15,6 @@ use Rattle.flash.proofs.Blocks.{full-at}
 use Rattle.flash.proofs.Bounds.{range-in, block-in-marks, block-in-store}
 use Rattle.flash.proofs.Chips.{erase-store-length, erase-marks-length, erase-mark, erase-mark-other, erase-blank}
 use Rattle.flash.proofs.Tables.{refusal-skip, refusal-nil}
-use Rattle.method.specs.Move.{Move}
 use Rattle.method.specs.Place.{passAt, filling, filled, heldAt, heldMark}
 use Rattle.method.specs.Mend.{Reading, reading}
 use Rattle.method.specs.Answers.{badChip, marksAnswer, fitsNone, mendRows, MendAnswer, mended, mendAnswer}
@@ -45,20 +44,17 @@ pub data Mends (Z : Sizes) (chip : Chip) (place : ℕ) : Type 0 where
       → mendAnswer Z chip ≡ record { number = 0; place = place; erases = 0; chip = chip } → Mends Z chip place
 
 -- an answer by which the move goes on at a place
-pub record Recovered (M : Move) (chip : Chip) (place : ℕ) (answer : MendAnswer) : Type 0 where
+pub record Recovered (Z : Sizes) (chip : Chip) (place : ℕ) (answer : MendAnswer) : Type 0 where
   pub number-is : answer .number ≡ 0
   pub place-is : answer .place ≡ place
-  pub stands : StandsAt M (answer .chip) place
-  pub moment : Moment (M .sizes) (answer .chip .marks) place
-  pub store-length : length (answer .chip .store) ≡ storeLength (M .sizes)
-  pub marks-length : length (answer .chip .marks) ≡ marksLength (M .sizes)
-  pub fades : Fades (M .sizes) chip (answer .chip)
+  pub stands : StandsAt Z (answer .chip) place
+  pub moment : Moment Z (answer .chip .marks) place
+  pub store-length : length (answer .chip .store) ≡ storeLength Z
+  pub marks-length : length (answer .chip .marks) ≡ marksLength Z
+  pub fades : Fades Z chip (answer .chip)
 
-module _ (M : Move) (B : Bounds (M .sizes)) (chip : Chip) (store-length : length (chip .store) ≡ storeLength (M .sizes)) (place : ℕ) (C : Moment (M .sizes) (chip .marks) place) where
-  open Sizes (M .sizes) using (n, m, p as P)
-
-  abbrev Z : Sizes
-  Z = M .sizes
+module _ (Z : Sizes) (B : Bounds Z) (chip : Chip) (store-length : length (chip .store) ≡ storeLength Z) (place : ℕ) (C : Moment Z (chip .marks) place) where
+  open Sizes Z using (n, m, p as P)
 
   accepted : (found : Reading) → reading Z (chip .marks) ≡ some found → refusal (mendRows Z chip) ≡ 0
   unfolding mendRows badChip fitsNone marksAnswer
@@ -79,7 +75,7 @@ module _ (M : Move) (B : Bounds (M .sizes)) (chip : Chip) (store-length : length
       go (full k A e) = keeps k e (answers (record { place = place; toErase = none }) e)
 
   -- with no block unfinished nothing is marked 255
-  stands-full : filled Z place ≡ m → MarksAt Z place (chip .marks) → StandsAt M chip place
+  stands-full : filled Z place ≡ m → MarksAt Z place (chip .marks) → StandsAt Z chip place
   stands-full k A =
       let S = shape-full Z place (C .in-move) (chip .marks) A k in
       record {
@@ -124,14 +120,14 @@ module _ (M : Move) (B : Bounds (M .sizes)) (chip : Chip) (store-length : length
         let r = erased-between Z (chip .marks) b (suc b) _ c q S (omega arith) k before in
         absurd (apart (omega arith)))
 
-    stands-torn : StandsAt M left place
+    stands-torn : StandsAt Z left place
     stands-torn = record {
       inside = C .in-move;
       marks = marks-eq Z place (left .marks) (B .m-low) left-marks;
       blank = each-slot m (n + 1) (λ t. markAt (left .marks) t ≡ erased → isBlank P left t ≡ true) left-blank;
     }
 
-    recovered-torn : Recovered M chip place (record { number = 0; place = place; erases = 1; chip = left })
+    recovered-torn : Recovered Z chip place (record { number = 0; place = place; erases = 1; chip = left })
     recovered-torn = record {
       number-is = refl;
       place-is = refl;
@@ -142,7 +138,7 @@ module _ (M : Move) (B : Bounds (M .sizes)) (chip : Chip) (store-length : length
       fades = erase-fades Z b chip (S .inside) store-length (C .marks-length);
     }
 
-  recovered-full : filled Z place ≡ m → MarksAt Z place (chip .marks) → Recovered M chip place (record { number = 0; place = place; erases = 0; chip = chip })
+  recovered-full : filled Z place ≡ m → MarksAt Z place (chip .marks) → Recovered Z chip place (record { number = 0; place = place; erases = 0; chip = chip })
   recovered-full k A = record {
     number-is = refl;
     place-is = refl;
@@ -153,10 +149,10 @@ module _ (M : Move) (B : Bounds (M .sizes)) (chip : Chip) (store-length : length
     fades = fades-refl Z chip;
   }
 
-  pub recovers : Recovered M chip place (mendAnswer Z chip)
+  pub recovers : Recovered Z chip place (mendAnswer Z chip)
   unfolding mended
   recovers = go (finds Z B (chip .marks) place C)
     where
-      go : Finds Z (chip .marks) place → Recovered M chip place (mendAnswer Z chip)
-      go (torn z S e) = subst (Recovered M chip place) (sym (answers (record { place = place; toErase = some (filling Z place) }) e)) (recovered-torn z S)
-      go (full k A e) = subst (Recovered M chip place) (sym (answers (record { place = place; toErase = none }) e)) (recovered-full k A)
+      go : Finds Z (chip .marks) place → Recovered Z chip place (mendAnswer Z chip)
+      go (torn z S e) = subst (Recovered Z chip place) (sym (answers (record { place = place; toErase = some (filling Z place) }) e)) (recovered-torn z S)
+      go (full k A e) = subst (Recovered Z chip place) (sym (answers (record { place = place; toErase = none }) e)) (recovered-full k A)

@@ -14,7 +14,6 @@ use Rattle.flash.specs.declared.sizes.Sizes.{Sizes}
 use Rattle.flash.specs.Geometry.{isLetter, slot, marksLength, letter}
 use Rattle.flash.specs.Chip.{Chip, erased, isMark, markAt}
 use Rattle.flash.proofs.Searches.{all-of}
-use Rattle.method.specs.Move.{Move}
 use Rattle.method.specs.Place.{lastPlace, passAt, filling, filled, Held, blank, plain, code, final, above, heldAt, heldMark}
 use Rattle.method.proofs.basics.Indexes.{Order, less, same, more, order, this-or-other, each-slot}
 use Rattle.method.proofs.basics.MoveShape.{Shape, Shaped}
@@ -156,6 +155,6 @@ module _ (Z : Sizes) where
       }
 
 -- a chip that stands at a place
-pub stands-moment : (M : Move) (chip : Chip) (place : ℕ) → StandsAt M chip place → Moment (M .sizes) (chip .marks) (resumesAt (M .sizes) place)
-stands-moment M chip place S =
-    place-moment (M .sizes) place (S .inside) (chip .marks) (subst (MarksAt (M .sizes) place) (sym (S .marks)) (marksOf-at (M .sizes) place))
+pub stands-moment : (Z : Sizes) (chip : Chip) (place : ℕ) → StandsAt Z chip place → Moment Z (chip .marks) (resumesAt Z place)
+stands-moment Z chip place S =
+    place-moment Z place (S .inside) (chip .marks) (subst (MarksAt Z place) (sym (S .marks)) (marksOf-at Z place))

@@ -11,26 +11,26 @@ use Rattle.flash.specs.Tables.{Row, refusal, firstFit, numberOr0}
 use Rattle.flash.specs.Geometry.{inRange, listLength}
 use Rattle.flash.specs.Chip.{Chip}
 use Rattle.flash.proofs.Bools.{bool-cases}
-use Rattle.method.specs.Move.{Move}
+use Rattle.split.specs.Request.{Request}
 use Rattle.method.specs.Answers.{badParts, moveRows, runRows, runRefused, runAnswer, readRows, readAnswer}
 
 not-zero : (ranged : Bool) → eqb (cond ranged 2 1) 0 ≡ false
 not-zero true = refl
 not-zero false = refl
 
-module _ (M : Move) (chip : Chip) (work : List ℕ) (other : inRange (M .sizes) ≡ true → length (M .list) ≢ listLength (M .sizes)) where
+module _ (R : Request) (chip : Chip) (work : List ℕ) (other : inRange (R .sizes) ≡ true → length (R .list) ≢ listLength (R .sizes)) where
   -- in the rows that run and read share
-  pub list-refused : (rest : List (Row ℕ)) → refusal (moveRows M chip work rest) ≡ cond (inRange (M .sizes)) 2 1
+  pub list-refused : (rest : List (Row ℕ)) → refusal (moveRows R chip work rest) ≡ cond (inRange (R .sizes)) 2 1
   unfolding moveRows badParts refusal firstFit numberOr0
   list-refused rest = ⊎-elim
-      (λ (e : inRange (M .sizes) ≡ true). rw (e, ne-eqb (length (M .list)) (listLength (M .sizes)) (other e)))
-      (λ (e : inRange (M .sizes) ≡ false). rw e)
-      (bool-cases (inRange (M .sizes)))
+      (λ (e : inRange (R .sizes) ≡ true). rw (e, ne-eqb (length (R .list)) (listLength (R .sizes)) (other e)))
+      (λ (e : inRange (R .sizes) ≡ false). rw e)
+      (bool-cases (inRange (R .sizes)))
 
-  pub run-refuses-list : (place budget : ℕ) → runAnswer M chip work place budget ≡ runRefused (cond (inRange (M .sizes)) 2 1) chip work
+  pub run-refuses-list : (place budget : ℕ) → runAnswer R chip work place budget ≡ runRefused (cond (inRange (R .sizes)) 2 1) chip work
   unfolding runAnswer runRows
-  run-refuses-list place budget = rw (list-refused _, not-zero (inRange (M .sizes)))
+  run-refuses-list place budget = rw (list-refused _, not-zero (inRange (R .sizes)))
 
-  pub read-refuses-list : (k : ℕ) → readAnswer M chip work k ≡ record { number = cond (inRange (M .sizes)) 2 1; count = 0; work = work }
+  pub read-refuses-list : (k : ℕ) → readAnswer R chip work k ≡ record { number = cond (inRange (R .sizes)) 2 1; count = 0; work = work }
   unfolding readAnswer readRows
-  read-refuses-list k = rw (list-refused _, not-zero (inRange (M .sizes)))
+  read-refuses-list k = rw (list-refused _, not-zero (inRange (R .sizes)))

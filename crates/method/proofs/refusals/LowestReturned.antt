@@ -8,8 +8,8 @@ use Rattle.method.specs.Claims.{LowestReturned}
 pub lowest-returned : LowestReturned
 unfolding splitRows moveRows runRows mendRows readRows
 lowest-returned = record {
-  by-split = λ Z list sets. lowest-first (splitRows Z list sets) 0 refl;
-  by-run = λ M chip work place. lowest-first (runRows M chip work place) 0 refl;
+  by-split = λ R. lowest-first (splitRows R) 0 refl;
+  by-run = λ R chip work place. lowest-first (runRows R chip work place) 0 refl;
   by-mend = λ Z chip. lowest-first (mendRows Z chip) 0 refl;
-  by-read = λ M chip work k. lowest-first (readRows M chip work k) 0 refl;
+  by-read = λ R chip work k. lowest-first (readRows R chip work k) 0 refl;
 }

@@ -66,7 +66,7 @@ module _ (M : Move) (A : AcceptedMove M) (chip : Chip) (store-length : length (c
       data-mark (suc b) q (omega arith) h k
       ∙ sym (ap (heldMark Z) (held-above Z 0 (suc b) q (omega (arith, start .block-is)) ∙ ap above (start .pass-is)))
 
-  pub rest-stands : StandsAt M chip 0
+  pub rest-stands : StandsAt Z chip 0
   unfolding letter
   rest-stands = record {
     inside = omega arith;

@@ -12,9 +12,9 @@ use Rattle.flash.specs.Geometry.{Bounds, slot, slotCount, letter}
 use Rattle.flash.specs.Chip.{Chip, erased, pageAt, markAt, isBlank, eraseBlock, writePage}
 use Rattle.flash.proofs.Bounds.{block-in-marks, block-in-store, slot-in-marks, slot-in-store}
 use Rattle.flash.proofs.Chips.{blank-of, blank-page, erase-store-length, erase-marks-length, erase-mark, erase-blank, erase-mark-other, erase-page-other, write-marks-length, write-mark, write-mark-other, write-store-length, write-page-other}
-use Rattle.method.specs.Move.{Move}
+use Rattle.method.specs.Move.{Lent}
 use Rattle.method.specs.Place.{Pass, forward, backward, markOf, blank, lastPlace, heldAt, heldMark}
-use Rattle.method.proofs.basics.AcceptedCalls.{Lent, StandsAt}
+use Rattle.method.proofs.basics.AcceptedCalls.{StandsAt}
 use Rattle.method.proofs.basics.Indexes.{Order, less, same, more, order, slot-div, slot-mod}
 use Rattle.method.proofs.places.PagesHeld.{Writes, Erases, MarksAt, marksOf-at, marks-eq, mark-written}
 
@@ -34,11 +34,8 @@ unfolding markOf letter
 mark-letter Z forward = omega arith
 mark-letter Z backward = omega arith
 
-module _ (M : Move) (B : Bounds (M .sizes)) (chip : Chip) (work : List ℕ) (L : Lent M chip work) (place : ℕ) (S : StandsAt M chip place) (on : place < lastPlace (M .sizes)) where
-  open Sizes (M .sizes) using (n, m, p as P)
-
-  abbrev Z : Sizes
-  Z = M .sizes
+module _ (Z : Sizes) (B : Bounds Z) (chip : Chip) (work : List ℕ) (L : Lent Z chip work) (place : ℕ) (S : StandsAt Z chip place) (on : place < lastPlace Z) where
+  open Sizes Z using (n, m, p as P)
 
   old-marks : MarksAt Z place (chip .marks)
   old-marks = subst (MarksAt Z place) (sym (S .marks)) (marksOf-at Z place)
@@ -83,14 +80,14 @@ module _ (M : Move) (B : Bounds (M .sizes)) (chip : Chip) (work : List ℕ) (L :
         let was : markAt (chip .marks) t ≡ erased = sym (write-mark-other P (slot m b q) page (markOf Z pass) chip t apart) ∙ e in
         blank-of P new t e (write-page-other P (slot m b q) page (markOf Z pass) chip fits whole t apart ∙ old-page t h was)
 
-    pub write-lent : Lent M new page
+    pub write-lent : Lent Z new page
     write-lent = record {
       store-length = write-store-length P (slot m b q) page (markOf Z pass) chip fits whole ∙ L .store-length;
       marks-length = write-marks-length P (slot m b q) page (markOf Z pass) chip ∙ L .marks-length;
       work-length = whole;
     }
 
-    pub write-stands : StandsAt M new (suc place)
+    pub write-stands : StandsAt Z new (suc place)
     write-stands = record {
       inside = on;
       marks = marks-eq Z (suc place) (new .marks) (B .m-low) (record { length-is = write-lent .marks-length; mark-is = new-mark });
@@ -137,14 +134,14 @@ module _ (M : Move) (B : Bounds (M .sizes)) (chip : Chip) (work : List ℕ) (L :
         at c p h k e (more l) = stays c p h k e (λ f. absurd (omega arith))
         at c p h k e (same f) = subst (λ (x : ℕ). isBlank P wiped (slot m x p) ≡ true) (sym f) (erase-blank m P b chip store-fits marks-fit p k)
 
-    pub erase-lent : Lent M wiped work
+    pub erase-lent : Lent Z wiped work
     erase-lent = record {
       store-length = erase-store-length m P b chip store-fits marks-fit ∙ L .store-length;
       marks-length = erase-marks-length m P b chip store-fits marks-fit ∙ L .marks-length;
       work-length = L .work-length;
     }
 
-    pub erase-stands : StandsAt M wiped (suc place)
+    pub erase-stands : StandsAt Z wiped (suc place)
     erase-stands = record {
       inside = on;
       marks = marks-eq Z (suc place) (wiped .marks) (B .m-low) (record { length-is = erase-lent .marks-length; mark-is = wiped-mark });

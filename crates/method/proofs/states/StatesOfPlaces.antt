@@ -63,7 +63,7 @@ slot-number m b q l h =
     let block : (b - 1) + 1 ≡ b = omega arith in
     ap₂ (slot m) (ap (λ (x : ℕ). x + 1) (slot-div m (b - 1) q h) ∙ block) (slot-mod m (b - 1) q h)
 
-module _ (M : Move) (A : AcceptedMove M) (originals : List ℕ) (chip : Chip) (place : ℕ) (S : StandsAt M chip place) (size : length (chip .store) ≡ storeLength (M .sizes)) (H : Holding M originals chip) where
+module _ (M : Move) (A : AcceptedMove M) (originals : List ℕ) (chip : Chip) (place : ℕ) (S : StandsAt (M .sizes) chip place) (size : length (chip .store) ≡ storeLength (M .sizes)) (H : Holding M originals chip) where
   open Sizes (M .sizes) using (n, m, p as P)
 
   abbrev Z : Sizes

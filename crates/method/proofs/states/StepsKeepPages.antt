@@ -18,13 +18,12 @@ use Rattle.flash.proofs.Bools.{bool-cases}
 use Rattle.flash.proofs.Bounds.{slot-in-marks, slot-in-store}
 use Rattle.flash.proofs.Sums.{sum-one}
 use Rattle.flash.proofs.Chips.{write-mark, write-mark-other, write-page, write-page-other}
-use Rattle.method.specs.Move.{Move, AcceptedMove}
+use Rattle.method.specs.Move.{Move, AcceptedMove, Lent}
 use Rattle.method.specs.Cycle.{coded, sentTo}
 use Rattle.method.specs.Place.{Pass, forward, backward, written, markOf, lastPlace, operationAt, passAt, filling, filled}
 use Rattle.method.specs.State.{heldOriginals}
 use Rattle.method.specs.Step.{Running, originalsOf, writtenPage, perform, step, steps}
 use Rattle.method.proofs.basics.MoveShape.{Holding}
-use Rattle.method.proofs.basics.AcceptedCalls.{Lent}
 use Rattle.method.proofs.basics.Indexes.{slot-div, slot-mod}
 use Rattle.method.proofs.cycles.SetCycles.{sent-entry}
 use Rattle.method.proofs.places.StepsAtPlaces.{nextBlock}
@@ -58,7 +57,7 @@ module _ (M : Move) (A : AcceptedMove M) (originals : List ℕ) (full : length o
   backward-sources forward b q e = absurd (omega arith)
   backward-sources backward b q e = refl
 
-  module _ (pass : Pass) (b q : ℕ) (b-in : b ≤ n) (q-in : q < m) (chip : Chip) (work : List ℕ) (L : Lent M chip work) (H : Holding M originals chip)
+  module _ (pass : Pass) (b q : ℕ) (b-in : b ≤ n) (q-in : q < m) (chip : Chip) (work : List ℕ) (L : Lent Z chip work) (H : Holding M originals chip)
       (page : List ℕ) (whole : length page ≡ P) (is : page ≡ sum original (originalsOf M pass b q)) where
     abbrev here : ℕ
     here = slot m b q

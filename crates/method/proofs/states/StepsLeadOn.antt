@@ -10,13 +10,13 @@ use Rattle.flash.specs.declared.sizes.Sizes.{Sizes}
 use Rattle.flash.specs.Geometry.{numberAt, originalCount}
 use Rattle.flash.specs.PageSum.{sum}
 use Rattle.flash.specs.Chip.{Chip}
-use Rattle.method.specs.Move.{Move, AcceptedMove}
+use Rattle.method.specs.Move.{Move, AcceptedMove, Lent}
 use Rattle.method.specs.Cycle.{sentTo}
 use Rattle.method.specs.Place.{Pass, forward, backward, written, write, erase, lastPlace, operationAt, passAt, filling, filled}
 use Rattle.method.specs.State.{heldOriginals}
 use Rattle.method.specs.Step.{Running, originalsOf, writtenPage, perform, step, steps}
 use Rattle.method.proofs.basics.MoveShape.{Shape, Holding}
-use Rattle.method.proofs.basics.AcceptedCalls.{Lent, StandsAt}
+use Rattle.method.proofs.basics.AcceptedCalls.{StandsAt}
 use Rattle.method.proofs.cycles.SetCycles.{sent-in}
 use Rattle.method.proofs.places.StepsAtPlaces.{nextBlock, forward-high, filling-in, backward-low}
 use Rattle.method.proofs.places.PagesHeld.{Writes, Erases, Change, by-write, by-erase, change, MarksAt, marksOf-at}
@@ -53,7 +53,7 @@ module _ (M : Move) (A : AcceptedMove M) where
     sources-some forward = coded-some M A (filled Z place) (filling Z place + 1)
     sources-some backward = omega arith
 
-    module _ (chip : Chip) (work : List ℕ) (L : Lent M chip work) (S : StandsAt M chip place) where
+    module _ (chip : Chip) (work : List ℕ) (L : Lent Z chip work) (S : StandsAt Z chip place) where
       marks-here : MarksAt Z place (chip .marks)
       marks-here = subst (MarksAt Z place) (sym (S .marks)) (marksOf-at Z place)
 
@@ -73,8 +73,8 @@ module _ (M : Move) (A : AcceptedMove M) where
 
   -- ---- one step
   pub record Stood (run : Running) (place : ℕ) : Type 0 where
-    pub lent : Lent M (run .chip) (run .work)
-    pub stands : StandsAt M (run .chip) place
+    pub lent : Lent Z (run .chip) (run .work)
+    pub stands : StandsAt Z (run .chip) place
 
   module _ (place : ℕ) (run : Running) (on : place < lastPlace Z) (S : Stood run place) where
     step-write : filled Z place < m → Writes Z place (passAt Z place) (filling Z place) (filled Z place)
@@ -84,15 +84,15 @@ module _ (M : Move) (A : AcceptedMove M) where
         let page = writtenPage M (passAt Z place) (filling Z place) (filled Z place) (run .chip) in
         let whole = page-length place on room (run .chip) (run .work) (S .lent) (S .stands) in
         record {
-          lent = write-lent M (A .ranges) (run .chip) (run .work) (S .lent) place (S .stands) on (passAt Z place) (filling Z place) (filled Z place) W page whole;
-          stands = write-stands M (A .ranges) (run .chip) (run .work) (S .lent) place (S .stands) on (passAt Z place) (filling Z place) (filled Z place) W page whole;
+          lent = write-lent Z (A .ranges) (run .chip) (run .work) (S .lent) place (S .stands) on (passAt Z place) (filling Z place) (filled Z place) W page whole;
+          stands = write-stands Z (A .ranges) (run .chip) (run .work) (S .lent) place (S .stands) on (passAt Z place) (filling Z place) (filled Z place) W page whole;
         }
 
     step-erase : (b : ℕ) → Erases Z place b → Stood (perform M (erase b) run) (suc place)
     unfolding perform
     step-erase b E = record {
-      lent = erase-lent M (A .ranges) (run .chip) (run .work) (S .lent) place (S .stands) on b E;
-      stands = erase-stands M (A .ranges) (run .chip) (run .work) (S .lent) place (S .stands) on b E;
+      lent = erase-lent Z (A .ranges) (run .chip) (run .work) (S .lent) place (S .stands) on b E;
+      stands = erase-stands Z (A .ranges) (run .chip) (run .work) (S .lent) place (S .stands) on b E;
     }
 
     pub step-stands : Stood (step M place run) (suc place)

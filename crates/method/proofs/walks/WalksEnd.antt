@@ -5,7 +5,7 @@ use native.Mathlib.Omega.{arith}
 use Rattle.flash.specs.Geometry.{blockOf, letter}
 use Rattle.flash.proofs.Blocks.{full-finished}
 use Rattle.split.specs.Split.{setOf}
-use Rattle.method.specs.Move.{Move, AcceptedMove}
+use Rattle.method.specs.Move.{Move}
 use Rattle.method.specs.Cycle.{dest}
 use Rattle.method.specs.Claims.{InCycle, start, next, TopIsHighest, WalksEnd}
 use Rattle.method.proofs.cycles.Orbits.{iterate, iterate-last}

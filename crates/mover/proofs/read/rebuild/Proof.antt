@@ -1,3 +1,4 @@
+-- The original rebuilt in the work page is the sum that read's rules name, and the count is theirs.
 use mathlib.Core.Path.{sym, ap, _∙_}
 use Prim.Native.Nat.{_<_}
 use native.Mathlib.Omega.{arith}

@@ -1,10 +1,11 @@
+-- Rows 1 to 4 in the table's order: the number that the tests of a move give is theirs.
 use mathlib.Core.Path.{_≡_, sym, _∙_}
 use mathlib.Core.Bool.{false, cond, not}
 use mathlib.Core.List.{[]}
 use Prim.Native.Nat.{_*_}
 use borrow.Author.Needs.{needs}
 use borrow.Author.Tests.{not-true, not-false}
-use Rattle.method.specs.Move.{moveOf}
+use Rattle.split.specs.Request.{requestOf}
 use Rattle.flash.specs.Tables.{refusal}
 use Rattle.flash.specs.Geometry.{Bounds, inRange}
 use Rattle.flash.proofs.Bounds.{in-range}
@@ -20,8 +21,8 @@ in-range-requires c κs = search needs
 returns : tie.Need-returns
 returns c =
     let a = c .before .before .before .before .before .before .before .args in
-    let M = moveOf (a .sizes) (a .list .now) (a .sets .now) in
-    let N = move-number M (record { store = a .store .now; marks = a .marks .now }) (a .work .now) in
+    let R = requestOf (a .sizes) (a .list .now) (a .sets .now) in
+    let N = move-number R (record { store = a .store .now; marks = a .marks .now }) (a .work .now) in
     sym (N ∙ rw (← c .before .in-range .ensures, c .if1 .taken))
 
 -- the sizes are in their ranges
@@ -38,8 +39,8 @@ bad-parts-requires c κs = let B = ranges c in (B .n-high, B .m-high, B .p-high)
 returns-2 : tie.Need-returns-2
 returns-2 c =
     let a = c .before .before .before .before .before .before .before .before .before .args in
-    let M = moveOf (a .sizes) (a .list .now) (a .sets .now) in
-    let N = move-number M (record { store = a .store .now; marks = a .marks .now }) (a .work .now) in
+    let R = requestOf (a .sizes) (a .list .now) (a .sets .now) in
+    let N = move-number R (record { store = a .store .now; marks = a .marks .now }) (a .work .now) in
     sym (N ∙ rw (ranged (c .before .before), ← c .before .bad-parts .ensures, c .if2 .taken))
 
 is-split-requires : tie.Need-is-split-requires
@@ -48,13 +49,13 @@ is-split-requires c κs = search needs
 -- past rows 1 and 2 the split decides, and else the list
 decided : (c : tie.After-is-split)
     → (let a = c .before .before .before .before .before .before .before .before .before .before .args in
-    let M = moveOf (a .sizes) (a .list .now) (a .sets .now) in
-    refusal (moveRows M (record { store = a .store .now; marks = a .marks .now }) (a .work .now) []) ≡ cond (c .is-split .result) 0 (cond (isOneToOne (a .sizes .n * a .sizes .m) (a .list .now)) 4 3))
+    let R = requestOf (a .sizes) (a .list .now) (a .sets .now) in
+    refusal (moveRows R (record { store = a .store .now; marks = a .marks .now }) (a .work .now) []) ≡ cond (c .is-split .result) 0 (cond (isOneToOne (a .sizes .n * a .sizes .m) (a .list .now)) 4 3))
 decided c =
     let a = c .before .before .before .before .before .before .before .before .before .before .args in
-    let M = moveOf (a .sizes) (a .list .now) (a .sets .now) in
+    let R = requestOf (a .sizes) (a .list .now) (a .sets .now) in
     rw (c .is-split .ensures)
-    (move-split M (record { store = a .store .now; marks = a .marks .now }) (a .work .now) (not-false _ (ranged (c .before .before .before)))
+    (move-split R (record { store = a .store .now; marks = a .marks .now }) (a .work .now) (not-false _ (ranged (c .before .before .before)))
     (sym (c .before .before .bad-parts .ensures) ∙ c .before .if2 .left))
 
 returns-3 : tie.Need-returns-3

@@ -1,3 +1,4 @@
+-- A run that passed its tests does the steps that its definition has, and tells them.
 use Prim.Native.Nat.{_+_, _≤_}
 use native.Mathlib.Omega.{arith}
 use borrow.Author.Needs.{needs}
@@ -59,7 +60,7 @@ returns : tie.Need-returns
 returns c =
     let a = c .before .before .before .before .before .before .before .before .before .before .before .before .before .before .before .before .before .before .before .before .before .before .before .before .before .args in
     let t = c .before .before .before .before .before .before .before .take-steps in
-    carried (moveOf (a .sizes) (a .list .now) (a .sets .now)) (a .store .now) (a .marks .now) (a .work .now) (a .place) (a .budget) (c .before .before .before .before .before .before .before .before .before .before .before .before .before .before .last-place .result) (c .before .before .before .before .before .before .before .before .before .before .before .before .before .smaller .result) _ _ _ _ _ _ _
+    carried (moveOf (a .sizes) (a .list .now) (a .sets .now)) (a .store .now) (a .marks .now) (a .work .now) (a .place) (a .budget) (c .before .before .before .before .before .before .before .before .before .before .before .before .before .before .last-place .result) (c .before .before .before .before .before .before .before .before .before .before .before .before .before .smaller .result) _ _ _ _ _
     (c .before .before .before .before .before .before .before .before .before .before .before .before .before .before .last-place .ensures) (c .before .before .before .before .before .before .before .before .before .before .before .before .before .smaller .ensures) (c .same .ensures) (t .ensures .0) (t .ensures .1)
 
 pub carry-out-spec : {M : Type 1} → statement M

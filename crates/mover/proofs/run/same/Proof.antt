@@ -1,3 +1,4 @@
+-- 1 just where two numbers are equal.
 use borrow.Author.Tests.{eq-eqb, ne-eqb}
 use Rattle.mover.proofs.run.same.Statement.{statement}
 use Rattle.mover.proofs.run.same.Tie as tie

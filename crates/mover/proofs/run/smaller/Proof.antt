@@ -1,3 +1,4 @@
+-- The smaller of two numbers.
 use native.Mathlib.Omega.{arith}
 use Rattle.mover.proofs.run.smaller.Statement.{statement}
 use Rattle.mover.proofs.run.smaller.Tie as tie

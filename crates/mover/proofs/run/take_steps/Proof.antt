@@ -1,61 +1,51 @@
+-- So many steps leave what the definition's steps leave, and are counted as they are; for the loop of a run.
 use mathlib.Core.Path.{_≡_, _∙_}
 use Prim.Native.Nat.{_+_, _-_, _≤_, _<_}
 use native.Mathlib.Omega.{arith}
 use borrow.Author.Needs.{needs}
-use Rattle.method.specs.Move.{moveOf}
-use Rattle.method.specs.Step.{steps, tally, operationsFrom}
-use Rattle.method.specs.Place.{operationAt, lastPlace}
-use Rattle.mover.specs.inner.Steps.{Lent, runningOf, Leaves, Counted}
-use Rattle.mover.proofs.RunLaws.{none-taken, none-counted, one-taken, one-counted, at-most-one, last-small}
+use Rattle.method.specs.Move.{moveOf, Lent}
+use Rattle.method.specs.Step.{runningOf, steps, tallyOf, operationsFrom}
+use Rattle.method.specs.Place.{lastPlace}
+use Rattle.mover.specs.inner.Steps.{mostSteps}
+use Rattle.mover.proofs.RunLaws.{none-taken, none-counted, one-taken, one-counted, counts-fit, last-small}
 use Rattle.mover.proofs.run.take_steps.Statement.{statement}
 use Rattle.mover.proofs.run.take_steps.Tie as tie
 
 abbrev Inv-loop : tie.InvT-loop
-Inv-loop sizes list sets pages from store₀ marks₀ work₀ place taken at₀ done₀ writes₀ erases₀ i₀ store marks work at done writes erases i =
-    Leaves (steps (moveOf sizes list sets) i place (runningOf store₀ marks₀ work₀)) store marks work
-    × Counted (tally (operationsFrom (moveOf sizes list sets) place i)) done writes erases
-    × Lent (moveOf sizes list sets) store marks work × (at .at ≡ place + i) × (i ≤ taken) × (done ≤ i) × (writes ≤ i) × (erases ≤ i)
+Inv-loop sizes list sets pages from store₀ marks₀ work₀ place taken at₀ tally₀ i₀ store marks work at tally i =
+    (runningOf store marks work ≡ steps (moveOf sizes list sets) i place (runningOf store₀ marks₀ work₀))
+    × (tally ≡ tallyOf (operationsFrom sizes place i))
+    × Lent sizes (record { store = store; marks = marks }) work × (at .at ≡ place + i) × (i ≤ taken)
 
 abbrev μ-loop : tie.MeasureT-loop
-μ-loop sizes list sets pages from store₀ marks₀ work₀ place taken at₀ done₀ writes₀ erases₀ i₀ store marks work at done writes erases i = taken - i
+μ-loop sizes list sets pages from store₀ marks₀ work₀ place taken at₀ tally₀ i₀ store marks work at tally i = taken - i
+
+nothing-done-requires : tie.Need-nothing-done-requires Inv-loop μ-loop
+nothing-done-requires c κs = search needs
 
 loop-holds : tie.Need-loop-holds Inv-loop μ-loop
 loop-holds c =
-    let start = c .before .before .before .before .before in
+    let start = c .before .before .before .before .before .before in
+    (none-taken _ _ _, c .nothing-done .ensures ∙ none-counted _ _, start .pre .1, omega arith, omega arith)
+
+-- where the loop stands
+inside : (c : tie.In-loop Inv-loop μ-loop)
+    → (let a = c .before .before .before .before .before .before .before .before .args in
+    (a .place + c .before .loop .i < lastPlace (a .sizes)) × (lastPlace (a .sizes) ≤ mostSteps))
+inside c =
+    let start = c .before .before .before .before .before .before .before .before in
     let a = start .args in
-    let M = moveOf (a .sizes) (a .list .now) (a .sets .now) in
-    (none-taken M (a .place) (a .store .now) (a .marks .now) (a .work .now), none-counted M (a .place), start .pre .1, omega arith, omega arith, omega arith, omega arith, omega arith)
+    (omega arith, last-small (moveOf (a .sizes) (a .list .now) (a .sets .now)) (start .pre .0 .given))
 
 step-requires : tie.Need-step-requires Inv-loop μ-loop
-step-requires c κs = (c .before .before .before .before .before .before .before .before .before .before .pre .0, c .before .before .before .before .loop .inv .2)
-
--- where the loop stands, and that the counts are small
-small : (c : tie.In-loop Inv-loop μ-loop)
-    → (let a = c .before .before .before .before .before .before .before .args in
-    let l = c .before .loop in
-    (a .place + l .i < lastPlace (a .sizes)) × (lastPlace (a .sizes) ≤ 8320) × (l .at .at ≡ a .place + l .i) × (l .i < a .taken)
-    × (l .steps ≤ l .i) × (l .writes ≤ l .i) × (l .erases ≤ l .i))
-small c =
-    let start = c .before .before .before .before .before .before .before in
+step-requires c κs =
+    let start = c .before .before .before .before .before .before .before .before .before .before .before in
     let a = start .args in
-    let l = c .before .loop in
-    (omega arith, last-small (moveOf (a .sizes) (a .list .now) (a .sets .now)) (start .pre .0 .given), l .inv .3, omega arith, l .inv .5, l .inv .6, l .inv .7)
-
--- the step counts at most one of each
-ones : (c : tie.After-step Inv-loop μ-loop) → (let r = c .step .result in (r .steps ≤ 1) × (r .writes ≤ 1) × (r .erases ≤ 1))
-ones c = at-most-one (operationAt ((c .before .before .before .before .before .before .before .before .before .before .before .args .sizes)) (c .before .before .before .before .before .loop .at .at)) _ _ _ (c .step .ensures .1)
-
-add-steps : tie.Need-add-steps Inv-loop μ-loop
-add-steps c = omega (arith, small (c .before .before .before .before .before .before .before .before .before .before .before), ones (c .before .before .before .before .before .before .before))
-
-add-writes : tie.Need-add-writes Inv-loop μ-loop
-add-writes c = omega (arith, small (c .before .before .before .before .before .before .before .before .before .before .before .before), ones (c .before .before .before .before .before .before .before .before))
-
-add-erases : tie.Need-add-erases Inv-loop μ-loop
-add-erases c = omega (arith, small (c .before .before .before .before .before .before .before .before .before .before .before .before .before), ones (c .before .before .before .before .before .before .before .before .before))
+    let l = c .before .before .before .before .loop in
+    ((start .pre .0, l .inv .2), counts-fit (moveOf (a .sizes) (a .list .now) (a .sets .now)) (start .pre .0 .given) (a .place) (l .i) (l .tally) (omega (arith, inside (c .before .before .before))) (l .inv .1))
 
 next-requires : tie.Need-next-requires Inv-loop μ-loop
-next-requires c κs = omega (arith, small (c .before .before .before .before .before .before .before .before .before .before .before .before .before))
+next-requires c κs = omega (arith, inside (c .before .before .before .before .before .before .before .before .before .before), c .before .before .before .before .before .before .before .before .before .before .before .loop .inv .3)
 
 add-i : tie.Need-add-i Inv-loop μ-loop
 add-i c = search needs
@@ -65,26 +55,19 @@ loop-less c = search needs
 
 loop-again : tie.Need-loop-again Inv-loop μ-loop
 loop-again c =
-    let start = c .before .before .before .before .before .before .before .before .before .before .before .before .before .before .before .before .before .before .before .before .before in
-    let a = start .args in
+    let a = c .before .before .before .before .before .before .before .before .before .before .before .before .before .before .before .before .before .before .before .args in
     let M = moveOf (a .sizes) (a .list .now) (a .sets .now) in
-    let l = c .before .before .before .before .before .before .before .before .before .before .before .before .before .before .before .loop in
-    let s = c .before .before .before .before .before .before .before .before .before .before .step in
-    let one = ones (c .before .before .before .before .before .before .before .before .before .before) in
-    let f = small (c .before .before .before .before .before .before .before .before .before .before .before .before .before .before) in
-    let at : l .at .at ≡ a .place + l .i = l .inv .3 in
-    let left = one-taken M (a .place) (l .i) _ (l .store) (l .marks) (l .work) _ _ _ (l .inv .0) (rw at at (s .ensures .0)) in (
-      left,
-      one-counted M (a .place) (l .i) _ _ _ _ _ _ (omega arith) (l .inv .1) (rw at at (s .ensures .1)),
+    let l = c .before .before .before .before .before .before .before .before .before .before .before .before .loop in
+    let s = c .before .before .before .before .before .before .before .step in
+    let at : l .at .at ≡ a .place + l .i = l .inv .3 in (
+      one-taken M (a .place) (l .i) _ _ _ (l .inv .0) (rw at at (s .ensures .0)),
+      one-counted M (a .place) (l .i) _ _ (inside (c .before .before .before .before .before .before .before .before .before .before .before) .0) (l .inv .1) (rw at at (s .ensures .1)),
       record {
         store-length = s .kept .1 .1 .1 .1 .1 .0 ∙ l .inv .2 .store-length;
         marks-length = s .kept .1 .1 .1 .1 .1 .1 .0 ∙ l .inv .2 .marks-length;
         work-length = s .kept .1 .1 .1 .1 .1 .1 .1 .0 ∙ l .inv .2 .work-length;
       },
       omega (arith, c .next .ensures),
-      omega arith,
-      omega arith,
-      omega arith,
       omega arith,
     )
 
@@ -100,7 +83,7 @@ same-length-3 c = search needs
 returns : tie.Need-returns Inv-loop μ-loop
 returns c =
     let l = c .before .loop in
-    let all : l .i ≡ c .before .before .before .before .before .before .before .args .taken = omega arith in
+    let all : l .i ≡ c .before .before .before .before .before .before .before .before .args .taken = omega arith in
     (rw all at (l .inv .0), rw all at (l .inv .1))
 
 pub take-steps-spec : {M : Type 1} → statement M
@@ -109,11 +92,9 @@ take-steps-spec =
     (tie.spec
     Inv-loop
     μ-loop
+    nothing-done-requires
     loop-holds
     step-requires
-    add-steps
-    add-writes
-    add-erases
     next-requires
     add-i
     loop-less

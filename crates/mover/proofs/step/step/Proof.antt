@@ -1,11 +1,13 @@
-use mathlib.Core.Path.{sym, _∙_}
+-- A step does the operation of its place, and counts it.
+use mathlib.Core.Path.{refl, sym, _∙_}
 use borrow.Author.Needs.{needs}
 use Rattle.method.specs.Move.{moveOf}
 use Rattle.flash.proofs.Bounds.{block-in-marks, block-in-store}
 use Rattle.method.specs.Place.{write, erase, done, operationAt}
+use Rattle.method.specs.Step.{perform, tallied}
 use Rattle.places.specs.inner.Place.{passOf}
 use Rattle.places.proofs.StepTold.{IsWrite, is-write, IsErase, is-erase, told-done}
-use Rattle.mover.proofs.StepLaws.{stepped, counted, one-write, one-erase, no-step, erased, nothing}
+use Rattle.mover.proofs.StepLaws.{held, erased, stepped}
 use Rattle.mover.proofs.step.step.Statement.{statement}
 use Rattle.mover.proofs.step.step.Tie as tie
 
@@ -27,10 +29,10 @@ writes c =
 write-requires : tie.Need-write-requires
 write-requires c κs =
     let W = writes c in
-    (c .before .before .before .before .before .before .before .before .before .before .before .before .pre, (W .page-in, W .block-in, W .low, W .high, W .mark-is))
+    (c .before .before .before .before .before .before .before .before .before .before .before .before .pre .0, (W .page-in, W .block-in, W .low, W .high, W .mark-is))
 
-counted-requires : tie.Need-counted-requires
-counted-requires c κs = search needs
+one-write-requires : tie.Need-one-write-requires
+one-write-requires c κs = search needs
 
 enum-known-block : tie.Need-enum-known-block
 enum-known-block c = search needs
@@ -48,16 +50,13 @@ erase-block-requires c κs =
     let start = c .before .before .before .before .before .before .before .before .before .before .before in
     let Z = (start .args .sizes) in
     let E = erases c in
-    (rw (start .pre .1 .store-length) (block-in-store Z (c .before .before .before .block .given .0 .0) (E .block-in)), rw (start .pre .1 .marks-length) (block-in-marks Z (c .before .before .before .block .given .0 .0) (E .block-in)))
+    (rw (start .pre .0 .1 .store-length) (block-in-store Z (c .before .before .before .block .given .0 .0) (E .block-in)), rw (start .pre .0 .1 .marks-length) (block-in-marks Z (c .before .before .before .block .given .0 .0) (E .block-in)))
 
-counted-requires-2 : tie.Need-counted-requires-2
-counted-requires-2 c κs = search needs
+one-erase-requires : tie.Need-one-erase-requires
+one-erase-requires c κs = search needs
 
 enum-told : tie.Need-enum-told
 enum-told c = search needs
-
-counted-requires-3 : tie.Need-counted-requires-3
-counted-requires-3 c κs = search needs
 
 same-length : tie.Need-same-length
 same-length c = search needs
@@ -69,14 +68,13 @@ same-length-3 : tie.Need-same-length-3
 same-length-3 c = search needs
 
 returns : tie.Need-returns
+unfolding tallied
 returns c =
     let d = c .before in
     let a = d .before .before .before .before .before .before .before .before .before .before .before .before .before .before .before .before .before .before .before .args in
-    let M = moveOf (a .sizes) (a .list .now) (a .sets .now) in
     let v = d .before .before .before .before .before .before .before .before .before .before .before .backward .given .0 in
-    let op = write (passOf (v .0)) (v .1 .0) (v .1 .1 .0) in
-    let is = writes (d .before .before .before .before .before .before .before) .is in
-    (stepped M (a .place .at) op is _ _ _ _ (d .before .before .before .before .before .before .write .ensures), rw (c .counted .ensures) (counted M (a .place .at) op is 1 1 0 (one-write (passOf (v .0)) (v .1 .0) (v .1 .1 .0))))
+    stepped (moveOf (a .sizes) (a .list .now) (a .sets .now)) (a .place .at) (write (passOf (v .0)) (v .1 .0) (v .1 .1 .0)) (writes (d .before .before .before .before .before .before .before) .is) _ _ _ _
+    (d .before .before .before .before .before .before .write .ensures) (c .one-write .ensures)
 
 same-length-4 : tie.Need-same-length-4
 same-length-4 c = search needs
@@ -85,22 +83,21 @@ same-length-5 : tie.Need-same-length-5
 same-length-5 c = search needs
 
 returns-2 : tie.Need-returns-2
+unfolding tallied
 returns-2 c =
     let d = c .before in
     let a = d .before .before .before .before .before .before .before .before .before .before .before .before .before .before .before .before .args in
     let M = moveOf (a .sizes) (a .list .now) (a .sets .now) in
     let b = d .before .before .before .before .before .before .before .before .block .given .0 .0 in
-    let is = erases (d .before .before .before .before .before) .is in
-    (stepped M (a .place .at) (erase b) is _ _ _ _ (erased M b (a .store .now) (a .marks .now) (a .work .now) _ _ (d .before .before .before .before .erase-block .ensures)), rw (c .counted2 .ensures) (counted M (a .place .at) (erase b) is 1 0 1 (one-erase b)))
+    stepped M (a .place .at) (erase b) (erases (d .before .before .before .before .before) .is) _ _ _ _
+    (erased M b (a .store .now) (a .marks .now) (a .work .now) _ _ (held _ _ _ (d .before .before .before .before .erase-block .ensures))) (c .one-erase .ensures)
 
 returns-3 : tie.Need-returns-3
+unfolding perform tallied
 returns-3 c =
-    let d = c .before in
-    let a = d .before .before .before .before .before .before .before .before .args in
-    let M = moveOf (a .sizes) (a .list .now) (a .sets .now) in
-    let Z = (a .sizes) in
-    let is = told-done Z (operationAt Z (a .place .at)) (sym (d .enum-told .given .1) ∙ d .before .before .operation .ensures) in
-    (stepped M (a .place .at) done is _ _ _ _ (nothing M (a .store .now) (a .marks .now) (a .work .now)), rw (c .counted3 .ensures) (counted M (a .place .at) done is 0 0 0 no-step))
+    let a = c .before .before .before .before .before .before .before .before .args in
+    let Z = a .sizes in
+    stepped (moveOf Z (a .list .now) (a .sets .now)) (a .place .at) done (told-done Z (operationAt Z (a .place .at)) (sym (c .enum-told .given .1) ∙ c .before .before .operation .ensures)) _ _ _ _ refl refl
 
 pub step-spec : {M : Type 1} → statement M
 step-spec =
@@ -109,12 +106,11 @@ step-spec =
     operation-requires
     enum-known-backward
     write-requires
-    counted-requires
+    one-write-requires
     enum-known-block
     erase-block-requires
-    counted-requires-2
+    one-erase-requires
     enum-told
-    counted-requires-3
     same-length
     same-length-2
     same-length-3

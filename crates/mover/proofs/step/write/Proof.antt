@@ -1,3 +1,4 @@
+-- A write stores the page that the method writes there, by way of the work page.
 use Prim.Native.Nat.{_+_, _*_, _<_}
 use native.Mathlib.Omega.{arith}
 use borrow.Author.Needs.{needs}
@@ -7,7 +8,7 @@ use Rattle.flash.proofs.Bounds.{slot-in-marks, slot-in-store, product-le}
 use Rattle.places.specs.inner.Place.{passOf}
 use Rattle.walk.proofs.SlotLaws.{among}
 use Rattle.mover.proofs.WriteSlots.{write-in}
-use Rattle.mover.proofs.StepLaws.{written-is, wrote}
+use Rattle.mover.proofs.StepLaws.{held, written-is, wrote}
 use Rattle.mover.proofs.step.write.Statement.{statement}
 use Rattle.mover.proofs.step.write.Tie as tie
 
@@ -79,7 +80,7 @@ returns c =
     let w = c .before .before .before .before .before .before .before .before .before .before .before .before .before .before .before .before .write-slots in
     let s = c .before .before .before .before .before .before .before .before .before .before .before .sum-pages in
     let new = written-is M (passOf (a .backward)) (a .block) (a .page) (a .store .now) (a .marks .now) (a .work .now) _ _ (w .result) (s .ensures) (w .ensures .0) in
-    wrote M (passOf (a .backward)) (a .block) (a .page) (a .store .now) (a .marks .now) (a .work .now) _ _ _ (a .mark) new (start .pre .1 .4) (c .before .before .before .before .write-page .ensures)
+    wrote M (passOf (a .backward)) (a .block) (a .page) (a .store .now) (a .marks .now) (a .work .now) _ _ _ (a .mark) new (start .pre .1 .4) (held _ _ _ (c .before .before .before .before .write-page .ensures))
 
 pub write-spec : {M : Type 1} → statement M
 write-spec =

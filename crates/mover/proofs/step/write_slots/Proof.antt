@@ -1,3 +1,4 @@
+-- The slots summed for a write are those of its definition, for both passes.
 use mathlib.Core.Path.{_≡_, sym, _∙_}
 use Prim.Native.Nat.{_+_, _-_, _*_, _<_}
 use native.Mathlib.Omega.{arith}

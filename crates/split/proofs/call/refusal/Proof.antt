@@ -1,3 +1,4 @@
+-- The number that the split call's tests give is that of the table's first row that fits.
 use mathlib.Core.Path.{_≡_, sym, _∙_}
 use mathlib.Core.Bool.{true}
 use borrow.Author.Tests.{not-true, not-false}
@@ -12,7 +13,7 @@ in-range-requires : tie.Need-in-range-requires
 in-range-requires c κs = search needs
 
 returns : tie.Need-returns
-returns c = sym (gives-1 _ _ _ (sym (c .before .in-range .ensures) ∙ not-true (c .before .in-range .result) (c .if1 .taken)))
+returns c = sym (gives-1 _ (sym (c .before .in-range .ensures) ∙ not-true (c .before .in-range .result) (c .if1 .taken)))
 
 -- the sizes are in range
 ranged : (c : tie.Else1)
@@ -23,12 +24,12 @@ original-count-requires : tie.Need-original-count-requires
 original-count-requires c κs = let B = in-range _ (ranged c) in (B .n-high, B .m-high)
 
 returns-2 : tie.Need-returns-2
-returns-2 c = sym (gives-2-list _ _ _ (ranged (c .before .before)) (rw (← c .before .original-count .ensures) (c .if2 .taken)))
+returns-2 c = sym (gives-2-list _ (ranged (c .before .before)) (rw (← c .before .original-count .ensures) (c .if2 .taken)))
 
 returns-3 : tie.Need-returns-3
 returns-3 c =
     let o = c .before .before .original-count .ensures in
-    sym (gives-2-sets _ _ _ (ranged (c .before .before .before)) (c .before .if2 .left ∙ o) (rw (← o) (c .if3 .taken)))
+    sym (gives-2-sets _ (ranged (c .before .before .before)) (c .before .if2 .left ∙ o) (rw (← o) (c .if3 .taken)))
 
 check-requires : tie.Need-check-requires
 check-requires c κs = search needs
@@ -37,14 +38,14 @@ returns-4 : tie.Need-returns-4
 returns-4 c =
     let e = c .before .before in
     let o = e .before .before .original-count .ensures in
-    sym (gives-3 _ _ _ (ranged (e .before .before .before)) (e .before .if2 .left ∙ o) (e .if3 .left ∙ o)
+    sym (gives-3 _ (ranged (e .before .before .before)) (e .before .if2 .left ∙ o) (e .if3 .left ∙ o)
     (rw (← o) (sym (c .before .check .ensures) ∙ not-true (c .before .check .result) (c .if4 .taken))))
 
 returns-5 : tie.Need-returns-5
 returns-5 c =
     let e = c .before .before in
     let o = e .before .before .original-count .ensures in
-    sym (gives-0 _ _ _ (ranged (e .before .before .before)) (e .before .if2 .left ∙ o) (e .if3 .left ∙ o)
+    sym (gives-0 _ (ranged (e .before .before .before)) (e .before .if2 .left ∙ o) (e .if3 .left ∙ o)
     (rw (← o) (sym (c .before .check .ensures) ∙ not-false (c .before .check .result) (c .if4 .left))))
 
 pub refusal-spec : {M : Type 1} → statement M
