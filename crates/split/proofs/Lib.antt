@@ -14,3 +14,4 @@ pub mod MaskedLaws
 pub mod SetsLaws
 pub mod Walking
 pub mod Filling
+pub mod RowsLaws

@@ -4,6 +4,7 @@ mod ends;
 pub mod list;
 mod mask;
 mod path;
+pub mod rows;
 mod rule;
 pub mod sets;
 mod tables;
