@@ -1,17 +1,18 @@
 -- Rows 1 to 4 of the table, and what a move is given that they do not refuse.
 use mathlib.Core.Path.{_≡_, refl, _∙_}
 use mathlib.Core.Logic.{_≢_}
-use mathlib.Core.Bool.{Bool, true, false, cond, _&&_, not}
+use mathlib.Core.Bool.{Bool, true, false, cond, not}
 use mathlib.Core.List.{List, [], _∷_}
 use Prim.Native.Nat.{ℕ, _≤_}
 use native.Mathlib.Omega.{arith}
 use lib.Dec.{eqb}
-use borrow.Author.Tests.{eq-eqb, ne-eqb}
+use lib.ListN.{length}
+use borrow.Author.Tests.{ne-eqb}
 use Rattle.flash.specs.Tables.{Row, firstFit, numberOr0, refusal}
 use Rattle.flash.specs.Geometry.{inRange, originalCount}
 use Rattle.flash.specs.Chip.{Chip}
 use Rattle.split.specs.OneToOne.{badList, isOneToOne}
-use Rattle.split.specs.Split.{isSplit, isCorrectSplit}
+use Rattle.split.specs.Split.{isSplit}
 use Rattle.method.specs.Move.{Move, AcceptedMove}
 use Rattle.method.specs.Place.{lastPlace}
 use Rattle.method.specs.Answers.{badParts, isElsewhere, moveRows, runRows, RunAnswer, runCarriedOut, runRefused, runAnswer}
@@ -55,20 +56,19 @@ module _ (M : Move) (chip : Chip) (work : List ℕ) where
   unfolding moveRows
   move-then rest = rows-then _ _ _ _ rest
 
-  -- Past rows 1 and 2: 0 where there is a split, and else 3 or 4 by the list.
-  pub move-split : inRange (M .sizes) ≡ true → badParts M chip work ≡ false
-      → number ≡ cond (isCorrectSplit (M .sizes) (M .list) (M .sets)) 0 (cond (isOneToOne (originalCount (M .sizes)) (M .list)) 4 3)
-  unfolding isCorrectSplit isOneToOne
-  move-split e f =
-      let lengths = parts-ok M chip work f in
+  -- past rows 1 and 2 the list decides, and then the split
+  pub by-list : inRange (M .sizes) ≡ true → badParts M chip work ≡ false
+      → number ≡ cond (isOneToOne (length (M .list)) (M .list)) (cond (isSplit (M .sizes .n) (M .sizes .m) (M .list) (M .sets)) 0 4) 3
+  unfolding isOneToOne
+  by-list e f =
       move-number
-      ∙ rw (e, f, eq-eqb _ _ (lengths .0), eq-eqb _ _ (lengths .1))
-      (by-list (badList (originalCount (M .sizes)) (M .list)) (isSplit (M .sizes .n) (M .sizes .m) (M .list) (M .sets)))
+      ∙ rw (e, f, parts-ok M chip work f .0)
+      (in-turn (badList (originalCount (M .sizes)) (M .list)) (isSplit (M .sizes .n) (M .sizes .m) (M .list) (M .sets)))
     where
-      by-list : (bad split : Bool) → _≡_ {A = ℕ} (cond bad 3 (cond (not split) 4 0)) (cond (not bad && split) 0 (cond (not bad) 4 3))
-      by-list true split = refl
-      by-list false true = refl
-      by-list false false = refl
+      in-turn : (bad split : Bool) → _≡_ {A = ℕ} (cond bad 3 (cond (not split) 4 0)) (cond (not bad) (cond split 0 4) 3)
+      in-turn true split = refl
+      in-turn false true = refl
+      in-turn false false = refl
 
   -- what a move that is not refused was given
   pub given : number ≡ 0 → AcceptedMove M × Lent M (chip .store) (chip .marks) work
