@@ -23,9 +23,6 @@ use Rattle.flash.proofs.Comparisons.{lt-cases, eq-cases}
 pub bit-lt : (mask bit : ℕ) → bitAt mask bit < 2
 bit-lt mask bit = mod-lt (mask / 2 ^ bit) {m = 2} (omega arith)
 
-pub bit-zero : (mask bit : ℕ) → (bitAt mask bit ≡ 1 → ⊥) → bitAt mask bit ≡ 0
-bit-zero mask bit ne = let l = bit-lt mask bit in omega arith
-
 pub no-bits : (bit : ℕ) → bitAt 0 bit ≡ 0
 no-bits bit = rw zero-div
 

@@ -6,7 +6,6 @@ mod mask;
 mod path;
 pub mod rows;
 mod rule;
-pub mod sets;
 mod tables;
 
 ghost use Rattle.split.specs.Claims.{SplitEnds, WalkEnds, WalkIsShort, WalkBoundMet, FilledFits};
