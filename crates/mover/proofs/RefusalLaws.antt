@@ -1,17 +1,18 @@
 -- Rows 1 to 4 of the table, and what a move is given that they do not refuse.
 use mathlib.Core.Path.{_≡_, refl, _∙_}
 use mathlib.Core.Logic.{_≢_}
-use mathlib.Core.Bool.{Bool, true, false, cond, _&&_, not}
+use mathlib.Core.Bool.{Bool, true, false, cond, not}
 use mathlib.Core.List.{List, [], _∷_}
 use Prim.Native.Nat.{ℕ, _≤_}
 use native.Mathlib.Omega.{arith}
 use lib.Dec.{eqb}
-use borrow.Author.Tests.{eq-eqb, ne-eqb}
+use lib.ListN.{length}
+use borrow.Author.Tests.{ne-eqb}
 use Rattle.flash.specs.Tables.{Row, firstFit, numberOr0, refusal}
 use Rattle.flash.specs.Geometry.{inRange, originalCount}
 use Rattle.flash.specs.Chip.{Chip}
 use Rattle.split.specs.OneToOne.{badList, isOneToOne}
-use Rattle.split.specs.Split.{isSplit, isCorrectSplit}
+use Rattle.split.specs.Split.{isSplit}
 use Rattle.split.specs.Request.{Request}
 use Rattle.method.specs.Move.{move}
 use Rattle.method.specs.Place.{lastPlace}
@@ -56,20 +57,19 @@ module _ (R : Request) (chip : Chip) (work : List ℕ) where
   unfolding moveRows
   move-then rest = rows-then _ _ _ _ rest
 
-  -- Past rows 1 and 2: 0 where there is a split, and else 3 or 4 by the list.
-  pub move-split : inRange (R .sizes) ≡ true → badParts R chip work ≡ false
-      → number ≡ cond (isCorrectSplit (R .sizes) (R .list) (R .sets)) 0 (cond (isOneToOne (originalCount (R .sizes)) (R .list)) 4 3)
-  unfolding isCorrectSplit isOneToOne
-  move-split e f =
-      let lengths = parts-ok R chip work f in
+  -- past rows 1 and 2 the list decides, and then the split
+  pub by-list : inRange (R .sizes) ≡ true → badParts R chip work ≡ false
+      → number ≡ cond (isOneToOne (length (R .list)) (R .list)) (cond (isSplit (R .sizes .n) (R .sizes .m) (R .list) (R .sets)) 0 4) 3
+  unfolding isOneToOne
+  by-list e f =
       move-number
-      ∙ rw (e, f, eq-eqb _ _ (lengths .0), eq-eqb _ _ (lengths .1))
-      (by-list (badList (originalCount (R .sizes)) (R .list)) (isSplit (R .sizes .n) (R .sizes .m) (R .list) (R .sets)))
+      ∙ rw (e, f, parts-ok R chip work f .0)
+      (in-turn (badList (originalCount (R .sizes)) (R .list)) (isSplit (R .sizes .n) (R .sizes .m) (R .list) (R .sets)))
     where
-      by-list : (bad split : Bool) → _≡_ {A = ℕ} (cond bad 3 (cond (not split) 4 0)) (cond (not bad && split) 0 (cond (not bad) 4 3))
-      by-list true split = refl
-      by-list false true = refl
-      by-list false false = refl
+      in-turn : (bad split : Bool) → _≡_ {A = ℕ} (cond bad 3 (cond (not split) 4 0)) (cond (not bad) (cond split 0 4) 3)
+      in-turn true split = refl
+      in-turn false true = refl
+      in-turn false false = refl
 
 -- ---- the answer of run
 module _ (R : Request) (chip : Chip) (work : List ℕ) (place budget : ℕ) where

@@ -66,7 +66,8 @@ pub fn read(
         ≡ readAnswer (requestOf sizes (now (list .entry)) (now (sets .entry))) (record { store = now (store .entry); marks = now (marks .entry) })
         (now (work .entry)) k ⌝ }
 {
-    let number = move_refusal(sizes, list, sets, store, marks, work);
+    let mut table = [0u8; 4096];
+    let number = move_refusal(sizes, list, sets, store, marks, work, &mut table);
     if number != 0 {
         return refused(number);
     }

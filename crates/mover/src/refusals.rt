@@ -4,14 +4,15 @@ ghost use mathlib.Core.List.{[]};
 ghost use Prim.Native.Nat.{_≤_};
 ghost use Rattle.split.specs.Request.{requestOf};
 ghost use Rattle.flash.specs.Tables.{refusal};
+ghost use Rattle.split.specs.inner.Rows.{ByDestination};
 ghost use Rattle.method.specs.Answers.{badParts, moveRows};
 use flash::sizes::Sizes;
 use flash::sizes::in_range;
 use flash::sizes::original_count;
 use flash::sizes::slot_count;
 use flash::sizes::store_length;
-use split::list::check;
-use split::sets::is_split;
+use split::rows::is_split_by_rows;
+use split::rows::sets_by_destination;
 
 // Number 2: whether a lent part is not of its exact length.
 fn bad_parts(
@@ -34,7 +35,8 @@ fn bad_parts(
         | (work.len() != sizes.p)
 }
 
-// Numbers 1 to 4, or 0 where none of them is given. Nothing is computed from sizes that are out of their range.
+// Numbers 1 to 4, or 0 where none of them is given; then the table has the sets by destination. Nothing is computed from sizes that are
+// out of their range.
 pub fn move_refusal(
     sizes: Sizes,
     list: &[u16],
@@ -42,9 +44,11 @@ pub fn move_refusal(
     store: &[u8],
     marks: &[u8],
     work: &[u8],
+    table: &mut [u8; 4096],
 ) -> u32
     ensures { λ r. ⌜ r ≡ refusal (moveRows (requestOf sizes (now (list .entry)) (now (sets .entry)))
         (record { store = now (store .entry); marks = now (marks .entry) }) (now (work .entry)) []) ⌝ }
+    ensures { λ r. ⌜ (r ≡ 0 → ByDestination (now (list .entry)) (now (sets .entry)) (now (table .exit))) ⌝ }
 {
     if !in_range(sizes) {
         return 1;
@@ -52,12 +56,11 @@ pub fn move_refusal(
     if bad_parts(sizes, list, sets, store, marks, work) {
         return 2;
     }
-    // A split is looked for first, and the list checked with it; only where there is none is it asked which of 3 and 4 it is.
-    if is_split(sizes, list, sets) {
-        return 0;
-    }
-    if !check(list, original_count(sizes)) {
+    if !sets_by_destination(list, sets, table) {
         return 3;
     }
-    4
+    if !is_split_by_rows(sizes.n, sizes.m, sets, table) {
+        return 4;
+    }
+    0
 }

@@ -11,6 +11,6 @@ pub mod Claimed
 pub mod MaskLaws
 pub mod CheckLaws
 pub mod MaskedLaws
-pub mod SetsLaws
 pub mod Walking
 pub mod Filling
+pub mod RowsLaws

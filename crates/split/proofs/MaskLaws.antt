@@ -3,7 +3,7 @@ use mathlib.Core.Path.{_≡_, refl, ap, sym, _∙_}
 use mathlib.Core.Logic.{_≢_, inl, inr, ⊎-elim}
 use mathlib.Core.Bool.{Bool, true, false, cond}
 use mathlib.Core.List.{List}
-use Prim.Native.Nat.{ℕ, zero, suc, _+_, _-_, _/_, _%_, _^_, _≤_, _<_}
+use Prim.Native.Nat.{ℕ, zero, suc, _+_, _-_, _/_, _%_, _^_, _≤_, _<_, max}
 use native.Mathlib.Nat.{pow-suc, div-eq-of-lt, div-self, div-one, mod-lt, zero-div}
 use native.Mathlib.Numerals.{one-add}
 use native.Mathlib.Omega.{arith}
@@ -12,17 +12,16 @@ use lib.ListN.{length, getD, set, replicate}
 use lib.Seq.{getD-set-same, getD-set-other}
 use lib.Count.{trailingZeros, under}
 use lib.Pow.{pow-pos, pow-lt, pow-add, shr-shr, shl-shr}
-use lib.Bits.{bitXor, xor-step, xor-shr, differ}
+use lib.Bits.{bitOr, or-step, or-shr, bitXor, xor-step, xor-shr, differ}
 use Rattle.flash.specs.Lists.{range, first}
-use Rattle.split.specs.inner.Mask.{bitAt, Flipped, FlippedAt, FlippedBoth}
+use Rattle.split.specs.inner.Mask.{bitAt, lowestZero, WithBit, Flipped, FlippedAt, FlippedBoth}
+use borrow.Author.Tests.{eqb-true, eqb-false}
 use Rattle.flash.proofs.Bools.{bool-cases}
+use Rattle.flash.proofs.Ranges.{First, Missed, first-cases}
 use Rattle.flash.proofs.Comparisons.{lt-cases, eq-cases}
 
 pub bit-lt : (mask bit : ℕ) → bitAt mask bit < 2
 bit-lt mask bit = mod-lt (mask / 2 ^ bit) {m = 2} (omega arith)
-
-pub bit-zero : (mask bit : ℕ) → (bitAt mask bit ≡ 1 → ⊥) → bitAt mask bit ≡ 0
-bit-zero mask bit ne = let l = bit-lt mask bit in omega arith
 
 pub no-bits : (bit : ℕ) → bitAt 0 bit ≡ 0
 no-bits bit = rw zero-div
@@ -77,7 +76,14 @@ lowest-zero (suc k) mask h =
     low (suc zero) h zeros = refl
     low (suc (suc digit)) h zeros = absurd (omega arith)
 
--- ---- flipping a bit
+-- ---- setting and flipping a bit
+or-bit : (a b bit : ℕ) → bitAt (bitOr a b) bit ≡ max (bitAt a bit) (bitAt b bit)
+or-bit a b bit =
+    let s = or-step (a / 2 ^ bit) (b / 2 ^ bit) in
+    let l = bit-lt a bit in
+    let m = bit-lt b bit in
+    rw or-shr (omega arith)
+
 xor-bit : (a b bit : ℕ) → bitAt (bitXor a b) bit ≡ differ (bitAt a bit) (bitAt b bit)
 xor-bit a b bit =
     let s = xor-step (a / 2 ^ bit) (b / 2 ^ bit) in
@@ -101,6 +107,12 @@ power-other k bit ne = ⊎-elim
     rw (e, pow-add, shl-shr, pow-suc) (omega arith))
     (λ (l : k ≤ bit). rw (div-eq-of-lt (pow-lt {i = k} {j = bit} (omega arith))))
     (lt-cases bit k)
+
+pub with-power : (mask bit : ℕ) → WithBit mask bit (bitOr mask (2 ^ bit))
+with-power mask bit = record {
+  now = rw (or-bit mask (2 ^ bit) bit, power-self bit) (omega (arith, bit-lt mask bit));
+  same = λ other ne. rw (or-bit mask (2 ^ bit) other, power-other bit other ne) (omega arith);
+}
 
 pub flipped-power : (mask bit : ℕ) → Flipped mask bit (bitXor mask (2 ^ bit))
 flipped-power mask bit = record {
@@ -139,3 +151,20 @@ flipped-both masks middle after at a b differ f g = record {
   same = λ block bit e. g .same block bit (⊎-elim (λ (p : block ≢ at). inl p) (λ (p : (bit ≢ a) × (bit ≢ b)). inr (p .1)) e)
       ∙ f .same block bit (⊎-elim (λ (p : block ≢ at). inl p) (λ (p : (bit ≢ a) × (bit ≢ b)). inr (p .0)) e);
 }
+
+-- ---- the lowest zero
+pub ones-below : (mask bit : ℕ) → bit < lowestZero mask → bitAt mask bit ≡ 1
+unfolding lowestZero
+ones-below mask bit h = ⊎-elim
+    (λ (f : First (λ bit. eqb (bitAt mask bit) 0) 0 64 (lowestZero mask)). let n = eqb-false (bitAt mask bit) 0 (f .before bit (omega arith) h) in omega (arith, bit-lt mask bit))
+    (λ (f : Missed (λ bit. eqb (bitAt mask bit) 0) 0 64 64 (lowestZero mask)). let n = eqb-false (bitAt mask bit) 0 (f .none bit (omega arith) (omega (arith, f .is))) in omega (arith, bit-lt mask bit))
+    (first-cases (λ bit. eqb (bitAt mask bit) 0) 0 64 64)
+
+-- the lowest zero is no lower where all bits below are ones
+pub lowest-above : (mask limit : ℕ) → limit ≤ 64 → ((bit : ℕ) → bit < limit → bitAt mask bit ≡ 1) → limit ≤ lowestZero mask
+unfolding lowestZero
+lowest-above mask limit fits ones = ⊎-elim
+    (λ (f : First (λ bit. eqb (bitAt mask bit) 0) 0 64 (lowestZero mask)).
+    let z = eqb-true (bitAt mask (lowestZero mask)) 0 (f .passes) in ⊎-elim (λ (l : lowestZero mask < limit). absurd (omega (arith, ones (lowestZero mask) l))) (λ (l : limit ≤ lowestZero mask). l) (lt-cases (lowestZero mask) limit))
+    (λ (f : Missed (λ bit. eqb (bitAt mask bit) 0) 0 64 64 (lowestZero mask)). omega (arith, f .is))
+    (first-cases (λ bit. eqb (bitAt mask bit) 0) 0 64 64)

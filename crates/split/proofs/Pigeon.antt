@@ -1,5 +1,5 @@
 -- The pigeonhole principle, and what it says of a one-to-one map of the numbers below n.
-use mathlib.Core.Path.{_≡_, sym, _∙_}
+use mathlib.Core.Path.{_≡_, sym, ap, _∙_}
 use mathlib.Core.Logic.{_⊎_, inl, inr, _≢_, ⊎-elim}
 use mathlib.Core.Bool.{Bool, true, false, cond}
 use Prim.Native.Nat.{ℕ, zero, suc, _≤_, _<_}
@@ -7,7 +7,9 @@ use native.Mathlib.Nat.{not-suc-le-zero}
 use native.Mathlib.Omega.{arith}
 use lib.Dec.{eqb, ltb}
 use borrow.Author.Tests.{eqb-true, eqb-false, eq-eqb, ne-eqb, lt-ltb, le-ltb}
+use Rattle.flash.specs.Lists.{range, first}
 use Rattle.flash.proofs.Bools.{bool-cases}
+use Rattle.flash.proofs.Ranges.{first-hit}
 use Rattle.flash.proofs.Comparisons.{eq-cases, lt-cases}
 
 -- some number below n passes, or none does
@@ -120,3 +122,22 @@ onto n g below inj x h = ⊎-elim
     (λ (r : (i : ℕ) × (i < n) × (eqb (g i) x ≡ true)). (r .0, r .1, eqb-true (g (r .0)) x (r .2)))
     (λ (f : (i : ℕ) → i < n → eqb (g i) x ≡ false). absurd (crowded n g x h below inj (λ i l. eqb-false (g i) x (f i l))))
     (seek (λ i. eqb (g i) x) n)
+
+-- and as many numbers that meet each number below n meet each once
+pub once : (n : ℕ) (g : ℕ → ℕ) → ((x : ℕ) → x < n → (i : ℕ) × (i < n) × (g i ≡ x)) → (i j : ℕ) → i < n → j < n → g i ≡ g j → i ≡ j
+once n g meets i j h l e =
+    let p = back-onto i h in
+    let q = back-onto j l in
+    sym (p .2) ∙ ap back (sym (back-is (p .0) (p .1) .1) ∙ ap g (p .2) ∙ e ∙ ap g (sym (q .2)) ∙ back-is (q .0) (q .1) .1) ∙ q .2
+  where
+    back : ℕ → ℕ
+    back x = first (λ i. eqb (g i) x) (range 0 n) 0
+
+    back-is : (x : ℕ) → x < n → (back x < n) × (g (back x) ≡ x)
+    back-is x h =
+        let r = meets x h in
+        let f = first-hit (λ i. eqb (g i) x) 0 n (r .0) 0 (omega arith) (omega (arith, r .1)) (eq-eqb (g (r .0)) x (r .2)) in
+        (omega (arith, f .high), eqb-true _ x (f .passes))
+
+    back-onto : (i : ℕ) → i < n → (x : ℕ) × (x < n) × (back x ≡ i)
+    back-onto = onto n back (λ x h. back-is x h .0) (λ x y h l e. sym (back-is x h .1) ∙ ap g e ∙ back-is y l .1)

@@ -77,7 +77,7 @@ unfolding placeAt blockAt sourceBlock destBlock
 at-place m list source k = refl
 at-place m list destination k = refl
 
-same-place : (m x y : ℕ) → blockOf m x ≡ blockOf m y → x % m ≡ y % m → x ≡ y
+pub same-place : (m x y : ℕ) → blockOf m x ≡ blockOf m y → x % m ≡ y % m → x ≡ y
 same-place m x y d r =
     let e : x / m ≡ y / m = omega arith in
     sym (div-add-mod' x m) ∙ ap₂ (λ (i j : ℕ). i * m + j) e r ∙ div-add-mod' y m

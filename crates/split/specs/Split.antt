@@ -3,11 +3,9 @@ use mathlib.Core.Bool.{Bool, _&&_}
 use mathlib.Core.List.{List}
 use Prim.Native.Nat.{ℕ, _*_}
 use lib.Dec.{eqb, ltb}
-use lib.ListN.{length, getD}
+use lib.ListN.{getD}
 use Rattle.flash.specs.Lists.{range, all, count}
-use Rattle.flash.specs.declared.sizes.Sizes.{Sizes}
-use Rattle.flash.specs.Geometry.{blockOf, inRange, originalCount, listLength, setsLength}
-use Rattle.split.specs.OneToOne.{isOneToOne}
+use Rattle.flash.specs.Geometry.{blockOf}
 
 -- The two ends of the move of original k: the block that it comes from and the block that it goes to.
 unfoldable pub sourceBlock : (m k : ℕ) → ℕ
@@ -33,12 +31,3 @@ module _ (n m : ℕ) (list sets : List ℕ) where
   isSplit =
       all (λ set. ltb set m) sets
       && all (λ set. all (λ block. eqb (pagesFrom set block) 1 && eqb (pagesTo set block) 1) (range 1 n)) (range 0 m)
-
--- What the check of set bytes answers for any input. Where the sizes, the lengths or the list are wrong there is no split to speak of.
-unfoldable pub isCorrectSplit : Sizes → (list sets : List ℕ) → Bool
-isCorrectSplit Z list sets =
-    inRange Z
-    && eqb (length list) (listLength Z)
-    && eqb (length sets) (setsLength Z)
-    && isOneToOne (originalCount Z) list
-    && isSplit (Z .n) (Z .m) list sets

@@ -4,8 +4,8 @@ mod ends;
 pub mod list;
 mod mask;
 mod path;
+pub mod rows;
 mod rule;
-pub mod sets;
 mod tables;
 
 ghost use Rattle.split.specs.Claims.{SplitEnds, WalkEnds, WalkIsShort, WalkBoundMet, FilledFits};

@@ -4,7 +4,7 @@ ghost use mathlib.Core.Logic.{_≢_};
 ghost use Prim.Native.Nat.{_<_};
 ghost use lib.Dec.{eqb};
 ghost use lib.ListN.{length, getD};
-ghost use Rattle.split.specs.inner.Mask.{bitAt, lowestZero, Flipped, FlippedAt, FlippedBoth};
+ghost use Rattle.split.specs.inner.Mask.{bitAt, lowestZero, WithBit, Flipped, FlippedAt, FlippedBoth};
 
 // The lowest set that is not in the mask; 64 if all are.
 pub fn lowest_free(mask: u64) -> usize
@@ -18,6 +18,13 @@ pub fn has(mask: u64, bit: usize) -> bool
     ensures { λ r. ⌜ r ≡ eqb (bitAt mask bit) 1 ⌝ }
 {
     (mask >> bit) & 1 == 1
+}
+
+pub fn with_bit(mask: u64, bit: usize) -> u64
+    requires { ⌜ bit < 64 ⌝ }
+    ensures { λ r. ⌜ WithBit mask bit r ⌝ }
+{
+    mask | (1u64 << bit)
 }
 
 pub fn flipped(mask: u64, bit: usize) -> u64

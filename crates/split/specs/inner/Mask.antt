@@ -14,6 +14,11 @@ bitAt mask bit = mask / 2 ^ bit % 2
 unfoldable pub lowestZero : (mask : ℕ) → ℕ
 lowestZero mask = first (λ bit. eqb (bitAt mask bit) 0) (range 0 64) 64
 
+-- r is the mask with one bit set
+pub record WithBit (mask bit r : ℕ) : Type 0 where
+  pub now : bitAt r bit ≡ 1
+  pub same : (other : ℕ) → other ≢ bit → bitAt r other ≡ bitAt mask other
+
 -- r is the mask with one bit changed
 pub record Flipped (mask bit r : ℕ) : Type 0 where
   pub changed : bitAt r bit ≡ 1 - bitAt mask bit

@@ -1,17 +1,21 @@
--- Rows 1 to 4 in the table's order: the number that the tests of a move give is theirs.
+-- `move_refusal` gives the first number of rows 1 to 4 that fits, and leaves the sets by destination where none does.
 use mathlib.Core.Path.{_≡_, sym, _∙_}
 use mathlib.Core.Bool.{false, cond, not}
 use mathlib.Core.List.{[]}
-use Prim.Native.Nat.{_*_}
+use Prim.Native.Nat.{_*_, _≤_}
+use native.Mathlib.Omega.{arith}
+use lib.ListN.{length}
 use borrow.Author.Needs.{needs}
 use borrow.Author.Tests.{not-true, not-false}
 use Rattle.split.specs.Request.{requestOf}
 use Rattle.flash.specs.Tables.{refusal}
 use Rattle.flash.specs.Geometry.{Bounds, inRange}
-use Rattle.flash.proofs.Bounds.{in-range}
+use Rattle.flash.proofs.Bounds.{in-range, product-le}
 use Rattle.split.specs.OneToOne.{isOneToOne}
-use Rattle.method.specs.Answers.{moveRows}
-use Rattle.mover.proofs.RefusalLaws.{move-number, move-split}
+use Rattle.split.specs.Split.{isSplit}
+use Rattle.method.specs.Answers.{badParts, moveRows}
+use Rattle.method.proofs.basics.AcceptedCalls.{parts-ok}
+use Rattle.mover.proofs.RefusalLaws.{move-number, by-list}
 use Rattle.mover.proofs.refusals.move_refusal.Statement.{statement}
 use Rattle.mover.proofs.refusals.move_refusal.Tie as tie
 
@@ -23,7 +27,7 @@ returns c =
     let a = c .before .before .before .before .before .before .before .args in
     let R = requestOf (a .sizes) (a .list .now) (a .sets .now) in
     let N = move-number R (record { store = a .store .now; marks = a .marks .now }) (a .work .now) in
-    sym (N ∙ rw (← c .before .in-range .ensures, c .if1 .taken))
+    (sym (N ∙ rw (← c .before .in-range .ensures, c .if1 .taken)), λ z. absurd (omega arith))
 
 -- the sizes are in their ranges
 ranged : (c : tie.Else1)
@@ -41,43 +45,80 @@ returns-2 c =
     let a = c .before .before .before .before .before .before .before .before .before .args in
     let R = requestOf (a .sizes) (a .list .now) (a .sets .now) in
     let N = move-number R (record { store = a .store .now; marks = a .marks .now }) (a .work .now) in
-    sym (N ∙ rw (ranged (c .before .before), ← c .before .bad-parts .ensures, c .if2 .taken))
+    (sym (N ∙ rw (ranged (c .before .before), ← c .before .bad-parts .ensures, c .if2 .taken)), λ z. absurd (omega arith))
 
-is-split-requires : tie.Need-is-split-requires
-is-split-requires c κs = search needs
+-- past rows 1 and 2
+abbrev start : tie.Else2 → tie.Start
+start c = c .before .before .before .before .before .before .before .before .before
 
--- past rows 1 and 2 the split decides, and else the list
-decided : (c : tie.After-is-split)
-    → (let a = c .before .before .before .before .before .before .before .before .before .before .args in
-    let R = requestOf (a .sizes) (a .list .now) (a .sets .now) in
-    refusal (moveRows R (record { store = a .store .now; marks = a .marks .now }) (a .work .now) []) ≡ cond (c .is-split .result) 0 (cond (isOneToOne (a .sizes .n * a .sizes .m) (a .list .now)) 4 3))
+parts : (c : tie.Else2) → (let a = start c .args in
+    badParts (requestOf (a .sizes) (a .list .now) (a .sets .now)) (record { store = a .store .now; marks = a .marks .now }) (a .work .now) ≡ false)
+parts c = sym (c .before .bad-parts .ensures) ∙ c .if2 .left
+
+lengths : (c : tie.Else2) → (let a = start c .args in let count = a .sizes .n * a .sizes .m in
+    (length (a .list .now) ≡ count) × (length (a .sets .now) ≡ count) × (count ≤ 4096))
+lengths c =
+    let a = start c .args in
+    let l = parts-ok (requestOf (a .sizes) (a .list .now) (a .sets .now)) (record { store = a .store .now; marks = a .marks .now }) (a .work .now) (parts c) in
+    let B = ranges (c .before .before) in
+    (l .0, l .1, product-le (a .sizes .n) (a .sizes .m) (B .n-high) (B .m-high))
+
+decided : (c : tie.Else2) → (let a = start c .args in
+    refusal (moveRows (requestOf (a .sizes) (a .list .now) (a .sets .now)) (record { store = a .store .now; marks = a .marks .now }) (a .work .now) [])
+    ≡ cond (isOneToOne (length (a .list .now)) (a .list .now)) (cond (isSplit (a .sizes .n) (a .sizes .m) (a .list .now) (a .sets .now)) 0 4) 3)
 decided c =
-    let a = c .before .before .before .before .before .before .before .before .before .before .args in
-    let R = requestOf (a .sizes) (a .list .now) (a .sets .now) in
-    rw (c .is-split .ensures)
-    (move-split R (record { store = a .store .now; marks = a .marks .now }) (a .work .now) (not-false _ (ranged (c .before .before .before)))
-    (sym (c .before .before .bad-parts .ensures) ∙ c .before .if2 .left))
+    let a = start c .args in
+    by-list (requestOf (a .sizes) (a .list .now) (a .sets .now)) (record { store = a .store .now; marks = a .marks .now }) (a .work .now)
+    (not-false _ (ranged (c .before .before))) (parts c)
+
+sets-by-destination-requires : tie.Need-sets-by-destination-requires
+sets-by-destination-requires c κs = let l = lengths (c .before) in (l .1 ∙ sym (l .0), omega (arith, l, c .sets-by-destination-arg .given))
 
 returns-3 : tie.Need-returns-3
-returns-3 c = sym (decided (c .before) ∙ rw (c .if3 .taken))
+returns-3 c =
+    let s = c .before .sets-by-destination in
+    (sym (decided (c .before .before .before) ∙ rw (← s .ensures .tells, not-true (s .result) (c .if3 .taken))), λ z. absurd (omega arith))
 
-original-count-requires : tie.Need-original-count-requires
-original-count-requires c κs = let B = ranges (c .before .before .before .before) in (B .n-high, B .m-high)
+is-split-by-rows-requires : tie.Need-is-split-by-rows-requires
+is-split-by-rows-requires c κs =
+    let e = c .before .before .before .before .before in
+    let l = lengths e in
+    (ranges (e .before .before) .m-high, l .1, omega (arith, l))
 
-check-requires : tie.Need-check-requires
-check-requires c κs = search needs
-
--- what the check of the list answers
-checked : (c : tie.After-check) → (let a = c .before .before .before .before .before .before .before .before .before .before .before .before .before .args in c .check .result ≡ isOneToOne (a .sizes .n * a .sizes .m) (a .list .now))
-checked c = rw (← c .before .original-count .ensures) (c .check .ensures)
+-- what the check of the rows tells
+split-is : (c : tie.After-is-split-by-rows) → (let a = start (c .before .before .before .before .before .before) .args in
+    c .is-split-by-rows .result ≡ isSplit (a .sizes .n) (a .sizes .m) (a .list .now) (a .sets .now))
+split-is c =
+    let e = c .before .before .before in
+    let s = e .before .sets-by-destination in
+    let f = e .before .before .before in
+    let B = ranges (f .before .before) in
+    let l = lengths f in
+    c .is-split-by-rows .ensures _ (record {
+      some-pages = B .m-low;
+      n-fits = B .n-high;
+      m-fits = B .m-high;
+      listed = l .0;
+      one-to-one = rw (← l .0) (sym (s .ensures .tells) ∙ not-false (s .result) (e .if3 .left));
+    }) (s .ensures .by-destination (not-false (s .result) (e .if3 .left)))
 
 returns-4 : tie.Need-returns-4
 returns-4 c =
-    sym (decided (c .before .before .before .before) ∙ rw (c .before .before .before .if3 .left, ← checked (c .before), not-true (c .before .check .result) (c .if4 .taken)))
+    let e = c .before .before .before .before in
+    let s = e .before .sets-by-destination in
+    let r = c .before .is-split-by-rows .result in (
+      sym (decided (e .before .before .before) ∙ rw (← s .ensures .tells, not-false (s .result) (e .if3 .left), ← split-is (c .before), not-true r (c .if4 .taken))),
+      λ z. absurd (omega arith),
+    )
 
 returns-5 : tie.Need-returns-5
 returns-5 c =
-    sym (decided (c .before .before .before .before) ∙ rw (c .before .before .before .if3 .left, ← checked (c .before), not-false (c .before .check .result) (c .if4 .left)))
+    let e = c .before .before .before .before in
+    let s = e .before .sets-by-destination in
+    let r = c .before .is-split-by-rows .result in (
+      sym (decided (e .before .before .before) ∙ rw (← s .ensures .tells, not-false (s .result) (e .if3 .left), ← split-is (c .before), not-false r (c .if4 .left))),
+      λ z. s .ensures .by-destination (not-false (s .result) (e .if3 .left)),
+    )
 
 pub move-refusal-spec : {M : Type 1} → statement M
 move-refusal-spec =
@@ -87,9 +128,8 @@ move-refusal-spec =
     returns
     bad-parts-requires
     returns-2
-    is-split-requires
+    sets-by-destination-requires
     returns-3
-    original-count-requires
-    check-requires
+    is-split-by-rows-requires
     returns-4
     returns-5)

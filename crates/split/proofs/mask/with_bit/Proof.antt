@@ -1,0 +1,18 @@
+-- `with_bit` sets one bit.
+use borrow.Author.Needs.{needs}
+use native.Mathlib.Nat.{one-mul}
+use native.Mathlib.Omega.{arith}
+use lib.Pow.{shl-exact}
+use Rattle.split.proofs.MaskLaws.{with-power}
+use Rattle.split.proofs.mask.with_bit.Statement.{statement}
+use Rattle.split.proofs.mask.with_bit.Tie as tie
+
+shl-result : tie.Need-shl-result
+shl-result c = search needs
+
+returns : tie.Need-returns
+returns c = rw (shl-exact {a = 1} 1 (c .args .bit) 64 (omega arith) (omega arith), one-mul)
+    (with-power (c .args .mask) (c .args .bit))
+
+pub with-bit-spec : {M : Type 1} → statement M
+with-bit-spec = tie.close (tie.spec shl-result returns)
