@@ -59,7 +59,7 @@ returns-2 c =
     let R = requestOf (a .sizes) (a .list .now) (a .sets .now) in
     let chip : Chip = record { store = a .store .now; marks = a .marks .now } in
     refused-by-place R chip (a .work .now) (a .place) (a .budget) (sym (c .before .before .before .before .before .if1 .left) ∙ c .before .before .before .before .before .before .move-refusal .ensures .0)
-    (sym (c .before .if2 .taken) ∙ c .before .before .is-elsewhere .ensures (a .list .now) (a .sets .now)) _ (c .refused2 .ensures)
+    (sym (c .before .if2 .taken) ∙ c .before .before .is-elsewhere .ensures) _ (c .refused2 .ensures)
 
 carry-out-requires : tie.Need-carry-out-requires
 carry-out-requires c κs =
@@ -68,7 +68,7 @@ carry-out-requires c κs =
     let chip : Chip = record { store = a .store .now; marks = a .marks .now } in
     let none = sym (c .before .before .before .before .before .before .before .if1 .left) ∙ c .before .before .before .before .before .before .before .before .move-refusal .ensures .0 in
     let g = move-accepted R chip (a .work .now) [] (sym none) in
-    (g .0, g .1, in-place R chip (a .work .now) (a .place) (a .budget) none (sym (c .before .before .before .if2 .left) ∙ c .before .before .before .before .is-elsewhere .ensures (a .list .now) (a .sets .now)))
+    (g .0, g .1, in-place R chip (a .work .now) (a .place) (a .budget) none (sym (c .before .before .before .if2 .left) ∙ c .before .before .before .before .is-elsewhere .ensures))
 
 same-length-7 : tie.Need-same-length-7
 same-length-7 c = search needs
@@ -85,7 +85,7 @@ returns-3 c =
     let R = requestOf (a .sizes) (a .list .now) (a .sets .now) in
     let chip : Chip = record { store = a .store .now; marks = a .marks .now } in
     let none = sym (c .before .before .before .before .before .before .before .before .before .before .before .before .before .before .if1 .left) ∙ c .before .before .before .before .before .before .before .before .before .before .before .before .before .before .before .move-refusal .ensures .0 in
-    not-refused R chip (a .work .now) (a .place) (a .budget) none (sym (c .before .before .before .before .before .before .before .before .before .before .if2 .left) ∙ c .before .before .before .before .before .before .before .before .before .before .before .is-elsewhere .ensures (a .list .now) (a .sets .now)) _ (c .before .before .before .before .before .before .carry-out .ensures)
+    not-refused R chip (a .work .now) (a .place) (a .budget) none (sym (c .before .before .before .before .before .before .before .before .before .before .if2 .left) ∙ c .before .before .before .before .before .before .before .before .before .before .before .is-elsewhere .ensures) _ (c .before .before .before .before .before .before .carry-out .ensures)
 
 pub run-spec : {M : Type 1} → statement M
 run-spec =
