@@ -15,3 +15,4 @@ pub mod Example
 pub mod TwoPages
 pub mod BoundsMet
 pub mod Claims
+pub mod inner
