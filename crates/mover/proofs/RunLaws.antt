@@ -2,12 +2,11 @@
 use mathlib.Core.Path.{_≡_, refl, ap₂}
 use mathlib.Core.Bool.{cond}
 use mathlib.Core.List.{List, [], _∷_}
-use Prim.Native.Nat.{ℕ, _+_, _-_, _*_, _≤_, _<_, min}
+use Prim.Native.Nat.{ℕ, _+_, _-_, _≤_, _<_, min}
 use native.Mathlib.Omega.{arith}
 use lib.Dec.{eqb}
 use Rattle.flash.specs.Chip.{Chip}
-use Rattle.flash.proofs.Bounds.{product-le}
-use Rattle.method.specs.Move.{Move, AcceptedMove}
+use Rattle.method.specs.Move.{Move}
 use Rattle.method.specs.Place.{Operation, write, erase, done, operationAt, lastPlace}
 use Rattle.method.specs.Step.{Running, step, steps, tallied, tally, operationsFrom}
 use Rattle.method.specs.Answers.{stepsTaken, runCarriedOut}
@@ -56,11 +55,6 @@ unfolding tally tallied
 at-most-one (write pass b q) x y z C = (omega (arith, C .steps-is), omega (arith, C .writes-is), omega (arith, C .erases-is))
 at-most-one (erase b) x y z C = (omega (arith, C .steps-is), omega (arith, C .writes-is), omega (arith, C .erases-is))
 at-most-one done x y z C = (omega (arith, C .steps-is), omega (arith, C .writes-is), omega (arith, C .erases-is))
-
--- a move has few steps
-pub last-small : (M : Move) → AcceptedMove M → lastPlace (M .sizes) ≤ 8320
-unfolding lastPlace
-last-small M G = omega (arith, product-le (2 * M .sizes .n) (M .sizes .m + 1) {c = 128} {d = 65} (omega (arith, G .ranges .n-high)) (omega (arith, G .ranges .m-high)))
 
 -- ---- the answer of a run that is carried out
 pub carried : (M : Move) (store marks work : List ℕ) (place budget last taken : ℕ) (store′ marks′ work′ : List ℕ) (a b c finished : ℕ)

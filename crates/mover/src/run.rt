@@ -51,7 +51,7 @@ fn take_steps(
     ensures { λ r. ⌜ Counted (tally (operationsFrom (moveOf sizes (now (list .entry)) (now (sets .entry))) place taken)) (r .steps) (r .writes)
         (r .erases) ⌝ }
 {
-    let mut at = Place { at: place };
+    let mut at = Place::new(sizes, place);
     let mut steps: u32 = 0;
     let mut writes: u32 = 0;
     let mut erases: u32 = 0;
@@ -61,7 +61,7 @@ fn take_steps(
         steps += done.steps;
         writes += done.writes;
         erases += done.erases;
-        at = at.next();
+        at = at.next(sizes);
         i += 1;
     }
     Tally {

@@ -9,7 +9,7 @@ ghost use Rattle.method.specs.Place.{operationAt, write as writing, markOf};
 ghost use Rattle.method.specs.Step as method;
 ghost use Rattle.method.specs.Step.{writeSlots, perform, tally};
 ghost use Rattle.walk.specs.inner.Moving.{Tables};
-ghost use Rattle.places.specs.inner.Place.{passOf};
+ghost use Rattle.places.specs.inner.Place.{passOf, placeOf};
 ghost use Rattle.mover.specs.inner.Steps.{Lent, runningOf, Leaves, Counted};
 use flash::block::erase_block;
 use flash::casts::wide;
@@ -131,7 +131,7 @@ pub fn step(
     place: Place,
 ) -> Tally
     requires { ⌜ Tables (moveOf sizes (now list) (now sets)) (now pages) (now from)
-        × Lent (moveOf sizes (now list) (now sets)) (now store) (now marks) (now work) ⌝ }
+        × Lent (moveOf sizes (now list) (now sets)) (now store) (now marks) (now work) × (place ≡ placeOf sizes (place .at)) ⌝ }
     ensures { λ _. ⌜ Leaves (method.step (moveOf sizes (now (list .entry)) (now (sets .entry))) (place .at)
         (runningOf (now (store .entry)) (now (marks .entry)) (now (work .entry)))) (now (store .exit)) (now (marks .exit))
         (now (work .exit)) ⌝ }

@@ -27,7 +27,8 @@ writes c =
 write-requires : tie.Need-write-requires
 write-requires c κs =
     let W = writes c in
-    (c .before .before .before .before .before .before .before .before .before .before .before .before .pre, (W .page-in, W .block-in, W .low, W .high, W .mark-is))
+    let start = c .before .before .before .before .before .before .before .before .before .before .before .before in
+    ((start .pre .0, start .pre .1), (W .page-in, W .block-in, W .low, W .high, W .mark-is))
 
 counted-requires : tie.Need-counted-requires
 counted-requires c κs = search needs
