@@ -16,3 +16,4 @@ pub mod Example
 pub mod TwoPages
 pub mod BoundsMet
 pub mod Claims
+pub mod inner

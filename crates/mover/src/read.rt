@@ -1,16 +1,19 @@
 // Read: an original page, also in mid-move and between a cut and the recovery.
 ghost use mathlib.Core.Path.{_≡_};
-ghost use Prim.Native.Nat.{_*_, _<_};
+ghost use Prim.Native.Nat.{_*_, _≤_, _<_};
 ghost use lib.ListN.{length};
 ghost use Rattle.split.specs.Request.{requestOf};
 ghost use Rattle.method.specs.Move.{moveOf, AcceptedMove, Lent};
 ghost use Rattle.method.specs.Read.{readSlots, readPage};
-ghost use Rattle.method.specs.Answers.{readAnswer};
+ghost use Rattle.flash.specs.Geometry.{slotCount};
+ghost use Rattle.method.specs.Mend.{reading};
+ghost use Rattle.method.specs.Answers.{fitsNone, readAnswer};
 ghost use Rattle.mover.specs.Answers.{readAs};
 use crate::refusals::move_refusal;
 use flash::sizes::Sizes;
 use flash::sizes::original_count;
-use recovery::marks::fits_none;
+use recovery::marks::MarksRead;
+use recovery::marks::read_marks;
 use walk::cycles::follow;
 use walk::pages::sum_pages;
 use walk::walk::read_slots;
@@ -25,6 +28,25 @@ fn refused(number: u32) -> ReadResult
     ensures { λ r. ⌜ r ≡ record { number = number; count = 0 } ⌝ }
 {
     ReadResult { number, count: 0 }
+}
+
+// Whether the marks fit no moment of the move: number 6.
+fn fits_none(sizes: Sizes, marks: &[u8]) -> bool
+    requires { ⌜ (sizes .n ≤ 64) × (0 < sizes .m) × (sizes .m ≤ 64) × (sizes .s < 3) ⌝ }
+    requires { ⌜ length (now marks) ≡ slotCount sizes ⌝ }
+    ensures { λ r. ⌜ r ≡ fitsNone (reading sizes (now (marks .entry))) ⌝ }
+{
+    match read_marks(sizes, marks) {
+        MarksRead::NoMoment => true,
+        MarksRead::Full {
+            backward: _,
+            change: _,
+        } => false,
+        MarksRead::Torn {
+            backward: _,
+            block: _,
+        } => false,
+    }
 }
 
 // Rebuilds original k in the work page; how many stored pages were summed.

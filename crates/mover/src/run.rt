@@ -49,7 +49,7 @@ fn take_steps(
         (runningOf (now (store .entry)) (now (marks .entry)) (now (work .entry))) ⌝ }
     ensures { λ r. ⌜ r ≡ tallyOf (operationsFrom sizes place taken) ⌝ }
 {
-    let mut at = Place { at: place };
+    let mut at = Place::new(sizes, place);
     let mut tally = nothing_done();
     let mut i = 0;
     while i < taken {
@@ -65,7 +65,7 @@ fn take_steps(
             at,
             tally,
         );
-        at = at.next();
+        at = at.next(sizes);
         i += 1;
     }
     tally

@@ -8,7 +8,7 @@ ghost use Rattle.method.specs.Place.{operationAt, write as writing, markOf};
 ghost use Rattle.method.specs.Step as method;
 ghost use Rattle.method.specs.Step.{runningOf, writeSlots, perform, tallied};
 ghost use Rattle.walk.specs.inner.Moving.{Tables};
-ghost use Rattle.places.specs.inner.Place.{passOf};
+ghost use Rattle.places.specs.inner.Place.{passOf, placeOf};
 ghost use Rattle.mover.specs.inner.Steps.{FewCounted};
 use crate::tally::one_erase;
 use crate::tally::one_write;
@@ -116,7 +116,7 @@ pub fn step(
 ) -> Tally
     requires { ⌜ Tables (moveOf sizes (now list) (now sets)) (now pages) (now from)
         × Lent sizes (record { store = now store; marks = now marks }) (now work) ⌝ }
-    requires { ⌜ FewCounted tally ⌝ }
+    requires { ⌜ FewCounted tally × (place ≡ placeOf sizes (place .at)) ⌝ }
     ensures { λ _. ⌜ runningOf (now (store .exit)) (now (marks .exit)) (now (work .exit))
         ≡ method.step (moveOf sizes (now (list .entry)) (now (sets .entry))) (place .at)
         (runningOf (now (store .entry)) (now (marks .entry)) (now (work .entry))) ⌝ }

@@ -1,4 +1,5 @@
-pub mod OperationLaws
+-- The laws behind the proofs of this crate.
+pub mod PlaceLaws
 pub mod StepTold
-pub mod StandLaws
+pub mod MarkLaws
 pub mod ToldLaws

@@ -39,7 +39,7 @@ pub fn operation(sizes: Sizes, place: usize) -> OperationResult
     if last_place(sizes) < place {
         return refused(5);
     }
-    let here = Place { at: place };
+    let here = Place::new(sizes, place);
     match here.operation(sizes) {
         Op::Write {
             backward: _,

@@ -1,9 +1,10 @@
-// A place in the move: a step number.
+// A place in the move: a step number, and what a step needs to know of it, so that only the first place of a run is divided.
 
 ghost use mathlib.Core.Path.{_≡_};
 ghost use Prim.Native.Nat.{_+_, _≤_, _<_};
+ghost use Rattle.flash.specs.Geometry.{Bounds};
 ghost use Rattle.method.specs.Place.{operationAt, lastPlace};
-ghost use Rattle.places.specs.inner.Place.{opOf};
+ghost use Rattle.places.specs.inner.Place.{placeOf, opOf};
 use flash::sizes::Sizes;
 use flash::sizes::letter_after;
 
@@ -22,53 +23,99 @@ pub enum Op {
     Done,
 }
 
+// The step number, the pass, the block that is being filled, and how many of its pages are written.
 pub struct Place {
     pub at: usize,
+    pub backward: bool,
+    pub block: usize,
+    pub page: usize,
 }
 
 impl Place {
-    pub fn operation(self, sizes: Sizes) -> Op
-        requires { ⌜ (1 ≤ sizes .n) × (sizes .n ≤ 64) × (1 ≤ sizes .m) × (sizes .m ≤ 64) × (sizes .s < 3) ⌝ }
-        ensures { λ r. ⌜ r ≡ opOf sizes (operationAt sizes (self .at)) ⌝ }
+    // A turn fills one block: its writes, and an erase. There are n turns forward and n backward.
+    pub fn new(sizes: Sizes, at: usize) -> Place
+        requires { ⌜ Bounds sizes × (at ≤ lastPlace sizes) ⌝ }
+        ensures { λ r. ⌜ r ≡ placeOf sizes at ⌝ }
     {
-        let at = self.at;
         let n = sizes.n;
-        let m = sizes.m;
-        let turn = m + 1;
-        let half = n * turn;
-        let page = at % turn;
-        if at < half {
-            let block = at / turn;
-            if page < m {
-                return Op::Write {
-                    backward: false,
-                    block,
-                    page,
-                    mark: letter_after(sizes, 1),
-                };
-            }
-            return Op::Erase { block: block + 1 };
+        let steps = sizes.m + 1;
+        let turn = at / steps;
+        let page = at % steps;
+        if turn < n {
+            return Place {
+                at,
+                backward: false,
+                block: turn,
+                page,
+            };
         }
-        if at < half + half {
-            let block = n - (at - half) / turn;
-            if page < m {
-                return Op::Write {
-                    backward: true,
-                    block,
-                    page,
-                    mark: letter_after(sizes, 2),
-                };
-            }
-            return Op::Erase { block: block - 1 };
+        let block = 2 * n - turn;
+        Place {
+            at,
+            backward: true,
+            block,
+            page,
         }
-        Op::Done
     }
 
-    pub fn next(self) -> Place
-        requires { ⌜ self .at < 100000 ⌝ }
-        ensures { λ r. ⌜ r .at ≡ self .at + 1 ⌝ }
+    pub fn operation(self, sizes: Sizes) -> Op
+        requires { ⌜ Bounds sizes × (self ≡ placeOf sizes (self .at)) ⌝ }
+        ensures { λ r. ⌜ r ≡ opOf sizes (operationAt sizes (self .at)) ⌝ }
     {
-        Place { at: self.at + 1 }
+        let backward = self.backward;
+        let block = self.block;
+        let page = self.page;
+        // the backward pass ends when block 0 is free
+        if backward & (block == 0) {
+            return Op::Done;
+        }
+        if page < sizes.m {
+            let pass = if backward { 2 } else { 1 };
+            return Op::Write {
+                backward,
+                block,
+                page,
+                mark: letter_after(sizes, pass),
+            };
+        }
+        let freed = if backward { block - 1 } else { block + 1 };
+        Op::Erase { block: freed }
+    }
+
+    // The place that the step leads to: a page on, or the start of the next turn. The forward pass ends when block n is free.
+    pub fn next(self, sizes: Sizes) -> Place
+        requires { ⌜ Bounds sizes × (self ≡ placeOf sizes (self .at)) × (self .at < lastPlace sizes) ⌝ }
+        ensures { λ r. ⌜ r ≡ placeOf sizes (self .at + 1) ⌝ }
+    {
+        let at = self.at + 1;
+        let backward = self.backward;
+        let block = self.block;
+        let page = self.page;
+        if page < sizes.m {
+            let page = page + 1;
+            return Place {
+                at,
+                backward,
+                block,
+                page,
+            };
+        }
+        if backward {
+            let block = block - 1;
+            return Place {
+                at,
+                backward,
+                block,
+                page: 0,
+            };
+        }
+        let block = block + 1;
+        Place {
+            at,
+            backward: block == sizes.n,
+            block,
+            page: 0,
+        }
     }
 }
 

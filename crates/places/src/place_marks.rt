@@ -1,15 +1,17 @@
 // Number 5: whether store and marks are as a place has them.
 ghost use mathlib.Core.Path.{_≡_};
 ghost use mathlib.Core.Bool.{cond, _&&_, not};
-ghost use Prim.Native.Nat.{_+_, _*_, _≤_, _<_};
+ghost use Prim.Native.Nat.{_+_, _*_, _≤_};
 ghost use lib.Dec.{eqb, ltb};
 ghost use lib.ListN.{length};
 ghost use Rattle.flash.specs.Lists.{range, any, isSame};
+ghost use Rattle.flash.specs.Geometry.{Bounds, slotCount, storeLength};
 ghost use Rattle.flash.specs.Chip.{erased, markAt, isBlank};
-ghost use Rattle.method.specs.Place as method;
-ghost use Rattle.method.specs.Place.{lastPlace, marksOf};
+ghost use Rattle.method.specs.Place.{marksOf};
 ghost use Rattle.method.specs.Answers.{isElsewhere};
-ghost use Rattle.places.specs.inner.Stands.{Within, MarksDue, blockStands};
+ghost use Rattle.places.specs.inner.Place.{placeOf};
+ghost use Rattle.places.specs.inner.BlockMarks.{MarksDue, blockStands};
+use crate::place::Place;
 use crate::place::last_place;
 use flash::ERASED;
 use flash::block::is_full;
@@ -17,60 +19,40 @@ use flash::page::is_blank;
 use flash::sizes::Sizes;
 use flash::sizes::letter_after;
 
-// The block that is being filled at a place.
-fn filling(sizes: Sizes, place: usize) -> usize
-    requires { ⌜ Within sizes × (place ≤ lastPlace sizes) ⌝ }
-    ensures { λ r. ⌜ r ≡ method.filling sizes place ⌝ }
-{
-    let turn = sizes.m + 1;
-    let half = sizes.n * turn;
-    if place < half {
-        place / turn
-    } else {
-        sizes.n - (place - half) / turn
-    }
-}
-
 // The marks that a block has at a place: the first `written` are the letter, the others 255.
 struct Due {
     letter: u8,
     written: usize,
 }
 
-fn marks_due(sizes: Sizes, place: usize, block: usize) -> Due
-    requires { ⌜ Within sizes × (place ≤ lastPlace sizes) ⌝ }
-    ensures { λ r. ⌜ MarksDue sizes place block (r .letter) (r .written) ⌝ }
+fn marks_due(sizes: Sizes, place: Place, block: usize) -> Due
+    requires { ⌜ Bounds sizes × (place ≡ placeOf sizes (place .at)) ⌝ }
+    ensures { λ r. ⌜ MarksDue sizes (place .at) block (r .letter) (r .written) ⌝ }
 {
     let m = sizes.m;
-    let b = filling(sizes, place);
-    let filled = place % (m + 1);
-    if block < b {
+    if block < place.block {
         return Due {
             letter: letter_after(sizes, 1),
             written: m,
         };
     }
-    if place < sizes.n * (m + 1) {
-        if b < block {
-            return Due {
-                letter: letter_after(sizes, 0),
-                written: m,
-            };
-        }
-        return Due {
-            letter: letter_after(sizes, 1),
-            written: filled,
-        };
-    }
-    if b < block {
+    let above = place.block < block;
+    if place.backward {
+        let written = if above { m } else { place.page };
         return Due {
             letter: letter_after(sizes, 2),
+            written,
+        };
+    }
+    if above {
+        return Due {
+            letter: letter_after(sizes, 0),
             written: m,
         };
     }
     Due {
-        letter: letter_after(sizes, 2),
-        written: filled,
+        letter: letter_after(sizes, 1),
+        written: place.page,
     }
 }
 
@@ -82,9 +64,9 @@ fn mark_due(letter: u8, written: usize, page: usize) -> u8
 }
 
 // Whether a block has the marks that it has at a place. All blocks but one are full of a letter, which is tested faster.
-fn block_stands(sizes: Sizes, marks: &[u8], place: usize, block: usize) -> bool
-    requires { ⌜ Within sizes × (place ≤ lastPlace sizes) × (block * sizes .m + sizes .m ≤ length (now marks)) ⌝ }
-    ensures { λ r. ⌜ r ≡ blockStands sizes (now (marks .entry)) place block ⌝ }
+fn block_stands(sizes: Sizes, marks: &[u8], place: Place, block: usize) -> bool
+    requires { ⌜ Bounds sizes × (place ≡ placeOf sizes (place .at)) × (block * sizes .m + sizes .m ≤ length (now marks)) ⌝ }
+    ensures { λ r. ⌜ r ≡ blockStands sizes (now (marks .entry)) (place .at) block ⌝ }
 {
     let m = sizes.m;
     let due = marks_due(sizes, place, block);
@@ -104,9 +86,9 @@ fn block_stands(sizes: Sizes, marks: &[u8], place: usize, block: usize) -> bool
 }
 
 // Whether the marks are those that the place has.
-fn marks_stand(sizes: Sizes, marks: &[u8], place: usize) -> bool
-    requires { ⌜ Within sizes × (place ≤ lastPlace sizes) × (length (now marks) ≡ (sizes .n + 1) * sizes .m) ⌝ }
-    ensures { λ r. ⌜ r ≡ isSame (now (marks .entry)) (marksOf sizes place) ⌝ }
+fn marks_stand(sizes: Sizes, marks: &[u8], place: Place) -> bool
+    requires { ⌜ Bounds sizes × (place ≡ placeOf sizes (place .at)) × (length (now marks) ≡ slotCount sizes) ⌝ }
+    ensures { λ r. ⌜ r ≡ isSame (now (marks .entry)) (marksOf sizes (place .at)) ⌝ }
 {
     let mut block = 0;
     while block <= sizes.n {
@@ -138,13 +120,13 @@ fn some_torn(p: usize, store: &[u8], marks: &[u8]) -> bool
 
 // The three grounds of number 5.
 pub fn is_elsewhere(sizes: Sizes, store: &[u8], marks: &[u8], place: usize) -> bool
-    requires { ⌜ Within sizes × (length (now marks) ≡ (sizes .n + 1) * sizes .m) × (length (now store) ≡ (sizes .n + 1) * sizes .m * sizes .p) ⌝ }
+    requires { ⌜ Bounds sizes × (length (now marks) ≡ slotCount sizes) × (length (now store) ≡ storeLength sizes) ⌝ }
     ensures { λ r. ⌜ r ≡ isElsewhere sizes (record { store = now (store .entry); marks = now (marks .entry) }) place ⌝ }
 {
     if last_place(sizes) < place {
         return true;
     }
-    if !marks_stand(sizes, marks, place) {
+    if !marks_stand(sizes, marks, Place::new(sizes, place)) {
         return true;
     }
     some_torn(sizes.p, store, marks)

@@ -1,3 +1,4 @@
+-- The laws behind the proofs of this crate.
 pub mod Reading
 pub mod Search
 pub mod Tells

@@ -3,7 +3,7 @@ use mathlib.Core.Path.{_≡_, refl, ap, _∙_}
 use mathlib.Core.Logic.{_⊎_, inl, inr, ⊎-elim, _≢_}
 use mathlib.Core.Bool.{true, false}
 use mathlib.Core.List.{List, [], _∷_, _++_, map, List·Memᴰ, List·Memᴰ·head, List·Memᴰ·tail, List·Memᴰ·not-nil, List·Memᴰ·cases-cons, Memᴰ·append-left, Memᴰ·append-right}
-use mathlib.Core.Option.{Option, none, some}
+use mathlib.Core.Option.{none, some}
 use Prim.Native.Nat.{ℕ, zero, suc, _+_, _-_, _≤_, _<_}
 use native.Mathlib.Omega.{arith}
 use lib.Dec.{eqb, ltb}
@@ -62,15 +62,6 @@ mem-map f start (suc count) x h k =
     let ne : x ≡ start → ⊥ = eqb-false x start e in
     List·Memᴰ·tail (mem-map f (suc start) count x (omega arith) (omega arith)))
     (bool-cases (eqb x start))
-
--- the block that a reading tells to erase, or 0
-or0 : Option ℕ → ℕ
-or0 none = 0
-or0 (some b) = b
-
-blockOr0 : Option Reading → ℕ
-blockOr0 none = 0
-blockOr0 (some found) = or0 (found .toErase)
 
 module _ (Z : Sizes) (pages : 0 < Z .m) (marks : List ℕ) where
   open Sizes Z using (n, m)
@@ -131,30 +122,6 @@ module _ (Z : Sizes) (pages : 0 < Z .m) (marks : List ℕ) where
       let under = all-full 1 0 b (λ j h k. F .under j (omega arith)) in
       let over = all-full 2 b (n + 1 - b) (λ j h k. F .over j (omega arith) (omega arith)) in
       hit (backwardFull Z marks b) (Memᴰ·append-right line1 (Memᴰ·append-right line2 (Memᴰ·append-right line3 (mem-map (backwardFull Z marks) 1 n b (F .low) (omega (arith, F .high)))))) (rw (under, over)) legal
-
-  block-in : blockOr0 (reading Z marks) ≤ n
-  unfolding reading forwardTorn backwardTorn forwardFull backwardFull blockOr0 or0
-  block-in =
-      ⊎-elim
-      (λ (l : legalMarks Z marks ≡ true).
-      rw l
-      (⊎-elim
-      (λ (h : Hit (lines Z marks)). rw (h .first) (inside (h .row) (fit Z pages marks (h .row) (h .member) (h .fits))))
-      (λ (h : Miss (lines Z marks)). rw (h .first) (omega arith))
-      (first-fit (lines Z marks))))
-      (λ (l : legalMarks Z marks ≡ false). rw l (omega arith))
-      (bool-cases (legalMarks Z marks))
-    where
-      inside : (row : Row Reading) → Fit Z pages marks row → blockOr0 (some (row .gives)) ≤ n
-      inside row (torn-forth b T e) = rw e (T .low)
-      inside row (torn-back b T e) = rw e (T .low)
-      inside row (full-forth b F e) = rw e (omega arith)
-      inside row (full-back b F e) = rw e (omega arith)
-
-  -- the block that is to be erased is one of the store's
-  pub torn-inside : (place b : ℕ) → reading Z marks ≡ some (record { place = place; toErase = some b }) → b ≤ n
-  unfolding blockOr0 or0
-  torn-inside place b e = rw e at block-in
 
   -- ---- no line fits
   pub reads-illegal : (t : ℕ) → t < length marks → isMark (getD marks t 0) ≡ false → reading Z marks ≡ none

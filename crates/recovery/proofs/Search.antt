@@ -23,18 +23,18 @@ module _ (Z : Sizes) (marks : List ℕ) where
   open Sizes Z using (n, m)
 
   -- The first `b` blocks: `count` of them are unfinished, block `torn` if there is one. The others are full of s + 1 below
-  -- `change` and full of `top` from there on; `change` is n + 1 as long as there was none.
-  pub record Upto (b count torn top change : ℕ) : Type 0 where
+  -- `change` and full of `upper` from there on; `change` is n + 1 as long as there was none.
+  pub record Upto (b count torn upper change : ℕ) : Type 0 where
     pub few : count ≤ 1
     pub torn-met : count ≡ 1 → torn < b
     pub torn-open : count ≡ 1 → isUnfinished m marks torn ≡ true
     pub below : (j : ℕ) → j < b → j < change → (count ≡ 1 → j ≢ torn) → isFull m marks j (letter Z 1) ≡ true
-    pub above : (j : ℕ) → j < b → change ≤ j → (count ≡ 1 → j ≢ torn) → isFull m marks j top ≡ true
-    pub same : n < change → (change ≡ n + 1) × (top ≡ letter Z 1)
+    pub above : (j : ℕ) → j < b → change ≤ j → (count ≡ 1 → j ≢ torn) → isFull m marks j upper ≡ true
+    pub same : n < change → (change ≡ n + 1) × (upper ≡ letter Z 1)
     pub changed : change ≤ n → change < b
-    pub changed-full : change ≤ n → isFull m marks change top ≡ true
-    pub top-letter : change ≤ n → top < 3
-    pub top-other : change ≤ n → top ≢ letter Z 1
+    pub changed-full : change ≤ n → isFull m marks change upper ≡ true
+    pub upper-letter : change ≤ n → upper < 3
+    pub upper-other : change ≤ n → upper ≢ letter Z 1
 
   -- Block `b` up to `page`: while it is `whole`, all its marks so far are the letter `x` and nothing has changed since the block
   -- before it; otherwise it is unfinished, is the first, and has been counted.
@@ -65,8 +65,8 @@ module _ (Z : Sizes) (marks : List ℕ) where
   unfolding legalMarks
   legal-all L = all-of isMark marks 0 L
 
-  pub change-in : (b count torn top change : ℕ) → Upto b count torn top change → change ≤ n + 1
-  change-in b count torn top change U =
+  pub change-in : (b count torn upper change : ℕ) → Upto b count torn upper change → change ≤ n + 1
+  change-in b count torn upper change U =
       ⊎-elim
       (λ (q : ltb n change ≡ true). omega (arith, U .same (ltb-true n change q)))
       (λ (q : ltb n change ≡ false). omega (arith, ltb-false n change q))
@@ -92,13 +92,13 @@ module _ (Z : Sizes) (pages : 0 < Z .m) (marks : List ℕ) where
     same = λ h. (refl, refl);
     changed = λ h. absurd (omega arith);
     changed-full = λ h. absurd (omega arith);
-    top-letter = λ h. absurd (omega arith);
-    top-other = λ h. absurd (omega arith);
+    upper-letter = λ h. absurd (omega arith);
+    upper-other = λ h. absurd (omega arith);
   }
 
-  module _ (b count torn top change : ℕ) (U : Upto Z marks b count torn top change) (h : b ≤ n) where
+  module _ (b count torn upper change : ℕ) (U : Upto Z marks b count torn upper change) (h : b ≤ n) where
     -- one more block: full of the same letter
-    pub upto-same : isFull m marks b top ≡ true → Upto Z marks (b + 1) count torn top change
+    pub upto-same : isFull m marks b upper ≡ true → Upto Z marks (b + 1) count torn upper change
     upto-same e = record {
       few = U .few;
       torn-met = λ q. omega (arith, U .torn-met q);
@@ -122,12 +122,12 @@ module _ (Z : Sizes) (pages : 0 < Z .m) (marks : List ℕ) where
       same = U .same;
       changed = λ q. omega (arith, U .changed q);
       changed-full = U .changed-full;
-      top-letter = U .top-letter;
-      top-other = U .top-other;
+      upper-letter = U .upper-letter;
+      upper-other = U .upper-other;
     }
 
     -- full of another letter, for the first time
-    pub upto-change : (x : ℕ) → n < change → x < 3 → x ≢ top → isFull m marks b x ≡ true → Upto Z marks (b + 1) count torn x b
+    pub upto-change : (x : ℕ) → n < change → x < 3 → x ≢ upper → isFull m marks b x ≡ true → Upto Z marks (b + 1) count torn x b
     upto-change x far l ne e =
         let s = U .same far in
         record {
@@ -139,12 +139,12 @@ module _ (Z : Sizes) (pages : 0 < Z .m) (marks : List ℕ) where
           same = λ r. absurd (omega arith);
           changed = λ r. omega arith;
           changed-full = λ r. e;
-          top-letter = λ r. l;
-          top-other = λ r q. ne (q ∙ sym (s .1));
+          upper-letter = λ r. l;
+          upper-other = λ r q. ne (q ∙ sym (s .1));
         }
 
     -- unfinished, for the first time
-    pub upto-torn : count ≡ 0 → isUnfinished m marks b ≡ true → Upto Z marks (b + 1) 1 b top change
+    pub upto-torn : count ≡ 0 → isUnfinished m marks b ≡ true → Upto Z marks (b + 1) 1 b upper change
     upto-torn z u = record {
       few = omega arith;
       torn-met = λ q. omega arith;
@@ -154,8 +154,8 @@ module _ (Z : Sizes) (pages : 0 < Z .m) (marks : List ℕ) where
       same = U .same;
       changed = λ q. omega (arith, U .changed q);
       changed-full = U .changed-full;
-      top-letter = U .top-letter;
-      top-other = U .top-other;
+      upper-letter = U .upper-letter;
+      upper-other = U .upper-other;
     }
 
     -- unfinished, for the second time: no moment of the move
@@ -168,10 +168,10 @@ module _ (Z : Sizes) (pages : 0 < Z .m) (marks : List ℕ) where
         omega (arith, F .near))
 
     -- full of another letter, for the second time: no moment of the move
-    pub second-change : (x : ℕ) → change ≤ n → x ≢ top → isFull m marks b x ≡ true → reading Z marks ≡ none
+    pub second-change : (x : ℕ) → change ≤ n → x ≢ upper → isFull m marks b x ≡ true → reading Z marks ≡ none
     second-change x k ne e =
         reads-none Z pages marks (λ i low high F.
-        let one = other-above Z pages marks i low high F change k top (U .top-letter k) (U .top-other k) (U .changed-full k) in
+        let one = other-above Z pages marks i low high F change k upper (U .upper-letter k) (U .upper-other k) (U .changed-full k) in
         let up = F .above b (omega (arith, U .changed k)) h in
         ne (full-same m marks b x (letter Z i) pages e up ∙ one .1))
 
@@ -301,34 +301,34 @@ module _ (Z : Sizes) (pages : 0 < Z .m) (marks : List ℕ) where
           torn-here = λ q. refl;
         }
 
-    pub page-second : (top change : ℕ) → Upto Z marks b count₀ torn₀ top change → b ≤ n → count + 1 ≡ 2 → (whole && differs mark x) ≡ true → reading Z marks ≡ none
-    page-second top change U k two e =
+    pub page-second : (upper change : ℕ) → Upto Z marks b count₀ torn₀ upper change → b ≤ n → count + 1 ≡ 2 → (whole && differs mark x) ≡ true → reading Z marks ≡ none
+    page-second upper change U k two e =
         let w = page-opens e in
-        second-torn b count₀ torn₀ top change U k (omega arith) (w .1)
+        second-torn b count₀ torn₀ upper change U k (omega arith) (w .1)
 
   -- ---- the end of a block
-  module _ (b page x count₀ torn₀ top change count torn : ℕ) (whole : Bool) (h : b ≤ n) (end : m ≤ page)
-      (U : Upto Z marks b count₀ torn₀ top change) (B : Block Z marks b page x count₀ torn₀ count torn whole) where
+  module _ (b page x count₀ torn₀ upper change count torn : ℕ) (whole : Bool) (h : b ≤ n) (end : m ≤ page)
+      (U : Upto Z marks b count₀ torn₀ upper change) (B : Block Z marks b page x count₀ torn₀ count torn whole) where
     block-full : whole ≡ true → isFull m marks b x ≡ true
     block-full w = full-of m marks b x (λ q l. B .marked w q (omega arith))
 
-    pub block-changes : n < change → (whole && not (eqb x top)) ≡ true → Upto Z marks (b + 1) count torn x b
+    pub block-changes : n < change → (whole && not (eqb x upper)) ≡ true → Upto Z marks (b + 1) count torn x b
     block-changes far e =
-        let w = both whole (not (eqb x top)) e in
-        let U′ = upto-change b count₀ torn₀ top change U h x far (B .lettered (w .0) (omega arith)) (eqb-false x top (not-true (eqb x top) (w .1))) (block-full (w .0)) in
+        let w = both whole (not (eqb x upper)) e in
+        let U′ = upto-change b count₀ torn₀ upper change U h x far (B .lettered (w .0) (omega arith)) (eqb-false x upper (not-true (eqb x upper) (w .1))) (block-full (w .0)) in
         rw (B .count-kept (w .0), B .torn-kept (w .0)) U′
 
-    pub block-astray : change ≤ n → (whole && not (eqb x top)) ≡ true → reading Z marks ≡ none
+    pub block-astray : change ≤ n → (whole && not (eqb x upper)) ≡ true → reading Z marks ≡ none
     block-astray k e =
-        let w = both whole (not (eqb x top)) e in
-        second-change b count₀ torn₀ top change U h x k (eqb-false x top (not-true (eqb x top) (w .1))) (block-full (w .0))
+        let w = both whole (not (eqb x upper)) e in
+        second-change b count₀ torn₀ upper change U h x k (eqb-false x upper (not-true (eqb x upper) (w .1))) (block-full (w .0))
 
-    pub block-kept : (whole && not (eqb x top)) ≡ false → Upto Z marks (b + 1) count torn top change
+    pub block-kept : (whole && not (eqb x upper)) ≡ false → Upto Z marks (b + 1) count torn upper change
     block-kept e =
         ⊎-elim
         (λ (w : whole ≡ true).
-        let at : x ≡ top = eqb-true x top (not-false (eqb x top) (rw w at e)) in
-        let U′ = upto-same b count₀ torn₀ top change U h (rw at at (block-full w)) in
+        let at : x ≡ upper = eqb-true x upper (not-false (eqb x upper) (rw w at e)) in
+        let U′ = upto-same b count₀ torn₀ upper change U h (rw at at (block-full w)) in
         rw (B .count-kept w, B .torn-kept w) U′)
-        (λ (w : whole ≡ false). rw (B .counted w, B .torn-here w) (upto-torn b count₀ torn₀ top change U h (B .first w) (B .open-block w)))
+        (λ (w : whole ≡ false). rw (B .counted w, B .torn-here w) (upto-torn b count₀ torn₀ upper change U h (B .first w) (B .open-block w)))
         (bool-cases whole)

@@ -1,10 +1,11 @@
 -- What the search of the marks tells when it ends.
 use mathlib.Core.Path.{_≡_, refl, sym, ap, _∙_}
 use mathlib.Core.Logic.{_⊎_, inl, inr, ⊎-elim, _≢_}
-use mathlib.Core.Bool.{Bool, true, false, cond, _||_}
+use mathlib.Core.Bool.{Bool, true, false, _||_}
 use mathlib.Core.List.{List}
 use mathlib.Core.Option.{Option, none, some}
-use Prim.Native.Nat.{ℕ, _+_, _-_, _*_, _≤_, _<_}
+use Prim.Native.Nat.{ℕ, _+_, _≤_, _<_}
+use native.Mathlib.Numerals.{add-one}
 use native.Mathlib.Omega.{arith}
 use lib.Dec.{eqb, ltb}
 use borrow.Author.Tests.{eqb-true, eqb-false, ne-eqb, ltb-true, ltb-false}
@@ -15,54 +16,60 @@ use Rattle.method.specs.Mend.{Reading, forwardTorn, backwardTorn, forwardFull, 
 use Rattle.method.specs.Answers.{MarksAnswer, marksAnswer}
 use Rattle.method.proofs.recovery.LinesAgree as lines
 use Rattle.method.proofs.recovery.LinesAgree.{Filled}
-use Rattle.recovery.specs.declared.marks.Found.{Found}
-use Rattle.recovery.specs.declared.marks.Found.the-variants.{Nothing, Full, Torn}
-use Rattle.recovery.specs.Found.{answerOf, readingOf}
-use Rattle.recovery.specs.inner.Gathered.{foundAt}
+use Rattle.method.proofs.recovery.FittingMarks.{torn-shape, filled-shape}
+use Rattle.recovery.specs.declared.marks.MarksRead.{MarksRead}
+use Rattle.recovery.specs.declared.marks.MarksRead.the-variants.{NoMoment, Full, Torn}
+use Rattle.recovery.specs.MarksRead.{placeIfFull, placeIfTorn, answerOf, readingOf}
+use Rattle.recovery.specs.inner.Gathered.{momentOf, Shown}
 use Rattle.recovery.proofs.Reading.{reads-forward-torn, reads-backward-torn, reads-forward-full, reads-backward-full, reads-none, torn-between, under-below, other-above}
 use Rattle.recovery.proofs.Search.{Upto, change-in}
 
-pub reads-nothing : readingOf Nothing ≡ none
-unfolding answerOf
-reads-nothing = refl
+module _ (Z : Sizes) where
+  -- the number goes by what is told, in both lists of cases
+  listed : (told : MarksRead) → answerOf Z told ≡ marksAnswer (readingOf Z told)
+  unfolding answerOf marksAnswer
+  listed NoMoment = refl
+  listed (Full isBackward change) = refl
+  listed (Torn isBackward block) = refl
 
--- the number goes by what is told, in both lists of cases
-listed : (found : Found) → answerOf found ≡ marksAnswer (readingOf found)
-unfolding answerOf marksAnswer
-listed Nothing = refl
-listed (Full place) = refl
-listed (Torn place block) = refl
+  told-by : (reading : Option Reading) → marksAnswer reading .told ≡ reading
+  unfolding marksAnswer
+  told-by none = refl
+  told-by (some found) = refl
 
-pub answered : (found : Found) (told : Option Reading) → readingOf found ≡ told → answerOf found ≡ marksAnswer told
-answered found told e = listed found ∙ ap marksAnswer e
-
-told-by : (told : Option Reading) → marksAnswer told .told ≡ told
-unfolding marksAnswer
-told-by none = refl
-told-by (some found) = refl
-
-pub what-is-told : (found : Found) (told : Option Reading) → answerOf found ≡ marksAnswer told → readingOf found ≡ told
-what-is-told found told e = ap (λ (a : MarksAnswer). a .told) e ∙ told-by told
-
--- the search was left at the second unfinished block
-pub found-second : (n m : ℕ) (forward : Bool) (torn change : ℕ) → foundAt n m forward 2 torn change ≡ Nothing
-unfolding foundAt
-found-second n m forward torn change = refl
+  pub what-is-told : (told : MarksRead) (reading : Option Reading) → answerOf Z told ≡ marksAnswer reading → readingOf Z told ≡ reading
+  what-is-told told reading e = ap (λ (a : MarksAnswer). a .told) e ∙ told-by reading
 
 module _ (Z : Sizes) (pages : 0 < Z .m) (marks : List ℕ) where
   open Sizes Z using (n, m)
 
+  -- what the search promises of its answer
+  abbrev pub Tells : MarksRead → Type 0
+  Tells told = (answerOf Z told ≡ marksAnswer (reading Z marks)) × Shown Z marks told
+
+  reads-as : (told : MarksRead) → readingOf Z told ≡ reading Z marks → answerOf Z told ≡ marksAnswer (reading Z marks)
+  reads-as told e = listed Z told ∙ ap marksAnswer e
+
+  pub tells-none : reading Z marks ≡ none → Tells NoMoment
+  unfolding answerOf
+  tells-none e = (reads-as NoMoment (sym e), tt)
+
+  -- the search was left at the second unfinished block
+  pub tells-second : (isBackward : Bool) (torn change : ℕ) → reading Z marks ≡ none → Tells (momentOf n isBackward 2 torn change)
+  unfolding momentOf
+  tells-second isBackward torn change e = tells-none e
+
   -- ---- the end of the search
-  module _ (count torn top change : ℕ) (U : Upto Z marks (n + 1) count torn top change) where
-    -- a letter above the change that is not s is s + 2
-    top-back : change ≤ n → top ≢ letter Z 0 → top ≡ letter Z 2
+  module _ (count torn upper change : ℕ) (U : Upto Z marks (n + 1) count torn upper change) where
+    -- a letter above the change that is not s + 2 is s
+    upper-start : change ≤ n → upper ≢ letter Z 2 → upper ≡ letter Z 0
     unfolding letter
-    top-back h ne =
-        let a = U .top-letter h in
-        let b = U .top-other h in
+    upper-start h ne =
+        let a = U .upper-letter h in
+        let b = U .upper-other h in
         omega arith
 
-    torn-is : (i : ℕ) → count ≡ 1 → torn + 1 ≡ change → (change ≤ n → top ≡ letter Z i) → lines.Torn Z pages marks i torn
+    torn-is : (i : ℕ) → count ≡ 1 → torn + 1 ≡ change → (change ≤ n → upper ≡ letter Z i) → lines.Torn Z pages marks i torn
     torn-is i e at t = record {
       low = omega (arith, U .torn-met e);
       open-block = U .torn-open e;
@@ -70,7 +77,7 @@ module _ (Z : Sizes) (pages : 0 < Z .m) (marks : List ℕ) where
       over = λ j l h. rw (← t (omega arith)) (U .above j (omega arith) (omega arith) (λ q. omega arith));
     }
 
-    filled-is : (i : ℕ) → count ≡ 0 → 1 ≤ change → change ≤ n → top ≡ letter Z i → Filled Z pages marks i change
+    filled-is : (i : ℕ) → count ≡ 0 → 1 ≤ change → change ≤ n → upper ≡ letter Z i → Filled Z pages marks i change
     filled-is i e l h t = record {
       low = l;
       high = h;
@@ -85,8 +92,8 @@ module _ (Z : Sizes) (pages : 0 < Z .m) (marks : List ℕ) where
         reads-none Z pages marks (λ i low high F.
         let one = torn-between Z pages marks i low high F torn (omega arith) (U .torn-open e) in
         let early : change ≤ torn → ⊥ = λ k.
-        omega (arith, F .near, other-above Z pages marks i low high F change (omega arith) top (U .top-letter (omega arith)) (U .top-other (omega arith)) (U .changed-full (omega arith))) in
-        let in-blocks = change-in Z marks (n + 1) count torn top change U in
+        omega (arith, F .near, other-above Z pages marks i low high F change (omega arith) upper (U .upper-letter (omega arith)) (U .upper-other (omega arith)) (U .changed-full (omega arith))) in
+        let in-blocks = change-in Z marks (n + 1) count torn upper change U in
         let late : torn + 1 < change → ⊥ = λ k.
         omega (arith, under-below Z pages marks i low high F (torn + 1) (omega (arith, in-blocks)) (U .below (torn + 1) (omega (arith, in-blocks)) k (λ q. omega arith))) in
         omega arith)
@@ -96,7 +103,7 @@ module _ (Z : Sizes) (pages : 0 < Z .m) (marks : List ℕ) where
     full-astray e (inl q) =
         let z : change ≡ 0 = eqb-true change 0 q in
         reads-none Z pages marks (λ i low high F.
-        let one = other-above Z pages marks i low high F change (omega arith) top (U .top-letter (omega arith)) (U .top-other (omega arith)) (U .changed-full (omega arith)) in
+        let one = other-above Z pages marks i low high F change (omega arith) upper (U .upper-letter (omega arith)) (U .upper-other (omega arith)) (U .changed-full (omega arith)) in
         let at : low ≡ high = omega (arith, F .order) in
         omega (arith, F .begun at, F .order))
     full-astray e (inr q) =
@@ -106,36 +113,43 @@ module _ (Z : Sizes) (pages : 0 < Z .m) (marks : List ℕ) where
 
     -- ---- which of the four lines fits
     module _ (legal : legalMarks Z marks ≡ true) where
-      full-tells : (forward : Bool) → count ≡ 0 → 1 ≤ change → change ≤ n → (forward ≡ true → top ≡ letter Z 0) → (forward ≡ false → top ≢ letter Z 0) → readingOf (Full (cond forward (change - 1) (2 * n - change) * (m + 1) + m)) ≡ reading Z marks
-      unfolding answerOf forwardFull backwardFull
-      full-tells true e l h t f = sym (reads-forward-full Z pages marks change legal (filled-is 0 e l h (t refl)))
-      full-tells false e l h t f = sym (reads-backward-full Z pages marks change legal (filled-is 2 e l h (top-back h (f refl))))
+      full-tells : (isBackward : Bool) → count ≡ 0 → 1 ≤ change → change ≤ n → (isBackward ≡ true → upper ≡ letter Z 2) → (isBackward ≡ false → upper ≢ letter Z 2) → Tells (Full isBackward change)
+      unfolding answerOf placeIfFull forwardFull backwardFull
+      full-tells false e l h t f =
+          let F = filled-is 0 e l h (upper-start h (f refl)) in
+          (reads-as (Full false change) (sym (reads-forward-full Z pages marks change legal F)), (l, filled-shape Z pages marks 0 change F))
+      full-tells true e l h t f =
+          let F = filled-is 2 e l h (t refl) in
+          (reads-as (Full true change) (sym (reads-backward-full Z pages marks change legal F)), (l, filled-shape Z pages marks 2 change F))
 
-      torn-tells : (forward : Bool) → count ≡ 1 → torn + 1 ≡ change → (forward ≡ true → top ≡ letter Z 0) → (forward ≡ false → top ≢ letter Z 0) → readingOf (Torn (cond forward torn (2 * n - torn) * (m + 1)) torn) ≡ reading Z marks
-      unfolding answerOf forwardTorn backwardTorn
-      torn-tells true e at t f = sym (reads-forward-torn Z pages marks torn legal (torn-is 0 e at (λ h. t refl)))
-      torn-tells false e at t f = sym (reads-backward-torn Z pages marks torn legal (torn-is 2 e at (λ h. top-back h (f refl))))
+      torn-tells : (isBackward : Bool) → count ≡ 1 → torn + 1 ≡ change → (isBackward ≡ true → upper ≡ letter Z 2) → (isBackward ≡ false → upper ≢ letter Z 2) → Tells (Torn isBackward torn)
+      unfolding answerOf placeIfTorn forwardTorn backwardTorn
+      torn-tells false e at t f =
+          let T = torn-is 0 e at (λ h. upper-start h (f refl)) in
+          (reads-as (Torn false torn) (sym (reads-forward-torn Z pages marks torn legal T)), rw (add-one torn) (torn-shape Z pages marks 0 torn T))
+      torn-tells true e at t f =
+          let T = torn-is 2 e at (λ h. t refl) in
+          (reads-as (Torn true torn) (sym (reads-backward-torn Z pages marks torn legal T)), rw (add-one torn) (torn-shape Z pages marks 2 torn T))
 
       -- the answer to what was gathered is the reading
-      pub tells : (forward : Bool) → (forward ≡ true → top ≡ letter Z 0) → (forward ≡ false → top ≢ letter Z 0) → readingOf (foundAt n m forward count torn change) ≡ reading Z marks
-      unfolding foundAt
-      tells forward t f =
+      pub tells : (isBackward : Bool) → (isBackward ≡ true → upper ≡ letter Z 2) → (isBackward ≡ false → upper ≢ letter Z 2) → Tells (momentOf n isBackward count torn change)
+      unfolding momentOf
+      tells isBackward t f =
           ⊎-elim
           (λ (z : eqb count 0 ≡ true).
           ⊎-elim
-          (λ (q : (eqb change 0 || ltb n change) ≡ true).
-          rw (z, q) (reads-nothing ∙ sym (full-astray (eqb-true count 0 z) (or-cases (eqb change 0) (ltb n change) q))))
+          (λ (q : (eqb change 0 || ltb n change) ≡ true). rw (z, q) (tells-none (full-astray (eqb-true count 0 z) (or-cases (eqb change 0) (ltb n change) q))))
           (λ (q : (eqb change 0 || ltb n change) ≡ false).
           let low : change ≡ 0 → ⊥ = eqb-false change 0 (or-false-left (eqb change 0) (ltb n change) q) in
           let high = ltb-false n change (or-false-right (eqb change 0) (ltb n change) q) in
-          rw (z, q) (full-tells forward (eqb-true count 0 z) (omega arith) high t f))
+          rw (z, q) (full-tells isBackward (eqb-true count 0 z) (omega arith) high t f))
           (bool-cases (eqb change 0 || ltb n change)))
           (λ (z : eqb count 0 ≡ false).
           let some-torn : count ≡ 0 → ⊥ = eqb-false count 0 z in
           let one : count ≡ 1 = omega (arith, U .few) in
           let two : eqb count 2 ≡ false = ne-eqb count 2 (omega arith) in
           ⊎-elim
-          (λ (q : eqb (torn + 1) change ≡ true). rw (z, two, q) (torn-tells forward one (eqb-true (torn + 1) change q) t f))
-          (λ (q : eqb (torn + 1) change ≡ false). rw (z, two, q) (reads-nothing ∙ sym (torn-astray one (eqb-false (torn + 1) change q))))
+          (λ (q : eqb (torn + 1) change ≡ true). rw (z, two, q) (torn-tells isBackward one (eqb-true (torn + 1) change q) t f))
+          (λ (q : eqb (torn + 1) change ≡ false). rw (z, two, q) (tells-none (torn-astray one (eqb-false (torn + 1) change q))))
           (bool-cases (eqb (torn + 1) change)))
           (bool-cases (eqb count 0))

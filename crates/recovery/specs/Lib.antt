@@ -1,3 +1,4 @@
-pub mod Found
+-- What the contracts of this crate say.
+pub mod MarksRead
 pub mod Answered
 pub mod inner

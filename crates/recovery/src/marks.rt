@@ -1,4 +1,4 @@
-// How mend reads the marks. Mend is the recovery after a cut.
+// What the marks tell, for mend, the recovery after a cut, and for read.
 
 ghost use mathlib.Core.Path.{_≡_};
 ghost use Prim.Native.Nat.{_+_, _*_, _≤_, _<_};
@@ -6,23 +6,23 @@ ghost use lib.ListN.{length};
 ghost use Rattle.flash.specs.Geometry.{slotCount};
 ghost use Rattle.flash.specs.Chip.{isMark};
 ghost use Rattle.method.specs.Mend.{reading};
-ghost use Rattle.method.specs.Answers.{marksAnswer, fitsNone};
-ghost use Rattle.recovery.specs.Found.{answerOf};
-ghost use Rattle.recovery.specs.inner.Gathered.{pagesKnown, foundAt};
+ghost use Rattle.method.specs.Answers.{marksAnswer};
+ghost use Rattle.recovery.specs.MarksRead.{answerOf};
+ghost use Rattle.recovery.specs.inner.Gathered.{pagesKnown, momentOf, Shown};
 use flash::ERASED;
 use flash::LETTERS;
 use flash::block::is_full;
 use flash::sizes::Sizes;
 use flash::sizes::letter_after;
 
-// What the marks tell; `answerOf` in specs/ lists the number and the values of each case.
-pub enum Found {
+// What the marks tell: the pass, and where in it. `answerOf` in specs/ lists the number and the values of each case.
+pub enum MarksRead {
     // They fit no moment of the move.
-    Nothing,
-    // No block is unfinished.
-    Full { place: usize },
-    // This block is unfinished, and is to be erased.
-    Torn { place: usize, block: usize },
+    NoMoment,
+    // No block is unfinished. Blocks below `change` are full of s + 1, the others of s, or of s + 2 in the backward pass.
+    Full { backward: bool, change: usize },
+    // This block is unfinished. Those below it are full of s + 1, those above it of s, or of s + 2 in the backward pass.
+    Torn { backward: bool, block: usize },
 }
 
 // Whether a mark is a letter or 255.
@@ -46,49 +46,39 @@ fn pages_known(marks: &[u8], m: usize, block: usize, letter: u8) -> usize
 }
 
 // What the search has gathered tells: the four lines of document 01, "The cut".
-pub fn found_at(
-    n: usize,
-    m: usize,
-    forward: bool,
-    unfinished: usize,
-    torn: usize,
-    change: usize,
-) -> Found
-    requires { ⌜ (n ≤ 64) × (m ≤ 64) × (torn ≤ n) × (change ≤ n + 1) ⌝ }
-    ensures { λ r. ⌜ r ≡ foundAt n m forward unfinished torn change ⌝ }
+fn moment(n: usize, backward: bool, unfinished: usize, torn: usize, change: usize) -> MarksRead
+    requires { ⌜ (n ≤ 64) × (torn ≤ n) ⌝ }
+    ensures { λ r. ⌜ r ≡ momentOf n backward unfinished torn change ⌝ }
 {
     if unfinished == 0 {
         if (change == 0) | (n < change) {
-            return Found::Nothing;
+            return MarksRead::NoMoment;
         }
-        let turn = if forward { change - 1 } else { 2 * n - change };
-        return Found::Full {
-            place: turn * (m + 1) + m,
-        };
+        return MarksRead::Full { backward, change };
     }
     if (unfinished == 2) | (torn + 1 != change) {
-        return Found::Nothing;
+        return MarksRead::NoMoment;
     }
-    let turn = if forward { torn } else { 2 * n - torn };
-    Found::Torn {
-        place: turn * (m + 1),
+    MarksRead::Torn {
+        backward,
         block: torn,
     }
 }
 
-// Reads the marks. Blocks that are full bear s + 1 below block `change`, and one other letter, `top`, from there on. The search
+// Reads the marks. Blocks that are full bear s + 1 below block `change`, and one other letter, `upper`, from there on. The search
 // ends at the second unfinished block, and at anything else that fits no moment of the move.
-pub fn read_marks(sizes: Sizes, marks: &[u8]) -> Found
+pub fn read_marks(sizes: Sizes, marks: &[u8]) -> MarksRead
     requires { ⌜ (sizes .n ≤ 64) × (0 < sizes .m) × (sizes .m ≤ 64) × (sizes .s < 3) ⌝ }
     requires { ⌜ length (now marks) ≡ slotCount sizes ⌝ }
-    ensures { λ r. ⌜ answerOf r ≡ marksAnswer (reading sizes (now (marks .entry))) ⌝ }
+    ensures { λ r. ⌜ answerOf sizes r ≡ marksAnswer (reading sizes (now (marks .entry))) ⌝ }
+    ensures { λ r. ⌜ Shown sizes (now (marks .entry)) r ⌝ }
 {
     let n = sizes.n;
     let m = sizes.m;
     let blocks = n + 1;
     let mut unfinished: usize = 0;
     let mut torn = 0;
-    let mut top = letter_after(sizes, 1);
+    let mut upper = letter_after(sizes, 1);
     let mut change = blocks;
     'search: for block in 0..blocks {
         let first = block * m;
@@ -98,7 +88,7 @@ pub fn read_marks(sizes: Sizes, marks: &[u8]) -> Found
         for page in known..m {
             let mark = marks[first + page];
             if !is_mark(mark) {
-                return Found::Nothing;
+                return MarksRead::NoMoment;
             }
             if whole & ((mark != letter) | (mark == ERASED)) {
                 whole = false;
@@ -109,33 +99,13 @@ pub fn read_marks(sizes: Sizes, marks: &[u8]) -> Found
                 }
             }
         }
-        if whole & (letter != top) {
+        if whole & (letter != upper) {
             if change < blocks {
-                return Found::Nothing;
+                return MarksRead::NoMoment;
             }
-            top = letter;
+            upper = letter;
             change = block;
         }
     }
-    found_at(
-        n,
-        m,
-        top == letter_after(sizes, 0),
-        unfinished,
-        torn,
-        change,
-    )
-}
-
-// Whether the marks fit no moment of the move: number 6.
-pub fn fits_none(sizes: Sizes, marks: &[u8]) -> bool
-    requires { ⌜ (sizes .n ≤ 64) × (0 < sizes .m) × (sizes .m ≤ 64) × (sizes .s < 3) ⌝ }
-    requires { ⌜ length (now marks) ≡ slotCount sizes ⌝ }
-    ensures { λ r. ⌜ r ≡ fitsNone (reading sizes (now (marks .entry))) ⌝ }
-{
-    match read_marks(sizes, marks) {
-        Found::Nothing => true,
-        Found::Full { place: _ } => false,
-        Found::Torn { place: _, block: _ } => false,
-    }
+    moment(n, upper == letter_after(sizes, 2), unfinished, torn, change)
 }

@@ -1,27 +1,17 @@
--- What the proofs about a move start from: an accepted move, the shape of marks that fit, and what whole pages hold.
+-- What the proofs about a move start from: marks of some shape, and what whole pages hold.
 use mathlib.Core.Path.{_≡_}
 use mathlib.Core.Logic.{_⊎_}
-use mathlib.Core.Bool.{true, false}
 use mathlib.Core.List.{List}
-use Prim.Native.Nat.{ℕ, suc, _-_, _≤_, _<_}
+use Prim.Native.Nat.{ℕ, _-_, _≤_, _<_}
 use lib.ListN.{getD}
 use Rattle.flash.specs.Lists.{part}
 use Rattle.flash.specs.declared.sizes.Sizes.{Sizes}
 use Rattle.flash.specs.Geometry.{slot, slotOf, originalCount, letter}
 use Rattle.flash.specs.PageSum.{sum}
-use Rattle.flash.specs.Chip.{Chip, pageAt, markAt, isFull}
+use Rattle.flash.specs.Chip.{Chip, pageAt, markAt}
 use Rattle.method.specs.Move.{Move}
 use Rattle.method.specs.Cycle.{coded}
-
--- Marks that fit the move: blocks below `low` are full of s + 1, blocks from `high` on full of s + i, and the one between, if
--- there is one, is full of nothing.
-pub record Shape (Z : Sizes) (marks : List ℕ) (low high i : ℕ) : Type 0 where
-  pub below : (b : ℕ) → b < low → isFull (Z .m) marks b (letter Z 1) ≡ true
-  pub above : (b : ℕ) → high ≤ b → b ≤ Z .n → isFull (Z .m) marks b (letter Z i) ≡ true
-  pub between : (b : ℕ) → low ≤ b → b < high → (j : ℕ) → isFull (Z .m) marks b (letter Z j) ≡ false
-  pub order : low ≤ high
-  pub near : high ≤ suc low
-  pub inside : low ≤ Z .n
+use Rattle.method.specs.inner.Shape.{Shape}
 
 -- all that read needs of marks: their shape in one of the passes
 pub record Shaped (Z : Sizes) (marks : List ℕ) : Type 0 where

@@ -9,7 +9,7 @@ use Rattle.flash.specs.Geometry.{slot, letter}
 use Rattle.flash.specs.Chip.{erased, markAt}
 use Rattle.flash.proofs.Blocks.{full-of, not-full}
 use Rattle.method.specs.Place.{Pass, forward, backward, lastPlace, passAt, filling, filled, above, heldMark}
-use Rattle.method.proofs.basics.MoveShape.{Shape}
+use Rattle.method.specs.inner.Shape.{Shape}
 use Rattle.method.proofs.places.StepsAtPlaces.{filling-in}
 use Rattle.method.proofs.places.PagesHeld.{edge, edge-in, MarksAt, held-below, held-above, held-blank, held-full-below, held-full-above}
 

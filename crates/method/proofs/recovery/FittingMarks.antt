@@ -12,7 +12,8 @@ use Rattle.flash.specs.declared.sizes.Sizes.{Sizes}
 use Rattle.flash.proofs.Bools.{bool-cases}
 use Rattle.flash.proofs.Blocks.{unfinished-at}
 use Rattle.method.specs.Mend.{Reading, lines, legalMarks, reading}
-use Rattle.method.proofs.basics.MoveShape.{Shape, Shaped}
+use Rattle.method.specs.inner.Shape.{Shape}
+use Rattle.method.proofs.basics.MoveShape.{Shaped}
 use Rattle.method.proofs.recovery.LinesAgree.{Torn, Filled, Fit, torn-forth, torn-back, full-forth, full-back, fit}
 
 -- the row that is found fits

@@ -19,7 +19,7 @@ use Rattle.method.specs.Place.{passAt, filling, filled, heldAt, heldMark
 use Rattle.method.specs.Mend.{Reading, reading}
 use Rattle.method.specs.Answers.{badChip, marksAnswer, fitsNone, mendRows, MendAnswer, mended, mendAnswer}
 use Rattle.method.proofs.basics.Indexes.{this-or-other, each-slot}
-use Rattle.method.proofs.basics.MoveShape.{Shape}
+use Rattle.method.specs.inner.Shape.{Shape}
 use Rattle.method.proofs.basics.AcceptedCalls.{StandsAt}
 use Rattle.method.proofs.places.PagesHeld.{MarksAt, held-blank, marks-eq}
 use Rattle.method.proofs.places.PlaceShape.{letterAbove, shape-full}

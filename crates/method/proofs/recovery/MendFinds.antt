@@ -21,7 +21,7 @@ use Rattle.method.specs.Place.{Pass, forward, backward, lastPlace, passA
 use Rattle.method.specs.Mend.{Reading, fullFrom, forwardTorn, backwardTorn, forwardFull, backwardFull, lines, legalMarks, reading}
 use Rattle.method.specs.Answers.{marksAnswer, fitsNone}
 use Rattle.method.specs.Claims.{LinesAgree}
-use Rattle.method.proofs.basics.MoveShape.{Shape}
+use Rattle.method.specs.inner.Shape.{Shape}
 use Rattle.method.proofs.recovery.LinesAgree.{lines-agree}
 use Rattle.method.proofs.places.StepsAtPlaces.{turnOf, located, last-stands, backward-low}
 use Rattle.method.proofs.places.PagesHeld.{edge, MarksAt}

@@ -16,7 +16,8 @@ use Rattle.flash.specs.Chip.{Chip, erased, isMark, markAt}
 use Rattle.flash.proofs.Searches.{all-of}
 use Rattle.method.specs.Place.{lastPlace, passAt, filling, filled, Held, blank, plain, code, final, above, heldAt, heldMark}
 use Rattle.method.proofs.basics.Indexes.{Order, less, same, more, order, this-or-other, each-slot}
-use Rattle.method.proofs.basics.MoveShape.{Shape, Shaped}
+use Rattle.method.specs.inner.Shape.{Shape}
+use Rattle.method.proofs.basics.MoveShape.{Shaped}
 use Rattle.method.proofs.basics.AcceptedCalls.{StandsAt}
 use Rattle.method.proofs.places.StepsAtPlaces.{Stands, page-cases, filling-in, last-stands}
 use Rattle.method.proofs.places.PagesHeld.{edge, MarksAt, marksOf-at, held-below, held-above, held-blank}

@@ -22,7 +22,8 @@ use Rattle.method.specs.Cycle.{D, pred, isTop, coded}
 use Rattle.method.specs.Place.{Pass}
 use Rattle.method.specs.Read.{readSlots, readPage}
 use Rattle.method.specs.Step.{originalsOf, writeSlots, writtenPage}
-use Rattle.method.proofs.basics.MoveShape.{Shape, Holding}
+use Rattle.method.specs.inner.Shape.{Shape}
+use Rattle.method.proofs.basics.MoveShape.{Holding}
 use Rattle.method.proofs.cycles.Orbits.{DataBlock}
 use Rattle.method.proofs.cycles.SetCycles.{D-page, pred-in}
 use Rattle.method.proofs.walks.ReadsOriginals.{reads, reads-original}

@@ -15,7 +15,8 @@ use Rattle.method.specs.Cycle.{sentTo}
 use Rattle.method.specs.Place.{Pass, forward, backward, written, write, erase, lastPlace, operationAt, passAt, filling, filled}
 use Rattle.method.specs.State.{heldOriginals}
 use Rattle.method.specs.Step.{Running, originalsOf, writtenPage, perform, step, steps}
-use Rattle.method.proofs.basics.MoveShape.{Shape, Holding}
+use Rattle.method.specs.inner.Shape.{Shape}
+use Rattle.method.proofs.basics.MoveShape.{Holding}
 use Rattle.method.proofs.basics.AcceptedCalls.{StandsAt}
 use Rattle.method.proofs.cycles.SetCycles.{sent-in}
 use Rattle.method.proofs.places.StepsAtPlaces.{nextBlock, forward-high, filling-in, backward-low}

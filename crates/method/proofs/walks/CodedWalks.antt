@@ -14,7 +14,7 @@ use Rattle.method.specs.Move.{Move, AcceptedMove}
 use Rattle.method.specs.Cycle.{D, dest, pred, top, isTop, coded}
 use Rattle.method.specs.Read.{fullOf, codedSlot, plainSlot, finalSlot, goBack, goOn}
 use Rattle.method.proofs.basics.EachNumber.{Each, each-one}
-use Rattle.method.proofs.basics.MoveShape.{Shape}
+use Rattle.method.specs.inner.Shape.{Shape}
 use Rattle.method.proofs.basics.Indexes.{slot-div}
 use Rattle.method.proofs.cycles.Orbits.{DataBlock, iterate}
 use Rattle.method.proofs.cycles.SetCycles.{D-page, dest-in, pred-in, pred-dest}

@@ -18,7 +18,8 @@ use Rattle.split.specs.Split.{setOf}
 use Rattle.method.specs.Move.{Move, AcceptedMove}
 use Rattle.method.specs.Cycle.{dest, pred, top, isTop}
 use Rattle.method.specs.Read.{fullOf, plainSlot, finalSlot, goBack, goOn, readSlots, readPage}
-use Rattle.method.proofs.basics.MoveShape.{Shape, Holding}
+use Rattle.method.specs.inner.Shape.{Shape}
+use Rattle.method.proofs.basics.MoveShape.{Holding}
 use Rattle.method.proofs.cycles.Orbits.{DataBlock}
 use Rattle.method.proofs.cycles.SetCycles.{set-in, block-in, D-is, dest-in, dest-is, pred-in}
 use Rattle.method.proofs.cycles.Tops.{top-in, top-ge-self, top-pred}

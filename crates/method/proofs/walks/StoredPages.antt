@@ -24,7 +24,8 @@ use Rattle.method.specs.Move.{Move, AcceptedMove}
 use Rattle.method.specs.Cycle.{coded}
 use Rattle.method.specs.Read.{fullOf, codedSlot, plainSlot, finalSlot}
 use Rattle.method.proofs.basics.EachNumber.{Each, each-cons, each-one, distinct-cons}
-use Rattle.method.proofs.basics.MoveShape.{Shape, Holding}
+use Rattle.method.specs.inner.Shape.{Shape}
+use Rattle.method.proofs.basics.MoveShape.{Holding}
 use Rattle.method.proofs.basics.Indexes.{slot-div, slot-lt}
 use Rattle.method.proofs.cycles.Orbits.{DataBlock}
 use Rattle.method.proofs.cycles.SetCycles.{block-in, entry-in}

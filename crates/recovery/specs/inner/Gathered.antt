@@ -1,21 +1,28 @@
 -- What the search of the marks gathers, and what it tells of that.
 use mathlib.Core.Bool.{Bool, cond, _&&_, _||_, not}
 use mathlib.Core.List.{List}
-use Prim.Native.Nat.{ℕ, _+_, _-_, _*_}
+use Prim.Native.Nat.{ℕ, _+_, _≤_}
 use lib.Dec.{eqb, ltb}
+use Rattle.flash.specs.declared.sizes.Sizes.{Sizes}
 use Rattle.flash.specs.Geometry.{isLetter}
 use Rattle.flash.specs.Chip.{isFull}
-use Rattle.recovery.specs.declared.marks.Found.{Found}
-use Rattle.recovery.specs.declared.marks.Found.the-variants.{Nothing, Full, Torn}
+use Rattle.method.specs.inner.Shape.{Shape}
+use Rattle.recovery.specs.declared.marks.MarksRead.{MarksRead}
+use Rattle.recovery.specs.declared.marks.MarksRead.the-variants.{NoMoment, Full, Torn}
 
 -- how many pages of a block are known at once to bear a letter: all, if it is full of this letter
 unfoldable pub pagesKnown : (m : ℕ) → (marks : List ℕ) → (block letter : ℕ) → ℕ
 pagesKnown m marks block letter = cond (isLetter letter && isFull m marks block letter) m 0
 
--- What `found_at` makes of the gathered numbers: the four lines of document 01, "The cut". `turn` counts the forward turns and
--- then the backward ones, each of m writes and an erase.
-unfoldable pub foundAt : (n m : ℕ) (forward : Bool) (unfinished torn change : ℕ) → Found
-foundAt n m forward unfinished torn change =
+-- what `moment` makes of the gathered numbers: the four lines of document 01, "The cut"
+unfoldable pub momentOf : (n : ℕ) (isBackward : Bool) (unfinished torn change : ℕ) → MarksRead
+momentOf n isBackward unfinished torn change =
     cond (eqb unfinished 0)
-    (cond (eqb change 0 || ltb n change) Nothing (let turn = cond forward (change - 1) (2 * n - change) in Full (turn * (m + 1) + m)))
-    (cond (eqb unfinished 2 || not (eqb (torn + 1) change)) Nothing (let turn = cond forward torn (2 * n - torn) in Torn (turn * (m + 1)) torn))
+    (cond (eqb change 0 || ltb n change) NoMoment (Full isBackward change))
+    (cond (eqb unfinished 2 || not (eqb (torn + 1) change)) NoMoment (Torn isBackward torn))
+
+-- the shape that the marks have in each case: blocks above the change or the unfinished block bear s, or s + 2 in the backward pass
+abbrev pub Shown : Sizes → (marks : List ℕ) → MarksRead → Type 0
+Shown Z marks NoMoment = Unit
+Shown Z marks (Full isBackward change) = (1 ≤ change) × Shape Z marks change change (cond isBackward 2 0)
+Shown Z marks (Torn isBackward block) = Shape Z marks block (block + 1) (cond isBackward 2 0)

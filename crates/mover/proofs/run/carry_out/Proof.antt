@@ -3,7 +3,8 @@ use Prim.Native.Nat.{_+_, _≤_}
 use native.Mathlib.Omega.{arith}
 use borrow.Author.Needs.{needs}
 use Rattle.method.specs.Move.{moveOf}
-use Rattle.mover.proofs.RunLaws.{last-small, carried}
+use Rattle.places.proofs.PlaceLaws.{last-small}
+use Rattle.mover.proofs.RunLaws.{carried}
 use Rattle.mover.proofs.run.carry_out.Statement.{statement}
 use Rattle.mover.proofs.run.carry_out.Tie as tie
 
@@ -36,7 +37,7 @@ inside : (c : tie.After-slice-known6) → c .before .before .before .before .bef
 inside c =
     let start = c .before .before .before .before .before .before .before .before .before .before .before .before .before .before .before .before .before .before .before .before .before .before .before .before in
     let a = start .args in
-    omega (arith, start .pre .2, c .before .before .before .before .before .before .before .before .before .before .before .before .before .last-place .ensures, c .before .before .before .before .before .before .before .before .before .before .before .before .smaller .ensures, last-small (moveOf (a .sizes) (a .list .now) (a .sets .now)) (start .pre .0))
+    omega (arith, start .pre .2, c .before .before .before .before .before .before .before .before .before .before .before .before .before .last-place .ensures, c .before .before .before .before .before .before .before .before .before .before .before .before .smaller .ensures, last-small (a .sizes) (start .pre .0 .ranges))
 
 add-reached : tie.Need-add-reached
 add-reached c = omega (arith, inside c)

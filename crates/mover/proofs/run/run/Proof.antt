@@ -38,8 +38,7 @@ is-elsewhere-requires c κs =
     let R = requestOf (a .sizes) (a .list .now) (a .sets .now) in
     let chip : Chip = record { store = a .store .now; marks = a .marks .now } in
     let g = move-accepted R chip (a .work .now) [] (sym (c .before .before .before .move-refusal .ensures .0) ∙ c .before .before .if1 .left) in
-    let G = g .0 in
-    (record { n-high = G .ranges .n-high; m-low = G .ranges .m-low; m-high = G .ranges .m-high; s-high = G .ranges .s-high }, g .1 .marks-length, g .1 .store-length)
+    (g .0 .ranges, g .1 .marks-length, g .1 .store-length)
 
 refused-requires-2 : tie.Need-refused-requires-2
 refused-requires-2 c κs = search needs

@@ -1,11 +1,13 @@
 -- So many steps leave what the definition's steps leave, and are counted as they are; for the loop of a run.
-use mathlib.Core.Path.{_≡_, _∙_}
+use mathlib.Core.Path.{_≡_, ap, _∙_}
 use Prim.Native.Nat.{_+_, _-_, _≤_, _<_}
 use native.Mathlib.Omega.{arith}
 use borrow.Author.Needs.{needs}
 use Rattle.method.specs.Move.{moveOf, Lent}
 use Rattle.method.specs.Step.{runningOf, steps, tallyOf, operationsFrom}
 use Rattle.method.specs.Place.{lastPlace}
+use Rattle.places.specs.inner.Place.{placeOf}
+use Rattle.places.proofs.PlaceLaws.{number-is, is-place}
 use Rattle.mover.specs.inner.Steps.{mostSteps}
 use Rattle.mover.proofs.RunLaws.{none-taken, none-counted, one-taken, one-counted, counts-fit, last-small}
 use Rattle.mover.proofs.run.take_steps.Statement.{statement}
@@ -15,51 +17,60 @@ abbrev Inv-loop : tie.InvT-loop
 Inv-loop sizes list sets pages from store₀ marks₀ work₀ place taken at₀ tally₀ i₀ store marks work at tally i =
     (runningOf store marks work ≡ steps (moveOf sizes list sets) i place (runningOf store₀ marks₀ work₀))
     × (tally ≡ tallyOf (operationsFrom sizes place i))
-    × Lent sizes (record { store = store; marks = marks }) work × (at .at ≡ place + i) × (i ≤ taken)
+    × Lent sizes (record { store = store; marks = marks }) work × (at ≡ placeOf sizes (place + i)) × (i ≤ taken)
 
 abbrev μ-loop : tie.MeasureT-loop
 μ-loop sizes list sets pages from store₀ marks₀ work₀ place taken at₀ tally₀ i₀ store marks work at tally i = taken - i
+
+new-requires : tie.Need-new-requires Inv-loop μ-loop
+new-requires c κs = let start = c .before .before .before .before .before in (start .pre .0 .given .ranges, omega arith)
 
 nothing-done-requires : tie.Need-nothing-done-requires Inv-loop μ-loop
 nothing-done-requires c κs = search needs
 
 loop-holds : tie.Need-loop-holds Inv-loop μ-loop
 loop-holds c =
-    let start = c .before .before .before .before .before .before in
-    (none-taken _ _ _, c .nothing-done .ensures ∙ none-counted _ _, start .pre .1, omega arith, omega arith)
+    let start = c .before .before .before .before .before .before .before in
+    let a = start .args in
+    let first : a .place ≡ a .place + 0 = omega arith in
+    (none-taken _ _ _, c .nothing-done .ensures ∙ none-counted _ _, start .pre .1, c .before .new .ensures ∙ ap (placeOf (a .sizes)) first, omega arith)
 
 -- where the loop stands
 inside : (c : tie.In-loop Inv-loop μ-loop)
-    → (let a = c .before .before .before .before .before .before .before .before .args in
+    → (let a = c .before .before .before .before .before .before .before .before .before .args in
     (a .place + c .before .loop .i < lastPlace (a .sizes)) × (lastPlace (a .sizes) ≤ mostSteps))
 inside c =
-    let start = c .before .before .before .before .before .before .before .before in
+    let start = c .before .before .before .before .before .before .before .before .before in
     let a = start .args in
     (omega arith, last-small (moveOf (a .sizes) (a .list .now) (a .sets .now)) (start .pre .0 .given))
 
 step-requires : tie.Need-step-requires Inv-loop μ-loop
 step-requires c κs =
-    let start = c .before .before .before .before .before .before .before .before .before .before .before in
+    let start = c .before .before .before .before .before .before .before .before .before .before .before .before in
     let a = start .args in
     let l = c .before .before .before .before .loop in
-    ((start .pre .0, l .inv .2), counts-fit (moveOf (a .sizes) (a .list .now) (a .sets .now)) (start .pre .0 .given) (a .place) (l .i) (l .tally) (omega (arith, inside (c .before .before .before))) (l .inv .1))
+    ((start .pre .0, l .inv .2), (counts-fit (moveOf (a .sizes) (a .list .now) (a .sets .now)) (start .pre .0 .given) (a .place) (l .i) (l .tally) (omega (arith, inside (c .before .before .before))) (l .inv .1), is-place _ _ _ (l .inv .3)))
 
 next-requires : tie.Need-next-requires Inv-loop μ-loop
-next-requires c κs = omega (arith, inside (c .before .before .before .before .before .before .before .before .before .before), c .before .before .before .before .before .before .before .before .before .before .before .loop .inv .3)
+next-requires c κs =
+    let l = c .before .before .before .before .before .before .before .before .before .before .before .loop in
+    let f = inside (c .before .before .before .before .before .before .before .before .before .before) in
+    (c .before .before .before .before .before .before .before .before .before .before .before .before .before .before .before .before .before .before .before .pre .0 .given .ranges, is-place _ _ _ (l .inv .3), rw (number-is _ _ _ (l .inv .3)) (f .0))
 
 add-i : tie.Need-add-i Inv-loop μ-loop
-add-i c = search needs
+add-i c = omega (arith, inside (c .before .before .before .before .before .before .before .before .before .before .before))
 
 loop-less : tie.Need-loop-less Inv-loop μ-loop
 loop-less c = search needs
 
 loop-again : tie.Need-loop-again Inv-loop μ-loop
 loop-again c =
-    let a = c .before .before .before .before .before .before .before .before .before .before .before .before .before .before .before .before .before .before .before .args in
+    let a = c .before .before .before .before .before .before .before .before .before .before .before .before .before .before .before .before .before .before .before .before .args in
     let M = moveOf (a .sizes) (a .list .now) (a .sets .now) in
     let l = c .before .before .before .before .before .before .before .before .before .before .before .before .loop in
     let s = c .before .before .before .before .before .before .before .step in
-    let at : l .at .at ≡ a .place + l .i = l .inv .3 in (
+    let at : l .at .at ≡ a .place + l .i = number-is _ _ _ (l .inv .3) in
+    let on : l .at .at + 1 ≡ a .place + (l .i + 1) = omega arith in (
       one-taken M (a .place) (l .i) _ _ _ (l .inv .0) (rw at at (s .ensures .0)),
       one-counted M (a .place) (l .i) _ _ (inside (c .before .before .before .before .before .before .before .before .before .before .before) .0) (l .inv .1) (rw at at (s .ensures .1)),
       record {
@@ -67,7 +78,7 @@ loop-again c =
         marks-length = s .kept .1 .1 .1 .1 .1 .1 .0 ∙ l .inv .2 .marks-length;
         work-length = s .kept .1 .1 .1 .1 .1 .1 .1 .0 ∙ l .inv .2 .work-length;
       },
-      omega (arith, c .next .ensures),
+      c .next .ensures ∙ ap (placeOf (a .sizes)) on,
       omega arith,
     )
 
@@ -83,7 +94,7 @@ same-length-3 c = search needs
 returns : tie.Need-returns Inv-loop μ-loop
 returns c =
     let l = c .before .loop in
-    let all : l .i ≡ c .before .before .before .before .before .before .before .before .args .taken = omega arith in
+    let all : l .i ≡ c .before .before .before .before .before .before .before .before .before .args .taken = omega arith in
     (rw all at (l .inv .0), rw all at (l .inv .1))
 
 pub take-steps-spec : {M : Type 1} → statement M
@@ -92,6 +103,7 @@ take-steps-spec =
     (tie.spec
     Inv-loop
     μ-loop
+    new-requires
     nothing-done-requires
     loop-holds
     step-requires

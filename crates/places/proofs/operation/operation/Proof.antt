@@ -1,14 +1,17 @@
-use mathlib.Core.Path.{_≡_, sym, _∙_}
+-- `operation` meets its contract: two refusals, and the three kinds of step.
+use mathlib.Core.Path.{_≡_, sym, ap, _∙_}
 use mathlib.Core.Bool.{true, false}
+use Prim.Native.Nat.{ℕ}
 use native.Mathlib.Omega.{arith}
 use borrow.Author.Needs.{needs}
 use borrow.Author.Tests.{not-true, not-false, lt-ltb, le-ltb}
 use lib.Dec.{ltb}
 use Rattle.flash.specs.Geometry.{inRange}
 use Rattle.flash.proofs.Bounds.{in-range}
-use Rattle.method.specs.Place.{write, erase, done, lastPlace}
-use Rattle.places.specs.inner.Place.{passOf}
+use Rattle.method.specs.Place.{write, erase, done, operationAt, lastPlace}
+use Rattle.places.specs.inner.Place.{passOf, opOf}
 use Rattle.places.specs.Operation.{toldOf}
+use Rattle.places.proofs.PlaceLaws.{number-is, is-place}
 use Rattle.places.proofs.StepTold.{IsWrite, is-write, IsErase, is-erase, told-done}
 use Rattle.places.proofs.ToldLaws.{refused-1, refused-5, told}
 use Rattle.places.proofs.operation.operation.Statement.{statement}
@@ -44,23 +47,30 @@ returns-2 c =
 inside : (c : tie.Else2) → (let a = c .before .before .before .before .args in ltb (lastPlace (a .sizes)) (a .place)) ≡ false
 inside c = let a = c .before .before .before .before .args in le-ltb (lastPlace (a .sizes)) (a .place) (omega (arith, c .before .last-place .ensures, c .if2 .left))
 
+new-requires : tie.Need-new-requires
+new-requires c κs = (in-range _ (in-ranges (c .before .before)), omega (arith, c .before .last-place .ensures, c .if2 .left))
+
 operation-requires : tie.Need-operation-requires
-operation-requires c κs = let B = in-range _ (in-ranges (c .before .before)) in (B .n-low, B .n-high, B .m-low, B .m-high, B .s-high)
+operation-requires c κs = (in-range _ (in-ranges (c .before .before .before)), is-place _ _ _ (c .new .ensures))
+
+-- what the place tells is told of the number
+told-of : (c : tie.After-operation) → (let a = c .before .before .before .before .before .before .args in c .operation .result ≡ opOf (a .sizes) (operationAt (a .sizes) (a .place)))
+told-of c = let a = c .before .before .before .before .before .before .args in c .operation .ensures ∙ ap (λ (p : ℕ). opOf (a .sizes) (operationAt (a .sizes) p)) (number-is _ _ _ (c .before .new .ensures))
 
 enum-known-block : tie.Need-enum-known-block
 enum-known-block c = search needs
 
 -- the step at the place is this write
-writes : (c : tie.After-block) → (let a = c .before .before .before .before .before .before .before .args in let v = c .block .given .0 in IsWrite (a .sizes) (a .place) (v .0) (v .1 .0) (v .1 .1 .0) (v .1 .1 .1 .0))
+writes : (c : tie.After-block) → (let a = c .before .before .before .before .before .before .before .before .args in let v = c .block .given .0 in IsWrite (a .sizes) (a .place) (v .0) (v .1 .0) (v .1 .1 .0) (v .1 .1 .1 .0))
 writes c =
-    let a = c .before .before .before .before .before .before .before .args in
-    is-write (a .sizes) (a .place) _ _ _ _ (sym (c .block .given .1) ∙ c .before .before .operation .ensures)
+    let a = c .before .before .before .before .before .before .before .before .args in
+    is-write (a .sizes) (a .place) _ _ _ _ (sym (c .block .given .1) ∙ told-of (c .before .before))
 
 cast-t13 : tie.Need-cast-t13
-cast-t13 c = let W = writes (c .before) in omega (arith, W .block-in, in-range _ (in-ranges (c .before .before .before .before .before .before)) .n-high)
+cast-t13 c = let W = writes (c .before) in omega (arith, W .block-in, in-range _ (in-ranges (c .before .before .before .before .before .before .before)) .n-high)
 
 cast-t14 : tie.Need-cast-t14
-cast-t14 c = let W = writes (c .before) in omega (arith, W .page-in, in-range _ (in-ranges (c .before .before .before .before .before .before)) .m-high)
+cast-t14 c = let W = writes (c .before) in omega (arith, W .page-in, in-range _ (in-ranges (c .before .before .before .before .before .before .before)) .m-high)
 
 cast-t15 : tie.Need-cast-t15
 cast-t15 c = search needs
@@ -69,13 +79,13 @@ enum-known-block-2 : tie.Need-enum-known-block-2
 enum-known-block-2 c = search needs
 
 -- the step at the place is this erase
-erases : (c : tie.After-block2) → (let a = c .before .before .before .before .before .before .before .args in IsErase (a .sizes) (a .place) (c .block2 .given .0 .0))
+erases : (c : tie.After-block2) → (let a = c .before .before .before .before .before .before .before .before .args in IsErase (a .sizes) (a .place) (c .block2 .given .0 .0))
 erases c =
-    let a = c .before .before .before .before .before .before .before .args in
-    is-erase (a .sizes) (a .place) _ (sym (c .block2 .given .1) ∙ c .before .before .operation .ensures)
+    let a = c .before .before .before .before .before .before .before .before .args in
+    is-erase (a .sizes) (a .place) _ (sym (c .block2 .given .1) ∙ told-of (c .before .before))
 
 cast-t16 : tie.Need-cast-t16
-cast-t16 c = let E = erases (c .before) in omega (arith, E .block-in, in-range _ (in-ranges (c .before .before .before .before .before .before)) .n-high)
+cast-t16 c = let E = erases (c .before) in omega (arith, E .block-in, in-range _ (in-ranges (c .before .before .before .before .before .before .before)) .n-high)
 
 enum-told : tie.Need-enum-told
 enum-told c = search needs
@@ -83,24 +93,24 @@ enum-told c = search needs
 returns-3 : tie.Need-returns-3
 unfolding toldOf
 returns-3 c =
-    let a = c .before .before .before .before .before .before .before .before .args in
+    let a = c .before .before .before .before .before .before .before .before .before .args in
     let W = writes (c .before) in
     let v = c .before .block .given .0 in
-    rw (W .mark-is) (sym (told (a .sizes) (a .place) (in-ranges (c .before .before .before .before .before .before)) (inside (c .before .before .before .before)) (write (passOf (v .0)) (v .1 .0) (v .1 .1 .0)) (W .is)))
+    rw (W .mark-is) (sym (told (a .sizes) (a .place) (in-ranges (c .before .before .before .before .before .before .before)) (inside (c .before .before .before .before .before)) (write (passOf (v .0)) (v .1 .0) (v .1 .1 .0)) (W .is)))
 
 returns-4 : tie.Need-returns-4
 unfolding toldOf
 returns-4 c =
-    let a = c .before .before .before .before .before .before .before .before .args in
+    let a = c .before .before .before .before .before .before .before .before .before .args in
     let E = erases (c .before) in
-    sym (told (a .sizes) (a .place) (in-ranges (c .before .before .before .before .before .before)) (inside (c .before .before .before .before)) (erase (c .before .block2 .given .0 .0)) (E .is))
+    sym (told (a .sizes) (a .place) (in-ranges (c .before .before .before .before .before .before .before)) (inside (c .before .before .before .before .before)) (erase (c .before .block2 .given .0 .0)) (E .is))
 
 returns-5 : tie.Need-returns-5
 unfolding toldOf
 returns-5 c =
-    let a = c .before .before .before .before .before .before .before .args in
+    let a = c .before .before .before .before .before .before .before .before .args in
     let sizes = a .sizes in
-    sym (told sizes (a .place) (in-ranges (c .before .before .before .before .before)) (inside (c .before .before .before)) done (told-done sizes _ (sym (c .enum-told .given .1) ∙ c .before .before .operation .ensures)))
+    sym (told sizes (a .place) (in-ranges (c .before .before .before .before .before .before)) (inside (c .before .before .before .before)) done (told-done sizes _ (sym (c .enum-told .given .1) ∙ told-of (c .before .before))))
 
 pub operation-spec : {M : Type 1} → statement M
 operation-spec =
@@ -112,6 +122,7 @@ operation-spec =
     last-place-requires
     refused-requires-2
     returns-2
+    new-requires
     operation-requires
     enum-known-block
     cast-t13

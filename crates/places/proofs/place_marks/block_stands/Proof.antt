@@ -1,3 +1,4 @@
+-- `block_stands` meets its contract: each page is looked at, or all at once where the block is due full.
 use mathlib.Core.Path.{_≡_, sym, _∙_}
 use mathlib.Core.Bool.{cond}
 use Prim.Native.Nat.{ℕ, _+_, _-_, _*_, _≤_, _<_}
@@ -8,15 +9,15 @@ use lib.Dec.{ltb}
 use Rattle.flash.specs.Geometry.{slot}
 use Rattle.flash.specs.Chip.{erased, markAt}
 use Rattle.flash.proofs.Blocks.{mark-is}
-use Rattle.places.proofs.StandLaws.{stands-full, stands-all, stands-not}
+use Rattle.places.proofs.MarkLaws.{stands-full, stands-all, stands-not}
 use Rattle.places.proofs.place_marks.block_stands.Statement.{statement}
 use Rattle.places.proofs.place_marks.block_stands.Tie as tie
 
 abbrev Inv-loop : tie.InvT-loop
-Inv-loop marks place block m letter written page₀ page = (page ≤ m) × ((j : ℕ) → j < page → markAt marks (slot m block j) ≡ cond (ltb j written) letter erased)
+Inv-loop marks block m letter written page₀ page = (page ≤ m) × ((j : ℕ) → j < page → markAt marks (slot m block j) ≡ cond (ltb j written) letter erased)
 
 abbrev μ-loop : tie.MeasureT-loop
-μ-loop marks place block m letter written page₀ page = m - page
+μ-loop marks block m letter written page₀ page = m - page
 
 marks-due-requires : tie.Need-marks-due-requires Inv-loop μ-loop
 marks-due-requires c κs = search needs
@@ -28,7 +29,7 @@ returns : tie.Need-returns Inv-loop μ-loop
 returns c =
     let a = c .before .before .before .before .args in
     let d = c .before .before .marks-due in
-    c .is-full .ensures ∙ stands-full (a .sizes) (a .place) (a .block) (d .result .letter) (d .result .written) (d .ensures) (a .marks .now) (c .before .if1 .taken)
+    c .is-full .ensures ∙ stands-full (a .sizes) (a .place .at) (a .block) (d .result .letter) (d .result .written) (d .ensures) (a .marks .now) (c .before .if1 .taken)
 
 loop-holds : tie.Need-loop-holds Inv-loop μ-loop
 loop-holds c = search needs
@@ -50,7 +51,7 @@ returns-2 c =
     let a = c .before .before .before .before .before .before .before .before .args in
     let d = c .before .before .before .before .before .before .marks-due in
     let l = c .before .before .before .before .loop in
-    stands-not (a .sizes) (a .place) (a .block) (d .result .letter) (d .result .written) (d .ensures) (a .marks .now) (l .page) (omega arith)
+    stands-not (a .sizes) (a .place .at) (a .block) (d .result .letter) (d .result .written) (d .ensures) (a .marks .now) (l .page) (omega arith)
     (λ e. c .if2 .taken (sym (mark-is (a .marks .now) (a .block * a .sizes .m + l .page) (omega arith)) ∙ e ∙ sym (c .before .mark-due .ensures)))
 
 add-page : tie.Need-add-page Inv-loop μ-loop
@@ -69,7 +70,7 @@ returns-3 : tie.Need-returns-3 Inv-loop μ-loop
 returns-3 c =
     let a = c .before .before .before .before .before .args in
     let d = c .before .before .before .marks-due in
-    stands-all (a .sizes) (a .place) (a .block) (d .result .letter) (d .result .written) (d .ensures) (a .marks .now) (λ j h. c .before .loop .inv .1 j (omega arith))
+    stands-all (a .sizes) (a .place .at) (a .block) (d .result .letter) (d .result .written) (d .ensures) (a .marks .now) (λ j h. c .before .loop .inv .1 j (omega arith))
 
 pub block-stands-spec : {M : Type 1} → statement M
 block-stands-spec =

@@ -1,3 +1,4 @@
+-- `marks_stand` meets its contract: every block looked at has the marks of the place.
 use mathlib.Core.Path.{_≡_, sym, _∙_}
 use mathlib.Core.Bool.{true}
 use Prim.Native.Nat.{ℕ, _+_, _-_, _≤_, _<_}
@@ -6,13 +7,13 @@ use borrow.Author.Count.{below-more}
 use borrow.Author.Needs.{needs}
 use borrow.Author.Tests.{not-true, not-false}
 use Rattle.flash.proofs.Bounds.{block-in-marks}
-use Rattle.places.specs.inner.Stands.{blockStands}
-use Rattle.places.proofs.StandLaws.{all-stand, one-falls}
+use Rattle.places.specs.inner.BlockMarks.{blockStands}
+use Rattle.places.proofs.MarkLaws.{all-stand, one-falls}
 use Rattle.places.proofs.place_marks.marks_stand.Statement.{statement}
 use Rattle.places.proofs.place_marks.marks_stand.Tie as tie
 
 abbrev Inv-loop : tie.InvT-loop
-Inv-loop sizes marks place block₀ block = (block ≤ sizes .n + 1) × ((b : ℕ) → b < block → blockStands sizes marks place b ≡ true)
+Inv-loop sizes marks place block₀ block = (block ≤ sizes .n + 1) × ((b : ℕ) → b < block → blockStands sizes marks (place .at) b ≡ true)
 
 abbrev μ-loop : tie.MeasureT-loop
 μ-loop sizes marks place block₀ block = sizes .n + 1 - block
@@ -28,7 +29,7 @@ block-stands-requires c κs =
 returns : tie.Need-returns Inv-loop μ-loop
 returns c =
     let a = c .before .before .before .before .before .before .args in
-    one-falls (a .sizes) (a .marks .now) (a .place) (c .before .before .before .before .loop .block) (omega arith) (sym (c .before .block-stands .ensures) ∙ not-true _ (c .if2 .taken))
+    one-falls (a .sizes) (a .marks .now) (a .place .at) (c .before .before .before .before .loop .block) (omega arith) (sym (c .before .block-stands .ensures) ∙ not-true _ (c .if2 .taken))
 
 add-block : tie.Need-add-block Inv-loop μ-loop
 add-block c = search needs
@@ -44,7 +45,7 @@ loop-again c =
 returns-2 : tie.Need-returns-2 Inv-loop μ-loop
 returns-2 c =
     let a = c .before .before .before .before .args in
-    all-stand (a .sizes) (a .marks .now) (a .place) (omega arith) (c .before .before .before .before .pre .2) (λ b h. c .before .before .loop .inv .1 b (omega arith))
+    all-stand (a .sizes) (a .marks .now) (a .place .at) (omega arith) (c .before .before .before .before .pre .2) (λ b h. c .before .before .loop .inv .1 b (omega arith))
 
 pub marks-stand-spec : {M : Type 1} → statement M
 marks-stand-spec =

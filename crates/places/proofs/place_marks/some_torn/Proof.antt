@@ -1,3 +1,4 @@
+-- `some_torn` meets its contract: no slot so far is marked 255 and not blank.
 use mathlib.Core.Path.{_≡_, sym, _∙_}
 use mathlib.Core.Logic.{⊎-elim}
 use mathlib.Core.Bool.{false, _&&_, not}
@@ -11,7 +12,7 @@ use Rattle.flash.specs.Chip.{Chip, erased, markAt, isBlank}
 use Rattle.flash.proofs.Blocks.{mark-is}
 use Rattle.flash.proofs.Parts.{part-fits}
 use Rattle.flash.proofs.Ranges.{any-is}
-use Rattle.places.proofs.StandLaws.{torn-more, not-marked, is-torn}
+use Rattle.places.proofs.MarkLaws.{torn-more, not-marked, is-torn}
 use Rattle.places.proofs.place_marks.some_torn.Statement.{statement}
 use Rattle.places.proofs.place_marks.some_torn.Tie as tie
 

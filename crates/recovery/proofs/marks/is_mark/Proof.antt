@@ -1,3 +1,4 @@
+-- `is_mark` meets its contract.
 use borrow.Author.Needs.{needs}
 use Rattle.flash.specs.Geometry.{isLetter}
 use Rattle.flash.specs.Chip.{isMark}

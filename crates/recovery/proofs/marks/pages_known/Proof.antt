@@ -1,3 +1,4 @@
+-- `pages_known` meets its contract: only a letter is looked for.
 use mathlib.Core.Path.{_≡_, sym, _∙_}
 use mathlib.Core.Bool.{true, false}
 use native.Mathlib.Omega.{arith}

@@ -1,5 +1,6 @@
+-- `read_marks` meets its contract: the search knows what it has met, and what that tells at its end.
 use borrow.Author.Needs.{needs}
-use mathlib.Core.Path.{_≡_, sym, ap, _∙_}
+use mathlib.Core.Path.{_≡_, sym, _∙_}
 use mathlib.Core.Logic.{⊎-elim}
 use mathlib.Core.Bool.{true, false}
 use Prim.Native.Nat.{_+_, _-_, _*_, _≤_, _<_}
@@ -10,26 +11,25 @@ use borrow.Author.Tests.{eqb-true, eqb-false, not-true, not-false}
 use Rattle.flash.specs.Geometry.{letter}
 use Rattle.flash.specs.Chip.{isMark}
 use Rattle.flash.proofs.Bounds.{block-in-marks}
-use Rattle.recovery.specs.Found.{readingOf}
 use Rattle.recovery.proofs.Reading.{reads-illegal}
-use Rattle.recovery.proofs.Search.{Upto, Block, LegalBelow, legal-more, legal-all, change-in, torn-in, upto-none, known-in, block-known, legal-known, page-same, page-opens, page-first, page-second, block-changes, block-astray, block-kept}
-use Rattle.recovery.proofs.Tells.{reads-nothing, answered, found-second, tells}
+use Rattle.recovery.proofs.Search.{Upto, Block, LegalBelow, legal-more, legal-all, torn-in, upto-none, known-in, block-known, legal-known, page-same, page-opens, page-first, page-second, block-changes, block-astray, block-kept}
+use Rattle.recovery.proofs.Tells.{tells-none, tells-second, tells}
 use Rattle.recovery.proofs.marks.read_marks.Statement.{statement}
 use Rattle.recovery.proofs.marks.read_marks.Tie as tie
 
 abbrev Inv-loop : tie.InvT-loop
-Inv-loop sizes marks n m blocks unfinished₀ torn₀ top change block first letter known whole₀ page₀ unfinished torn whole page =
+Inv-loop sizes marks n m blocks unfinished₀ torn₀ upper change block first letter known whole₀ page₀ unfinished torn whole page =
     (page ≤ m) × Block sizes marks block page letter unfinished₀ torn₀ unfinished torn whole × LegalBelow sizes marks (block * m + page)
 
 abbrev μ-loop : tie.MeasureT-loop
-μ-loop sizes marks n m blocks unfinished₀ torn₀ top change block first letter known whole₀ page₀ unfinished torn whole page = m - page
+μ-loop sizes marks n m blocks unfinished₀ torn₀ upper change block first letter known whole₀ page₀ unfinished torn whole page = m - page
 
 abbrev Inv-search : tie.InvT-search
-Inv-search sizes marks n m blocks unfinished₀ torn₀ top₀ change₀ block₀ unfinished torn top change block =
-    (block ≤ n + 1) × (torn ≤ n) × Upto sizes marks block unfinished torn top change × LegalBelow sizes marks (block * m)
+Inv-search sizes marks n m blocks unfinished₀ torn₀ upper₀ change₀ block₀ unfinished torn upper change block =
+    (block ≤ n + 1) × (torn ≤ n) × Upto sizes marks block unfinished torn upper change × LegalBelow sizes marks (block * m)
 
 abbrev μ-search : tie.MeasureT-search
-μ-search sizes marks n m blocks unfinished₀ torn₀ top₀ change₀ block₀ unfinished torn top change block = n + 1 - block
+μ-search sizes marks n m blocks unfinished₀ torn₀ upper₀ change₀ block₀ unfinished torn upper change block = n + 1 - block
 
 add-blocks : tie.Need-add-blocks Inv-loop μ-loop Inv-search μ-search
 add-blocks c = search needs
@@ -41,8 +41,8 @@ search-holds : tie.Need-search-holds Inv-loop μ-loop Inv-search μ-search
 search-holds c =
     let a = c .before .before .args in
     let sizes = a .sizes in
-    let top : c .letter-after .result ≡ letter sizes 1 = c .letter-after .ensures in
-    (omega arith, omega arith, rw top (upto-none sizes (omega arith) (a .marks .now) 0), λ i h. absurd (omega arith))
+    let upper : c .letter-after .result ≡ letter sizes 1 = c .letter-after .ensures in
+    (omega arith, omega arith, rw upper (upto-none sizes (omega arith) (a .marks .now) 0), λ i h. absurd (omega arith))
 
 -- the block that is looked at lies within the marks
 room : (c : tie.In-search Inv-loop μ-loop Inv-search μ-search) → c .before .search .block * c .before .before .before .before .args .sizes .m + c .before .before .before .before .args .sizes .m ≤ length (c .before .before .before .before .args .marks .now)
@@ -89,7 +89,7 @@ returns c =
     let sizes = a .sizes in
     let pages : 0 < a .sizes .m = omega arith in
     let illegal : isMark (getD (a .marks .now) (o .block * a .sizes .m + l .page) 0) ≡ false = sym (c .before .is-mark .ensures) ∙ not-true _ (c .if1 .taken) in
-    answered _ _ (reads-nothing ∙ sym (reads-illegal sizes pages (a .marks .now) (o .block * a .sizes .m + l .page) (omega (arith, room b)) illegal))
+    tells-none sizes pages (a .marks .now) (reads-illegal sizes pages (a .marks .now) (o .block * a .sizes .m + l .page) (omega (arith, room b)) illegal)
 
 add-unfinished : tie.Need-add-unfinished Inv-loop μ-loop Inv-search μ-search
 add-unfinished c =
@@ -134,9 +134,8 @@ returns-2 c =
     let a = b .before .before .before .before .args in
     let sizes = a .sizes in
     let pages : 0 < a .sizes .m = omega arith in
-    answered _ _
-    (reads-nothing
-    ∙ sym (block-astray sizes pages (a .marks .now) (o .block) (l .page) _ _ _ _ _ _ _ (l .whole) (omega arith) (e .loop-test .left) (o .inv .2) (l .inv .1) (omega arith) (c .before .if4 .taken)))
+    tells-none sizes pages (a .marks .now)
+    (block-astray sizes pages (a .marks .now) (o .block) (l .page) _ _ _ _ _ _ _ (l .whole) (omega arith) (e .loop-test .left) (o .inv .2) (l .inv .1) (omega arith) (c .before .if4 .taken))
 
 add-block : tie.Need-add-block Inv-loop μ-loop Inv-search μ-search
 add-block c = search needs
@@ -164,13 +163,8 @@ search-again c =
 letter-after-requires-2 : tie.Need-letter-after-requires-2 Inv-loop μ-loop Inv-search μ-search
 letter-after-requires-2 c κs = search needs
 
-found-at-requires : tie.Need-found-at-requires Inv-loop μ-loop Inv-search μ-search
-found-at-requires c κs =
-    let t = c .before .before in
-    let a = t .before .before .before .args in
-    let sizes = a .sizes in
-    let change = change-in sizes (a .marks .now) _ _ _ _ _ (t .search .inv .2) in
-    ⊎-elim (λ w. (omega arith, omega arith, omega arith, change)) (λ w. (omega arith, omega arith, omega arith, change)) (c .before .search-test .came)
+moment-requires : tie.Need-moment-requires Inv-loop μ-loop Inv-search μ-search
+moment-requires c κs = ⊎-elim (λ w. omega arith) (λ w. omega arith) (c .before .search-test .came)
 
 returns-3 : tie.Need-returns-3 Inv-loop μ-loop Inv-search μ-search
 returns-3 c =
@@ -179,21 +173,21 @@ returns-3 c =
     let a = t .before .before .before .args in
     let sizes = a .sizes in
     let pages : 0 < a .sizes .m = omega arith in
-    let start : c .before .letter-after2 .result ≡ letter sizes 0 = c .before .letter-after2 .ensures in
-    answered _ _ (rw (c .found-at .ensures)
+    let final : c .before .letter-after2 .result ≡ letter sizes 2 = c .before .letter-after2 .ensures in
+    rw (c .moment .ensures)
     (⊎-elim
     (λ w.
     let end : o .block ≡ a .sizes .n + 1 = omega arith in
-    let U : Upto sizes (a .marks .now) (a .sizes .n + 1) (o .unfinished) (o .torn) (o .top) (o .change) = rw end at (o .inv .2) in
+    let U : Upto sizes (a .marks .now) (a .sizes .n + 1) (o .unfinished) (o .torn) (o .upper) (o .change) = rw end at (o .inv .2) in
     let legal = legal-all sizes (a .marks .now) (rw (c .before .before .before .before .before .before .pre .1, ← end) (o .inv .3)) in
-    rw (w .1, w .2, start)
-    (tells sizes pages (a .marks .now) _ _ _ _ U legal (eqb (o .top) (letter sizes 0)) (λ e. eqb-true _ _ e) (λ e. eqb-false _ _ e)))
+    rw (w .1, w .2, final)
+    (tells sizes pages (a .marks .now) _ _ _ _ U legal (eqb (o .upper) (letter sizes 2)) (λ e. eqb-true _ _ e) (λ e. eqb-false _ _ e)))
     (λ w.
     let l = w .3 in
     rw (w .10, w .9 .taken)
-    (ap readingOf (found-second _ _ _ _ _) ∙ reads-nothing
-    ∙ sym (page-second sizes pages (a .marks .now) (o .block) (l .page) _ _ _ _ (l .whole) (room (record { before = t; search-test = w .0 })) (w .4 .taken) (l .inv .1) _ _ (o .inv .2) (omega arith) (w .9 .taken) (w .8 .taken))))
-    (c .before .before .search-test .came)))
+    (tells-second sizes pages (a .marks .now) _ _ _
+    (page-second sizes pages (a .marks .now) (o .block) (l .page) _ _ _ _ (l .whole) (room (record { before = t; search-test = w .0 })) (w .4 .taken) (l .inv .1) _ _ (o .inv .2) (omega arith) (w .9 .taken) (w .8 .taken))))
+    (c .before .before .search-test .came))
 
 pub read-marks-spec : {M : Type 1} → statement M
 read-marks-spec =
@@ -223,5 +217,5 @@ read-marks-spec =
     search-less
     search-again
     letter-after-requires-2
-    found-at-requires
+    moment-requires
     returns-3)

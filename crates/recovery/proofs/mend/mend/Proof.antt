@@ -1,9 +1,9 @@
+-- `mend` meets its contract: each of its five ways out is a case of the definition.
 use borrow.Author.Needs.{needs}
 use mathlib.Core.Path.{_≡_, sym, ap, _∙_}
 use mathlib.Core.Bool.{true, false, _||_, not}
 use mathlib.Core.List.{List}
-use mathlib.Core.Option.{some}
-use Prim.Native.Nat.{ℕ}
+use Prim.Native.Nat.{ℕ, _≤_}
 use native.Mathlib.Omega.{arith}
 use lib.Dec.{eqb}
 use lib.ListN.{length}
@@ -13,8 +13,7 @@ use Rattle.flash.specs.Chip.{Chip}
 use Rattle.flash.proofs.Bounds.{in-range, block-in-store, block-in-marks}
 use Rattle.method.specs.Mend.{reading}
 use Rattle.method.specs.Answers.{badChip}
-use Rattle.recovery.specs.Found.{answerOf, readingOf}
-use Rattle.recovery.proofs.Reading.{torn-inside}
+use Rattle.recovery.specs.MarksRead.{answerOf, readingOf}
 use Rattle.recovery.proofs.Answer.{chip-lengths, refused-1, refused-2, refused-6, mended-full, mended-torn}
 use Rattle.recovery.proofs.Tells.{what-is-told}
 use Rattle.recovery.proofs.mend.mend.Statement.{statement}
@@ -78,31 +77,42 @@ enum-told c = search needs
 refused-requires-3 : tie.Need-refused-requires-3
 refused-requires-3 c κs = search needs
 
-enum-known-place : tie.Need-enum-known-place
-enum-known-place c = search needs
-
-enum-known-place-2 : tie.Need-enum-known-place-2
-enum-known-place-2 c = search needs
+enum-known-backward : tie.Need-enum-known-backward
+enum-known-backward c = search needs
 
 -- what the search tells
-told : (c : tie.After-read-marks) → (let a = c .before .before .before .before .before .before .before .before .before .args in readingOf (c .read-marks .result) ≡ reading (a .sizes) (a .marks .now))
-told c = what-is-told _ _ (c .read-marks .ensures)
+told : (c : tie.After-read-marks) → (let a = c .before .before .before .before .before .before .before .before .before .args in readingOf (a .sizes) (c .read-marks .result) ≡ reading (a .sizes) (a .marks .now))
+told c = what-is-told _ _ _ (c .read-marks .ensures .0)
 
--- and where a block is unfinished
-torn-told : (c : tie.After-place2) → (let a = c .before .before .before .before .before .before .before .before .before .before .before .args in reading (a .sizes) (a .marks .now) ≡ some (record { place = c .place2 .given .0 .0; toErase = some (c .place2 .given .0 .1 .0) }))
-unfolding answerOf
-torn-told c = sym (told (c .before .before)) ∙ ap readingOf (c .place2 .given .1)
+place-if-full-requires : tie.Need-place-if-full-requires
+place-if-full-requires c κs =
+    let t = c .before in
+    let k = t .before .before .before .before in
+    let B = in-range _ (in-ranges (k .before .before .before)) in
+    let S = rw (t .backward .given .1) at (t .before .before .read-marks .ensures .1) in
+    (B .n-high, B .m-high, S .0, S .1 .inside)
+
+enum-known-backward-2 : tie.Need-enum-known-backward-2
+enum-known-backward-2 c = search needs
+
+-- the unfinished block is one of the store's
+inside : (c : tie.After-backward2) → (let a = c .before .before .before .before .before .before .before .before .before .before .before .args in c .backward2 .given .0 .1 .0 ≤ a .sizes .n)
+inside c = (rw (c .backward2 .given .1) at (c .before .before .read-marks .ensures .1)) .inside
 
 erase-block-requires : tie.Need-erase-block-requires
 erase-block-requires c κs =
     let t = c .before .before .before in
     let k = t .before .before .before .before in
     let a = k .before .before .before .before .before .before .before .args in
-    let sizes = a .sizes in
-    let B = in-range sizes (in-ranges (k .before .before .before)) in
-    let L = chip-lengths sizes (chip (a .store .now) (a .marks .now)) (good k) in
-    let h = torn-inside sizes (B .m-low) (a .marks .now) (t .place2 .given .0 .0) (t .place2 .given .0 .1 .0) (torn-told t) in
-    (omega (arith, L .0, block-in-store sizes (t .place2 .given .0 .1 .0) h), omega (arith, L .1, block-in-marks sizes (t .place2 .given .0 .1 .0) h))
+    let L = chip-lengths (a .sizes) (chip (a .store .now) (a .marks .now)) (good k) in
+    let block = t .backward2 .given .0 .1 .0 in
+    (omega (arith, L .0, block-in-store (a .sizes) block (inside t)), omega (arith, L .1, block-in-marks (a .sizes) block (inside t)))
+
+place-if-torn-requires : tie.Need-place-if-torn-requires
+place-if-torn-requires c κs =
+    let t = c .before .before .before .before .before .before .before .before in
+    let B = in-range _ (in-ranges (t .before .before .before .before .before .before .before)) in
+    (B .n-high, B .m-high, inside t)
 
 same-length : tie.Need-same-length
 same-length c = search needs
@@ -114,7 +124,7 @@ returns-3 c =
     let k = r .before .before in
     let a = k .before .before .before .before .before .before .before .args in
     rw (c .refused3 .ensures)
-    (sym (refused-6 _ _ (in-ranges (k .before .before .before)) (good k) (sym (told r) ∙ ap readingOf (c .before .enum-told .given .1))))
+    (sym (refused-6 _ _ (in-ranges (k .before .before .before)) (good k) (sym (told r) ∙ ap (readingOf (a .sizes)) (c .before .enum-told .given .1))))
 
 same-length-2 : tie.Need-same-length-2
 same-length-2 c = search needs
@@ -122,10 +132,11 @@ same-length-2 c = search needs
 returns-4 : tie.Need-returns-4
 unfolding answerOf
 returns-4 c =
-    let r = c .before .before .before in
-    let k = r .before .before in
+    let t = c .before .before in
+    let k = t .before .before .before .before in
     let a = k .before .before .before .before .before .before .before .args in
-    sym (mended-full _ _ (in-ranges (k .before .before .before)) (good k) _ (sym (told r) ∙ ap readingOf (c .before .place .given .1)))
+    rw (c .place-if-full .ensures)
+    (sym (mended-full _ _ (in-ranges (k .before .before .before)) (good k) _ (sym (told (t .before .before)) ∙ ap (readingOf (a .sizes)) (t .backward .given .1))))
 
 same-length-3 : tie.Need-same-length-3
 same-length-3 c = search needs
@@ -134,15 +145,14 @@ same-length-4 : tie.Need-same-length-4
 same-length-4 c = search needs
 
 returns-5 : tie.Need-returns-5
+unfolding answerOf
 returns-5 c =
-    let e = c .before .before .before .before in
+    let e = c .before .before .before .before .before in
     let t = e .before .before .before .before in
     let k = t .before .before .before .before in
     let a = k .before .before .before .before .before .before .before .args in
-    let sizes = a .sizes in
-    let block = t .place2 .given .0 .1 .0 in
-    rw (e .erase-block .ensures .store-is, e .erase-block .ensures .marks-is)
-    (sym (mended-torn _ _ (in-ranges (k .before .before .before)) (good k) _ _ (torn-told t)))
+    rw (e .erase-block .ensures .store-is, e .erase-block .ensures .marks-is, c .place-if-torn .ensures)
+    (sym (mended-torn _ _ (in-ranges (k .before .before .before)) (good k) _ _ (sym (told (t .before .before)) ∙ ap (readingOf (a .sizes)) (t .backward2 .given .1))))
 
 pub mend-spec : {M : Type 1} → statement M
 mend-spec =
@@ -158,9 +168,11 @@ mend-spec =
     read-marks-requires
     enum-told
     refused-requires-3
-    enum-known-place
-    enum-known-place-2
+    enum-known-backward
+    place-if-full-requires
+    enum-known-backward-2
     erase-block-requires
+    place-if-torn-requires
     same-length
     returns-3
     same-length-2

@@ -25,7 +25,7 @@ put-line-requires c κs =
     let start = c .before .before .before .before .before .before .before .before .before .before .before .before .before .before .before .before .before .before in
     let a = start .args in
     let given = run-taken (moveOf (a .sizes) (a .list .now) (a .sets .now)) _ _ (a .place) (start .pre .0 .taken) .accepted .ranges in
-    (omega (arith, given), omega (arith, told (c .before .before .before .before .before .before .before .before) .short))
+    ((given, omega arith), omega (arith, told (c .before .before .before .before .before .before .before .before) .short))
 
 word-requires : tie.Need-word-requires
 word-requires c κs = search needs

@@ -3,8 +3,7 @@ use mathlib.Core.Path.{_≡_, refl, sym, ap, _∙_, subst}
 use mathlib.Core.Logic.{⊎-elim}
 use mathlib.Core.Bool.{Bool, true, false, cond, _&&_, not}
 use mathlib.Core.List.{List}
-use Prim.Native.Nat.{ℕ, suc, _+_, _-_, _*_, _/_, _%_, _≤_, _<_}
-use native.Mathlib.Nat.{div-lt-iff-lt-mul, suc-mul}
+use Prim.Native.Nat.{ℕ, _+_, _≤_, _<_}
 use native.Mathlib.Omega.{arith}
 use lib.Dec.{eqb, ltb}
 use lib.ListN.{length}
@@ -17,22 +16,18 @@ use Rattle.flash.proofs.Bools.{never-both, bool-eq}
 use Rattle.flash.proofs.Ranges.{all-in, all-is, all-not}
 use Rattle.flash.proofs.Same.{eq-same, ne-same}
 use Rattle.flash.proofs.Comparisons.{lt-cases}
-use Rattle.method.specs.Place.{Pass, forward, backward, lastPlace, passAt, filling, filled, Held, code, written, above, heldAt, heldMark, marksOf}
+use Rattle.method.specs.Place.{Pass, lastPlace, passAt, filling, filled, Held, code, written, above, heldAt, heldMark, marksOf}
 use Rattle.method.specs.Answers.{isElsewhere}
-use Rattle.method.proofs.places.StepsAtPlaces.{pages-in, forward-until, backward-from}
+use Rattle.method.proofs.places.StepsAtPlaces.{pages-in}
 use Rattle.method.proofs.places.PagesHeld.{held-below, held-above, held-written, held-blank, MarksAt, marksOf-at, marks-eq}
-use Rattle.places.specs.inner.Stands.{MarksDue, blockStands}
+use Rattle.places.specs.declared.place.Place.{Place}
+use Rattle.places.specs.inner.Place.{passOf, placeOf}
+use Rattle.places.proofs.PlaceLaws.{pass-is, block-is, page-is}
+use Rattle.places.specs.inner.BlockMarks.{MarksDue, blockStands}
 use Rattle.flash.proofs.Ranges.{none-full}
 
 module _ (Z : Sizes) (place : ℕ) where
-  open Sizes Z using (n, m, s)
-
-  -- the backward pass has n turns
-  pub turns-in : place ≤ lastPlace Z → (place - n * (m + 1)) / (m + 1) ≤ n
-  unfolding lastPlace
-  turns-in h =
-      let few = div-lt-iff-lt-mul {k = m + 1} {x = place - n * (m + 1)} {y = suc n} (omega arith) .1 (omega (arith, suc-mul n (m + 1))) in
-      omega arith
+  open Sizes Z using (m)
 
   -- ---- the marks of a block
   module _ (block : ℕ) where
@@ -44,46 +39,37 @@ module _ (Z : Sizes) (place : ℕ) where
     }
 
     -- the block that is being filled
-    due-part : (mark : ℕ) → block ≡ filling Z place → mark ≡ heldMark Z (written (passAt Z place)) → MarksDue Z place block mark (place % (m + 1))
-    unfolding filled heldMark
+    due-part : (mark : ℕ) → block ≡ filling Z place → mark ≡ heldMark Z (written (passAt Z place)) → MarksDue Z place block mark (filled Z place)
+    unfolding heldMark
     due-part mark here e = record {
       fits = pages-in Z place;
       mark-is = λ page h.
           ⊎-elim
-          (λ (l : page < place % (m + 1)). ap (heldMark Z) (held-written Z place block page here l) ∙ sym e ∙ rw (lt-ltb page (place % (m + 1)) l) refl)
-          (λ (l : place % (m + 1) ≤ page). ap (heldMark Z) (held-blank Z place block page here l) ∙ rw (le-ltb page (place % (m + 1)) l) refl)
-          (lt-cases page (place % (m + 1)));
+          (λ (l : page < filled Z place). ap (heldMark Z) (held-written Z place block page here l) ∙ sym e ∙ rw (lt-ltb page (filled Z place) l) refl)
+          (λ (l : filled Z place ≤ page). ap (heldMark Z) (held-blank Z place block page here l) ∙ rw (le-ltb page (filled Z place) l) refl)
+          (lt-cases page (filled Z place));
     }
 
-    module _ (b mark : ℕ) (filled-is : b ≡ filling Z place) where
-      pub due-below : block < b → mark ≡ (s + 1) % 3 → MarksDue Z place block mark m
-      unfolding heldMark letter
-      due-below h e = due-all code mark (λ page. held-below Z place block page (omega arith)) e
+-- the same by what the code holds of the place
+module _ (Z : Sizes) (here : Place) (is : here ≡ placeOf Z (here .at)) (block mark : ℕ) where
+  open Sizes Z using (m)
 
-      -- what lies above, and what the pass writes
-      due-above : (pass : Pass) → passAt Z place ≡ pass → b < block → mark ≡ heldMark Z (above pass) → MarksDue Z place block mark m
-      due-above pass p h e = due-all (above pass) mark (λ page. held-above Z place block page (omega arith) ∙ ap above p) e
+  abbrev Due : ℕ → Type 0
+  Due written = MarksDue Z (here .at) block mark written
 
-      due-here : (pass : Pass) → passAt Z place ≡ pass → b ≤ block → block ≤ b → mark ≡ heldMark Z (written pass) → MarksDue Z place block mark (place % (m + 1))
-      due-here pass p low high e = due-part mark (omega arith) (e ∙ ap (λ (x : Pass). heldMark Z (written x)) (sym p))
+  pub due-below : block < here .block → mark ≡ letter Z 1 → Due m
+  unfolding heldMark
+  due-below h e = due-all Z (here .at) block code mark (λ page. held-below Z (here .at) block page (omega (arith, block-is Z here is))) e
 
-      module _ (h : place < n * (m + 1)) where
-        pub due-plain : b < block → mark ≡ (s + 0) % 3 → MarksDue Z place block mark m
-        unfolding heldMark letter above
-        due-plain l e = due-above forward (forward-until Z place h) l e
+  pub due-above : here .block < block → mark ≡ heldMark Z (above (passOf (here .backward))) → Due m
+  due-above h e =
+      due-all Z (here .at) block (above (passOf (here .backward))) mark
+      (λ page. held-above Z (here .at) block page (omega (arith, block-is Z here is)) ∙ ap above (pass-is Z here is)) e
 
-        pub due-code : b ≤ block → block ≤ b → mark ≡ (s + 1) % 3 → MarksDue Z place block mark (place % (m + 1))
-        unfolding heldMark letter written
-        due-code low high e = due-here forward (forward-until Z place h) low high e
-
-      module _ (h : n * (m + 1) ≤ place) where
-        pub due-final : b < block → mark ≡ (s + 2) % 3 → MarksDue Z place block mark m
-        unfolding heldMark letter above
-        due-final l e = due-above backward (backward-from Z place h) l e
-
-        pub due-finals : b ≤ block → block ≤ b → mark ≡ (s + 2) % 3 → MarksDue Z place block mark (place % (m + 1))
-        unfolding heldMark letter written
-        due-finals low high e = due-here backward (backward-from Z place h) low high e
+  pub due-here : here .block ≤ block → block ≤ here .block → mark ≡ heldMark Z (written (passOf (here .backward))) → Due (here .page)
+  due-here low high e =
+      rw (page-is Z here is)
+      (due-part Z (here .at) block mark (omega (arith, block-is Z here is)) (e ∙ ap (λ (x : Pass). heldMark Z (written x)) (sym (pass-is Z here is))))
 
 -- ---- a block stands where each of its marks does
 all-same : (f g : ℕ → Bool) (size : ℕ) → ((j : ℕ) → j < size → f j ≡ g j) → all f (range 0 size) ≡ all g (range 0 size)

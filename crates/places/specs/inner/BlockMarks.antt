@@ -10,13 +10,6 @@ use Rattle.flash.specs.Geometry.{slot}
 use Rattle.flash.specs.Chip.{erased, markAt}
 use Rattle.method.specs.Place.{heldAt, heldMark}
 
--- sizes that are in their ranges, as far as marks depend on them
-pub record Within (Z : Sizes) : Type 0 where
-  pub n-high : Z .n ≤ 64
-  pub m-low : 1 ≤ Z .m
-  pub m-high : Z .m ≤ 64
-  pub s-high : Z .s < 3
-
 -- at the place the first `written` pages of the block have the letter, and the others are blank
 pub record MarksDue (Z : Sizes) (place block letter written : ℕ) : Type 0 where
   pub fits : written ≤ Z .m

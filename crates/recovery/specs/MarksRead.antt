@@ -1,0 +1,26 @@
+-- What each case of the code's enum stands for: document 01's number and values.
+use mathlib.Core.Bool.{Bool, cond}
+use mathlib.Core.Option.{Option, none, some}
+use Prim.Native.Nat.{ℕ, _+_, _-_, _*_}
+use Rattle.flash.specs.declared.sizes.Sizes.{Sizes}
+use Rattle.method.specs.Mend.{Reading}
+use Rattle.method.specs.Answers.{MarksAnswer}
+use Rattle.recovery.specs.declared.marks.MarksRead.{MarksRead}
+use Rattle.recovery.specs.declared.marks.MarksRead.the-variants.{NoMoment, Full, Torn}
+
+-- "The place is (i − 1) × (m + 1) + m", in the backward pass "(2 × n − b) × (m + 1) + m"
+unfoldable pub placeIfFull : Sizes → (isBackward : Bool) → (change : ℕ) → ℕ
+placeIfFull Z isBackward change = cond isBackward (2 * Z .n - change) (change - 1) * (Z .m + 1) + Z .m
+
+-- "The place is b × (m + 1)", in the backward pass "(2 × n − b) × (m + 1)"
+unfoldable pub placeIfTorn : Sizes → (isBackward : Bool) → (block : ℕ) → ℕ
+placeIfTorn Z isBackward block = cond isBackward (2 * Z .n - block) block * (Z .m + 1)
+
+-- each case: the number of the table of refusals, the place, and the block that mend erases
+unfoldable pub answerOf : Sizes → MarksRead → MarksAnswer
+answerOf Z NoMoment = record { number = 6; told = none }
+answerOf Z (Full isBackward change) = record { number = 0; told = some (record { place = placeIfFull Z isBackward change; toErase = none }) }
+answerOf Z (Torn isBackward block) = record { number = 0; told = some (record { place = placeIfTorn Z isBackward block; toErase = some block }) }
+
+abbrev pub readingOf : Sizes → MarksRead → Option Reading
+readingOf Z told = answerOf Z told .told
