@@ -40,19 +40,21 @@ static struct answer any_call(const struct mover *mover, struct scene *z, uint32
 /* Makes a move that stands somewhere. */
 static void make_standing(struct scene *z, const struct mover *mover, uint32_t place, uint32_t n, uint32_t m, uint64_t *random)
 {
-    scene_make(z, n, m, 1 + random_below(random, 40), RANDOM, random);
+    scene_make(z, n, m, 1 + random_below(random, 40), random_below(random, 8) == 0 ? CYCLE_UP : RANDOM, random);
     z->s = random_below(random, 3);
     memset(z->marks + m, (int)z->s, (size_t)n * m);
     call_split(mover, z);
     call_run(mover, z, 0, place);
 }
 
-/* One request, with the same fault for both. */
+/* One request, with the same fault for both. Most are small. */
 static int agree_once(const struct mover *a, const struct mover *b, uint64_t *random)
 {
     struct scene scene, first, second;
     struct answer one, two;
-    uint32_t n = 1 + random_below(random, 6), m = 1 + random_below(random, 5), last = 2 * n * (m + 1);
+    uint32_t big = random_below(random, 64) == 0;
+    uint32_t n = 1 + random_below(random, big ? 64 : 6), m = big ? 64 - random_below(random, 3) : 1 + random_below(random, 5);
+    uint32_t last = 2 * n * (m + 1);
     uint32_t place = random_below(random, last + 1), call = random_below(random, 4), budget = random_below(random, last + 3);
     uint32_t number = call == 3 ? random_below(random, n * m + 1) : random_below(random, 8) == 0 ? random_below(random, last + 3) : place;
     uint64_t same_fault;

@@ -3,7 +3,7 @@
 
 #include "scene.h"
 
-/* Makes so many small requests of all kinds, good and faulty, of both movers. Returns how many were answered differently. */
+/* Makes so many requests of all kinds and most sizes, good and faulty, of both movers. Returns how many were answered differently. */
 uint32_t disagreements(const struct mover *a, const struct mover *b, uint32_t requests, uint64_t *random);
 
 #endif

@@ -1,4 +1,4 @@
-/* The library beside the same method by hand in C: both in this process, in turn, the best of several rounds.
+/* The library beside the best mover that we can write by hand in C: both in this process, in turn, the best of several rounds.
  * Ends with status 1 if the two ever leave different bytes. */
 #define _POSIX_C_SOURCE 200809L
 
@@ -16,6 +16,9 @@
 #include <time.h>
 
 enum { LIBRARY, PLAIN, BOTH };
+
+/* Ratios above these are pointed out. */
+static const double AIM = 1.1, MEMCPY_AIM = 1.5, STACK_AIM_KIB = 20;
 
 static const struct mover movers[BOTH] = {
     {"library", mover_split, mover_run, mover_mend, mover_read},
@@ -39,12 +42,12 @@ static void stop(const char *what)
     exit(1);
 }
 
-/* What is measured: the scene before it, and a job that is timed on a fresh copy. */
+/* What is measured: the scene before it, a job that is timed on a fresh copy, and what the job needs to know. */
 struct task {
     const char *name;
     struct scene before;
     void (*job)(const struct mover *mover, struct scene *scene, const struct task *task);
-    uint32_t place, repeat;
+    uint32_t repeat;
 };
 
 static void put_back(struct scene *to, const struct scene *from)
@@ -55,8 +58,37 @@ static void put_back(struct scene *to, const struct scene *from)
     memcpy(to->work, from->work, from->work_len);
 }
 
-/* Times the two in turn; best nanoseconds of each. */
-static void measure(const struct task *task, double best[BOTH])
+static double least(double a, double b)
+{
+    return a < b ? a : b;
+}
+
+/* A memcpy of as many bytes as are summed: from one store to another, and page after page into one page. */
+struct copies {
+    struct scene to;
+    double stores, pages;
+};
+
+static void time_copies(struct copies *copies, const struct scene *from, uint64_t bytes)
+{
+    double began = now();
+    uint64_t done, part;
+    for (done = 0; done < bytes; done += part) {
+        part = bytes - done < from->store_len ? bytes - done : from->store_len;
+        memcpy(copies->to.store, from->store, part);
+        __asm__ volatile("" : : "r"(copies->to.store) : "memory");
+    }
+    copies->stores = least(copies->stores, now() - began);
+    began = now();
+    for (done = 0; done < bytes; done += from->page_bytes) {
+        memcpy(copies->to.work, from->store + done % from->store_len, from->page_bytes);
+        __asm__ volatile("" : : "r"(copies->to.work) : "memory");
+    }
+    copies->pages = least(copies->pages, now() - began);
+}
+
+/* Times the two in turn, and the copies if there are any; best nanoseconds of each. */
+static void measure(const struct task *task, double best[BOTH], struct copies *copies)
 {
     struct scene scenes[BOTH];
     for (int i = 0; i < BOTH; i++) {
@@ -64,18 +96,19 @@ static void measure(const struct task *task, double best[BOTH])
         best[i] = 1e18;
     }
     for (uint32_t round = 0; round < rounds; round++) {
+        plain_bytes_summed = 0;
         for (int j = 0; j < BOTH; j++) {
             int i = (int)(round + (uint32_t)j) % BOTH;
-            double began, took;
+            double began;
             put_back(&scenes[i], &task->before);
             began = now();
             task->job(&movers[i], &scenes[i], task);
-            took = now() - began;
-            if (took < best[i])
-                best[i] = took;
+            best[i] = least(best[i], now() - began);
         }
         if (!scene_same(&scenes[LIBRARY], &scenes[PLAIN]))
             stop(task->name);
+        if (copies != NULL)
+            time_copies(copies, &scenes[PLAIN], plain_bytes_summed);
     }
     for (int i = 0; i < BOTH; i++)
         scene_free(&scenes[i]);
@@ -89,10 +122,17 @@ static void must_be_done(struct answer answer, const struct task *task)
         stop(task->name);
 }
 
+/* Another list each time, so that the processor learns none by heart: the same numbers, begun at another entry. */
 static void split_job(const struct mover *mover, struct scene *scene, const struct task *task)
 {
-    for (uint32_t i = 0; i < task->repeat; i++)
-        must_be_done(call_split(mover, scene), task);
+    static uint8_t twice[4 * 64 * 64];
+    struct scene other = *scene;
+    memcpy(twice, scene->list, scene->list_len);
+    memcpy(twice + scene->list_len, scene->list, scene->list_len);
+    for (uint32_t i = 0; i < task->repeat; i++) {
+        other.list = twice + 2 * i;
+        must_be_done(call_split(mover, &other), task);
+    }
 }
 
 static void move_job(const struct mover *mover, struct scene *scene, const struct task *task)
@@ -114,104 +154,55 @@ static void mend_job(const struct mover *mover, struct scene *scene, const struc
         must_be_done(call_mend(mover, scene), task);
 }
 
-/* Every so-manieth original. */
+/* Some of the originals, at equal distances. */
 static void read_job(const struct mover *mover, struct scene *scene, const struct task *task)
 {
     for (uint32_t original = 0; original < scene->n * scene->m; original += task->repeat)
         must_be_done(call_read(mover, scene, original), task);
 }
 
-/* What is printed */
+/* The lines */
 
-static void print_times(const char *name, const double best[BOTH], double per, const char *unit)
+static void print_ratio(const char *name, double ratio, double aim)
 {
-    double ratio = best[LIBRARY] / best[PLAIN];
-    printf("  %-46s %11.2f %11.2f %-8s %6.2f%s\n", name, best[LIBRARY] / per, best[PLAIN] / per, unit, ratio,
-           ratio > 1.10 ? "  above 1.10" : "");
+    printf("  %-68s %6.2f%s\n", name, ratio, ratio > aim ? "  above the aim" : "");
     fflush(stdout);
 }
 
-/* A memcpy of so many bytes: from one store to another, and page after page into one page. */
-static void time_copies(const struct scene *scene, uint64_t bytes, double *stores, double *pages)
-{
-    struct scene other;
-    scene_copy(&other, scene);
-    *stores = *pages = 1e18;
-    for (uint32_t round = 0; round < 3; round++) {
-        double began = now();
-        uint64_t done, part;
-        for (done = 0; done < bytes; done += part) {
-            part = bytes - done < scene->store_len ? bytes - done : scene->store_len;
-            memcpy(other.store, scene->store, part);
-            __asm__ volatile("" : : "r"(other.store) : "memory");
-        }
-        *stores = now() - began < *stores ? now() - began : *stores;
-        began = now();
-        for (done = 0; done < bytes; done += scene->page_bytes) {
-            memcpy(other.work, scene->store + done % scene->store_len, scene->page_bytes);
-            __asm__ volatile("" : : "r"(other.work) : "memory");
-        }
-        *pages = now() - began < *pages ? now() - began : *pages;
-    }
-    scene_free(&other);
-}
-
-static void whole_move(const char *name, enum order order)
-{
-    struct task task = {name, {0}, move_job, 0, 1};
-    double best[BOTH], stores, pages, bytes;
-    uint64_t random = seed;
-    scene_make(&task.before, 64, 64, 4096, order, &random);
-    must_be_done(call_split(&movers[LIBRARY], &task.before), &task);
-    plain_bytes_summed = 0;
-    measure(&task, best);
-    bytes = (double)plain_bytes_summed / rounds;
-    print_times(name, best, 1e6, "ms");
-    time_copies(&task.before, (uint64_t)bytes, &stores, &pages);
-    printf("    a byte summed: library %.4f ns, plain C %.4f, memcpy %.4f; library / memcpy %.2f%s\n", best[LIBRARY] / bytes,
-           best[PLAIN] / bytes, stores / bytes, best[LIBRARY] / stores, best[LIBRARY] / stores > 1.5 ? "  above 1.5" : "");
-    printf("    %.1f MiB summed; memcpy of as many, page after page into one page: %.4f ns\n", bytes / 1048576, pages / bytes);
-    scene_free(&task.before);
-}
-
 /* A move that stands at a place. */
-static void make_standing(struct scene *scene, uint32_t n, uint32_t m, uint32_t page_bytes, uint32_t place)
+static void make_standing(struct scene *scene, uint32_t n, uint32_t m, uint32_t page_bytes, enum order order, uint32_t place)
 {
     uint64_t random = seed;
-    scene_make(scene, n, m, page_bytes, RANDOM, &random);
+    scene_make(scene, n, m, page_bytes, order, &random);
     call_split(&movers[LIBRARY], scene);
     call_run(&movers[LIBRARY], scene, 0, place);
 }
 
-static void standing(const char *name, uint32_t place, uint32_t repeat, double calls,
-                     void (*job)(const struct mover *, struct scene *, const struct task *))
+static void line(const char *name, uint32_t blocks, uint32_t page_bytes, enum order order, uint32_t place, uint32_t repeat,
+                 void (*job)(const struct mover *, struct scene *, const struct task *))
 {
-    struct task task = {name, {0}, job, place, repeat};
+    struct task task = {name, {0}, job, repeat};
     double best[BOTH];
-    make_standing(&task.before, 64, 64, 4096, place);
-    measure(&task, best);
-    print_times(name, best, calls * 1e3, "us");
+    make_standing(&task.before, blocks, blocks, page_bytes, order, place);
+    measure(&task, best, NULL);
+    print_ratio(name, best[LIBRARY] / best[PLAIN], AIM);
     scene_free(&task.before);
 }
 
-static void split_times(void)
+static void whole_move(const char *name, enum order order)
 {
-    struct task task = {"split, n = m = 64", {0}, split_job, 0, 20};
+    struct task task = {name, {0}, move_job, 1};
+    struct copies copies = {{0}, 1e18, 1e18};
     double best[BOTH];
-    uint64_t random = seed;
-    scene_make(&task.before, 64, 64, 1, RANDOM, &random);
-    measure(&task, best);
-    print_times(task.name, best, 20e3, "us");
-    scene_free(&task.before);
-}
-
-static void step_times(void)
-{
-    struct task task = {"runs of budget 1, n = m = 16, P = 512", {0}, steps_job, 0, 1};
-    double best[BOTH];
-    make_standing(&task.before, 16, 16, 512, 0);
-    measure(&task, best);
-    print_times(task.name, best, 544e3, "us");
+    make_standing(&task.before, 64, 64, 4096, order, 0);
+    scene_copy(&copies.to, &task.before);
+    measure(&task, best, &copies);
+    print_ratio(name, best[LIBRARY] / best[PLAIN], AIM);
+    print_ratio("  library / memcpy of the bytes summed, store to store", best[LIBRARY] / copies.stores, MEMCPY_AIM);
+    printf("    %-66s %6.2f\n", "plain C / the same", best[PLAIN] / copies.stores);
+    printf("    %-66s %6.2f\n", "library / memcpy of them, page after page into one page", best[LIBRARY] / copies.pages);
+    printf("    %-66s %6.2f\n", "plain C / the same", best[PLAIN] / copies.pages);
+    scene_free(&copies.to);
     scene_free(&task.before);
 }
 
@@ -249,10 +240,10 @@ static void print_stack(void)
 {
     static const char *const names[] = {"split", "run", "mend", "read"};
     struct scene scene;
-    make_standing(&scene, 64, 64, 4096, 4160);
+    make_standing(&scene, 64, 64, 4096, RANDOM, 4160);
     for (int call = 0; call < 4; call++) {
         double library = stack_kib(&movers[LIBRARY], &scene, call), plain = stack_kib(&movers[PLAIN], &scene, call);
-        printf("  stack of %-37s %11.2f %11.2f KiB%s\n", names[call], library, plain, library >= 20 ? "            above 20" : "");
+        printf("  %-50s %6.2f KiB %8.2f KiB%s\n", names[call], library, plain, library >= STACK_AIM_KIB ? "  above the aim" : "");
     }
     scene_free(&scene);
 }
@@ -263,8 +254,8 @@ static void compare(void)
     uint64_t random = seed;
     uint32_t different = disagreements(&movers[LIBRARY], &movers[PLAIN], REQUESTS, &random);
     if (different != 0)
-        stop("small requests");
-    printf("%d small requests of all kinds, faulty ones included: answered alike\n\n", (int)REQUESTS);
+        stop("requests");
+    printf("%d requests of all kinds, faulty ones included: answered alike\n\n", (int)REQUESTS);
 }
 
 int main(int count, char **words)
@@ -278,17 +269,22 @@ int main(int count, char **words)
         return 2;
     }
     compare();
-    printf("best of %" PRIu32 " rounds %42s %11s %15s\n", rounds, movers[LIBRARY].name, movers[PLAIN].name, "ratio");
-    split_times();
+    printf("library / plain C, best of %" PRIu32 " rounds\n", rounds);
+    line("split, n = m = 64, random lists", 64, 1, RANDOM, 0, 20, split_job);
+    line("split, n = m = 64, page p of block i to block p", 64, 1, TRANSPOSED, 0, 1, split_job);
     whole_move("whole move, n = m = 64, P = 4096, random list", RANDOM);
-    whole_move("whole move, one cycle of all blocks in each set", ONE_CYCLE);
-    step_times();
-    standing("mend, a block to erase, n = m = 64, P = 4096", 65 * 30 + 20, 50, 50, mend_job);
-    standing("mend, no block to erase", 65 * 30 + 64, 2000, 2000, mend_job);
-    standing("read, a quarter of the move done, P = 4096", 65 * 32 + 7, 8, 512, read_job);
-    standing("read, half of it", 65 * 64 + 7, 8, 512, read_job);
-    standing("read, three quarters of it", 65 * 96 + 7, 8, 512, read_job);
-    printf("\n");
+    whole_move("whole move, one cycle of all blocks in each set, up", CYCLE_UP);
+    whole_move("whole move, one cycle of all blocks in each set, down", CYCLE_DOWN);
+    line("whole move in one call, n = m = 16, P = 512", 16, 512, RANDOM, 0, 1, move_job);
+    line("whole move by calls of budget 1, n = m = 16, P = 512", 16, 512, RANDOM, 0, 1, steps_job);
+    line("read, n = m = 64, P = 4096, random list, a quarter of the move done", 64, 4096, RANDOM, 65 * 32 + 7, 8, read_job);
+    line("read, half of it", 64, 4096, RANDOM, 65 * 64 + 7, 8, read_job);
+    line("read, three quarters of it", 64, 4096, RANDOM, 65 * 96 + 7, 8, read_job);
+    line("read, one cycle of all blocks in each set, a quarter of it", 64, 4096, CYCLE_UP, 65 * 32 + 7, 8, read_job);
+    line("read, one cycle of all blocks in each set, three quarters of it", 64, 4096, CYCLE_UP, 65 * 96 + 7, 8, read_job);
+    line("mend, n = m = 64, P = 4096, a block to erase", 64, 4096, RANDOM, 65 * 30 + 20, 50, mend_job);
+    line("mend, no block to erase", 64, 4096, RANDOM, 65 * 30 + 64, 2000, mend_job);
+    printf("\ndeepest stack %46s %12s\n", movers[LIBRARY].name, movers[PLAIN].name);
     print_stack();
     return 0;
 }

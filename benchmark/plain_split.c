@@ -1,68 +1,71 @@
-/* The split by hand. */
+/* The split by hand. Pages are taken in ascending order, so every block before the page's own has all sets, and its own has those
+ * below the page's number: that number is the lowest free set there. A walk comes to a source by a page of that set, so never to
+ * the page's own block; it goes on from every source, and ends at a destination. */
 #include "plain.h"
-#include "plain_check.h"
+#include "plain_inner.h"
 
-#include <string.h>
-
-/* Pages are edges between two rows of blocks, sets are colours. */
-struct colouring {
-    uint64_t used[2][BLOCKS];              /* the sets used at each block, as a source and as a destination */
-    uint16_t page[2][BLOCKS][PAGES];       /* the page of each set there */
+struct edge {
+    uint8_t to, page;
 };
 
-static void put(struct colouring *c, uint32_t side, uint32_t block, uint32_t set, uint32_t k)
-{
-    c->used[side][block] |= UINT64_C(1) << set;
-    c->page[side][block][set] = (uint16_t)k;
-}
+struct colouring {
+    uint64_t used[BLOCKS];                 /* by destination: its sets */
+    uint8_t source[PAGES][BLOCKS];         /* by set and destination: the block that its page comes from, or NONE */
+    struct edge edge[PAGES][BLOCKS];       /* by set and source: its page, and the block where that goes */
+};
 
 static uint32_t lowest_free(uint64_t used)
 {
+#ifdef __GNUC__
     return (uint32_t)__builtin_ctzll(~used);
+#else
+    uint32_t set = 0;
+    while (used >> set & 1)
+        set++;
+    return set;
+#endif
 }
 
-/* Exchanges a and b along the walk that starts at a destination with its page of set a. */
-static void exchange(struct colouring *c, const uint8_t *list, uint32_t m, uint8_t *sets, uint32_t start, uint32_t a, uint32_t b)
+/* Exchanges a and b on the walk that starts at a destination with its page of set a. If it has none, the walk is empty, and what
+ * is done to the masks comes to the same: the destination gets a. */
+static void exchange(struct colouring *c, size_t start, size_t a, size_t b)
 {
-    uint32_t side = 1, block = start, old = a, new = b, k = c->page[1][start][a];
-    c->used[1][start] &= ~(UINT64_C(1) << a);
-    for (;;) {
-        uint32_t far, next;
-        int more;
-        put(c, side, block, new, k);
-        sets[k] = (uint8_t)new;
-        side ^= 1;
-        far = side ? entry(list, k) / m : k / m;
-        more = (int)(c->used[side][far] >> new & 1);
-        next = c->page[side][far][new];
-        put(c, side, far, new, k);
-        if (!more) {
-            c->used[side][far] &= ~(UINT64_C(1) << old);
-            return;
-        }
-        block = far;
-        k = next;
-        far = old;
-        old = new;
-        new = far;
+    uint8_t *source_a = c->source[a], *source_b = c->source[b];
+    struct edge *edge_a = c->edge[a], *edge_b = c->edge[b];
+    size_t at = start, source = source_a[at];
+    while (source != NONE) {
+        struct edge next = edge_b[source];
+        size_t before = source;
+        source_b[at] = (uint8_t)source;
+        edge_b[source] = edge_a[source];
+        edge_a[source] = next;
+        at = next.to;
+        source = source_a[at];
+        source_a[at] = (uint8_t)before;
     }
+    source_b[at] = NONE;
+    c->used[start] ^= UINT64_C(1) << b;
+    c->used[at] ^= UINT64_C(1) << a ^ UINT64_C(1) << b;
 }
 
-static void colour(const struct sizes *z, const uint8_t *list, uint8_t *sets)
+static void colour(size_t n, size_t m, const uint8_t *list, uint8_t *sets)
 {
     struct colouring c;
-    uint32_t k = 0;
-    memset(c.used, 0, sizeof c.used);
-    for (uint32_t source = 0; source < z->n; source++)
-        for (uint32_t page = 0; page < z->m; page++, k++) {
-            uint32_t target = entry(list, k) / z->m;
-            uint32_t a = lowest_free(c.used[0][source]);
-            if (c.used[1][target] >> a & 1)
-                exchange(&c, list, z->m, sets, target, a, lowest_free(c.used[1][target]));
-            sets[k] = (uint8_t)a;
-            put(&c, 0, source, a, k);
-            put(&c, 1, target, a, k);
+    uint32_t inverse = inverse_of((uint32_t)m);
+    size_t k = 0;
+    memset(c.used, 0, n * sizeof c.used[0]);
+    memset(c.source, NONE, m * sizeof c.source[0]);
+    for (size_t block = 0; block < n; block++)
+        for (size_t page = 0; page < m; page++, k++) {
+            size_t to = block_of(entry(list, k), inverse);
+            exchange(&c, to, page, lowest_free(c.used[to]));
+            c.source[page][to] = (uint8_t)block;
+            c.edge[page][block].to = (uint8_t)to;
+            c.edge[page][block].page = (uint8_t)page;
         }
+    for (size_t block = 0; block < n; block++)
+        for (size_t set = 0; set < m; set++)
+            sets[block * m + c.edge[set][block].page] = (uint8_t)set;
 }
 
 uint32_t plain_split(uint32_t n, uint32_t m, uint32_t page_bytes, uint32_t s,
@@ -73,8 +76,8 @@ uint32_t plain_split(uint32_t n, uint32_t m, uint32_t page_bytes, uint32_t s,
         return 1;
     if (list_len != 2 * n * m || sets_len != n * m)
         return 2;
-    if (!one_to_one(list, n * m))
+    if (!plain_one_to_one(list, n * m))
         return 3;
-    colour(&z, list, sets);
+    colour(n, m, list, sets);
     return 0;
 }

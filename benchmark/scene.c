@@ -60,13 +60,24 @@ static void make_parts(struct scene *z)
     z->work = take(z->work_len);
 }
 
+static uint32_t number_of(const struct scene *z, enum order order, uint32_t k)
+{
+    uint32_t count = z->n * z->m;
+    switch (order) {
+    case CYCLE_UP: return (k + z->m) % count;
+    case CYCLE_DOWN: return (k + count - z->m) % count;
+    case TRANSPOSED: return k % z->m * z->m + k / z->m;
+    default: return k;
+    }
+}
+
 static void make_list(struct scene *z, enum order order, uint64_t *random)
 {
     uint32_t numbers[64 * 64], count = z->n * z->m;
     for (uint32_t k = 0; k < count; k++) {
         uint32_t other = order == RANDOM ? random_below(random, k + 1) : k;
         numbers[k] = numbers[other];
-        numbers[other] = order == RANDOM ? k : (k + z->m) % count;
+        numbers[other] = number_of(z, order, k);
     }
     for (uint32_t k = 0; k < count; k++)
         mover_send(z->list, k, numbers[k]);

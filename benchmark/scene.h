@@ -32,7 +32,9 @@ struct answer call_run(const struct mover *mover, struct scene *scene, uint32_t 
 struct answer call_mend(const struct mover *mover, struct scene *scene);
 struct answer call_read(const struct mover *mover, struct scene *scene, uint32_t original);
 
-enum order { RANDOM, ONE_CYCLE };
+/* Lists: random; every page to the next block or to the one before, which makes one cycle of all blocks in each set; page p of
+ * block i to block p, for n = m. */
+enum order { RANDOM, CYCLE_UP, CYCLE_DOWN, TRANSPOSED };
 
 /* A scene at rest with random pages; ends the program if there is no memory. */
 void scene_make(struct scene *scene, uint32_t n, uint32_t m, uint32_t page_bytes, enum order order, uint64_t *random);

@@ -4,6 +4,11 @@
  * own, by a list. It is a row of 2 * n * (m + 1) steps; a step writes one page or erases one block. Power may fail at any moment:
  * recovery brings the move to a place from which it goes on, and every original page can be read all the time.
  *
+ * Besides the flash, these must outlast a power cut until the move is finished: the list, n, m, page_bytes and s; the sets too,
+ * unless mover_split makes them again from the same list. A page's mark must be programmed last, or together with the page: a
+ * page whose write was cut must show mark 255. What else a cut may leave: pages of a block that was being erased, each as it was,
+ * or with mark 255 and any bytes.
+ *
  * Every call is total: it takes any numbers and any lengths, tests them, and either carries out the request and returns 0, or
  * returns the first refusal number that fits. No call allocates, prints or keeps anything.
  *
@@ -43,7 +48,7 @@ extern "C" {
 enum mover_refusal {
     MOVER_DONE = 0,          /* carried out */
     MOVER_BAD_SIZES = 1,     /* n, m, page_bytes or s out of its range */
-    MOVER_BAD_LENGTH = 2,    /* a lent part not of its exact length */
+    MOVER_BAD_LENGTH = 2,    /* the length of a lent part is wrong */
     MOVER_BAD_LIST = 3,      /* a list entry at or above n * m, or met twice */
     MOVER_BAD_SPLIT = 4,     /* the sets aren't a split of the list */
     MOVER_BAD_PLACE = 5,     /* place above 2 * n * (m + 1), marks other than that place has, or a page marked 255 not blank */
@@ -58,8 +63,8 @@ enum mover_kind {
     MOVER_END = 2            /* nothing: the move is finished */
 };
 
-/* Splits the list into m sets, each with one page from each data block and one page to each, and fills `sets`. What was in `sets`
- * does not matter. The same list always gives the same sets, so they need not be kept over a power cut.
+/* Splits the list into m sets, in each of which every data block sends one page and gets one, and fills `sets`. What was in `sets`
+ * does not matter. The same list always gives the same sets, so after a power cut they can be made again from the list.
  * Returns 0, or 1, 2 or 3. */
 uint32_t mover_split(uint32_t n, uint32_t m, uint32_t page_bytes, uint32_t s,
                      const uint8_t *list, uint64_t list_len, uint8_t *sets, uint64_t sets_len);

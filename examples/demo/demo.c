@@ -1,7 +1,8 @@
 /* A move of pages on a flash chip whose power fails again and again.
  *
  * The chip is driven as a real one would be: the library takes one step on an image of the chip in RAM, and the program then does
- * the same on the chip. A power cut takes the image away. What is left is the chip, the list, and nothing else. */
+ * the same on the chip. A power cut takes the image away. What is left is the chip, the list,
+ * the sizes and s. */
 #define _POSIX_C_SOURCE 200809L
 
 #include "chip.h"

@@ -1,0 +1,82 @@
+/* What the files of the mover by hand share. Data blocks are counted from 0 here: number j is block j + 1 of the store. */
+#ifndef PLAIN_INNER_H
+#define PLAIN_INNER_H
+
+#include <stddef.h>
+#include <stdint.h>
+#include <string.h>
+
+enum { BLOCKS = 64, PAGES = 64, ORIGINALS = BLOCKS * PAGES, ERASED = 255, NONE = 255 };
+
+struct sizes {
+    uint32_t n, m, p, s;
+};
+
+static inline int sizes_fit(const struct sizes *z)
+{
+    return z->n - 1 < BLOCKS && z->m - 1 < PAGES && z->p - 1 < 4096 && z->s <= 2;
+}
+
+static inline uint8_t letter(const struct sizes *z, uint32_t i)
+{
+    return (uint8_t)((z->s + i) % 3);
+}
+
+/* Entry k, two bytes, low byte first: one load where the machine has that order. */
+static inline uint32_t entry(const uint8_t *list, size_t k)
+{
+#if defined(__BYTE_ORDER__) && __BYTE_ORDER__ == __ORDER_LITTLE_ENDIAN__
+    uint16_t number;
+    memcpy(&number, list + 2 * k, 2);
+    return number;
+#else
+    return list[2 * k] | (uint32_t)list[2 * k + 1] << 8;
+#endif
+}
+
+/* A number below 64 * m is divided by m as block_of(number, inverse_of(m)). */
+static inline uint32_t inverse_of(uint32_t m)
+{
+    return (UINT32_C(1) << 20) / m + 1;
+}
+
+static inline uint32_t block_of(uint32_t number, uint32_t inverse)
+{
+    return number * inverse >> 20;
+}
+
+/* Bytes that equal their neighbours are all the same, and memcmp is the fastest loop there is. At a distance of 64 both sides of
+ * it are aligned alike. */
+static inline int all_are(const uint8_t *bytes, uint64_t count, uint8_t value)
+{
+    if (count <= 64)
+        return count == 0 || (bytes[0] == value && memcmp(bytes, bytes + 1, count - 1) == 0);
+    return bytes[0] == value && memcmp(bytes, bytes + 1, 63) == 0 && memcmp(bytes, bytes + 64, count - 64) == 0;
+}
+
+/* One set, by block: which page is the set's, the block that it goes to, and the block whose page comes. */
+struct row {
+    uint8_t page[BLOCKS], to[BLOCKS], from[BLOCKS];
+};
+
+/* plain_check.c: lists, sets, and the refusals 1 to 4 of run and read. set_of gets the set of the original that goes to each number. */
+int plain_one_to_one(const uint8_t *list, uint32_t originals);
+uint32_t plain_refusal(const struct sizes *z, const uint8_t *list, uint64_t list_len, const uint8_t *sets, uint64_t sets_len,
+                       uint64_t store_len, uint64_t marks_len, uint64_t work_len, uint8_t *set_of);
+void plain_row(struct row *row, const struct sizes *z, const uint8_t *list, const uint8_t *sets, uint32_t set);
+void plain_rows(struct row *rows, const struct sizes *z, const uint8_t *list, const uint8_t *sets);
+
+/* plain_marks.c: blocks of the store below `block` are full of s + 1; from it on, or above it if it is torn, they are full of s
+ * (forward) or of s + 2. */
+struct moment {
+    uint32_t block;
+    int torn, forward;
+};
+
+int plain_moment(const struct sizes *z, const uint8_t *marks, struct moment *found);
+void plain_erase(const struct sizes *z, uint8_t *store, uint8_t *marks, uint32_t block);
+
+/* plain_sum.c: `to` becomes the sum of the pages, which are 1 or more and lie elsewhere. */
+void plain_sum(uint8_t *to, const uint8_t *const *pages, uint32_t count, uint32_t bytes);
+
+#endif

@@ -1,0 +1,118 @@
+/* Read by hand. Only the rows of the original's own set are made; the marks are read once, and what a block holds follows. */
+#include "plain.h"
+#include "plain_inner.h"
+
+struct reading {
+    const uint8_t *store, *list, *pages[BLOCKS + 1];
+    uint32_t n, m, p, set;
+    struct row row;
+};
+
+static const uint8_t *slot(const struct reading *r, uint32_t number)
+{
+    return r->store + (uint64_t)number * r->p;
+}
+
+static const uint8_t *coded(const struct reading *r, uint32_t v)
+{
+    return slot(r, v * r->m + r->set);
+}
+
+static const uint8_t *plain(const struct reading *r, uint32_t v)
+{
+    return slot(r, (v + 1) * r->m + r->row.page[v]);
+}
+
+static const uint8_t *final(const struct reading *r, uint32_t v)
+{
+    return slot(r, r->m + entry(r->list, v * r->m + r->row.page[v]));
+}
+
+/* Back from v to a block from `whole` on, which is plain, or to the top, which is known once the walk has come round. */
+static uint32_t back(struct reading *r, uint32_t v, uint32_t whole)
+{
+    uint32_t u = v, count = 0, top = 0, to_top = 0;
+    do {
+        r->pages[count++] = coded(r, u);
+        if (u >= top) {
+            top = u;
+            to_top = count;
+        }
+        u = r->row.from[u];
+        if (u >= whole) {
+            r->pages[count++] = plain(r, u);
+            return count;
+        }
+    } while (u != v);
+    return to_top;
+}
+
+/* On from v to a destination from `done` on, whose final page is there. */
+static uint32_t on(struct reading *r, uint32_t v, uint32_t done)
+{
+    uint32_t count = 0;
+    do {
+        v = r->row.to[v];
+        r->pages[count++] = coded(r, v);
+    } while (r->row.to[v] < done);
+    r->pages[count++] = final(r, v);
+    return count;
+}
+
+/* Whether the top of v's cycle is below a block. */
+static int top_below(const struct row *row, uint32_t v, uint32_t block)
+{
+    uint32_t u = v;
+    while (u < block) {
+        u = row->to[u];
+        if (u == v)
+            return 1;
+    }
+    return 0;
+}
+
+/* The pages to sum for the original of block v. */
+static uint32_t gather(struct reading *r, const struct moment *at, uint32_t v)
+{
+    uint32_t above = at->torn ? at->block : at->block - 1;
+    if (at->forward) {
+        if (v < above)
+            return back(r, v, above);
+        r->pages[0] = plain(r, v);
+        return 1;
+    }
+    if (r->row.to[v] >= above) {
+        r->pages[0] = final(r, v);
+        return 1;
+    }
+    return top_below(&r->row, v, at->block) ? back(r, v, r->n) : on(r, v, above);
+}
+
+uint32_t plain_read(uint32_t n, uint32_t m, uint32_t page_bytes, uint32_t s,
+                    const uint8_t *list, uint64_t list_len, const uint8_t *sets, uint64_t sets_len,
+                    const uint8_t *store, uint64_t store_len, const uint8_t *marks, uint64_t marks_len,
+                    uint8_t *work, uint64_t work_len, uint32_t original, uint32_t *count)
+{
+    struct sizes z = {n, m, page_bytes, s};
+    struct moment at;
+    struct reading r;
+    uint8_t set_of[ORIGINALS];
+    uint32_t number = plain_refusal(&z, list, list_len, sets, sets_len, store_len, marks_len, work_len, set_of);
+    *count = 0;
+    if (number != 0)
+        return number;
+    if (!plain_moment(&z, marks, &at))
+        return 6;
+    if (original >= n * m)
+        return 7;
+    r.store = store;
+    r.list = list;
+    r.n = n;
+    r.m = m;
+    r.p = page_bytes;
+    r.set = sets[original];
+    plain_row(&r.row, &z, list, sets, r.set);
+    *count = gather(&r, &at, original / m);
+    plain_sum(work, r.pages, *count, page_bytes);
+    return 0;
+}
