@@ -121,7 +121,8 @@ static void print_work(const struct demo *demo)
 static void print_losses(const struct demo *demo)
 {
     uint32_t pages = demo->moves_ended * demo->options.blocks * demo->options.pages;
-    printf("  in place    %" PRIu32 " of %" PRIu32 " page%s\n", pages - demo->pages_lost, pages, s(pages));
+    printf("  in place    %" PRIu32 " of %" PRIu32 " page%s%s\n", pages - demo->pages_lost, pages, s(pages),
+           demo->moves_stopped == 0 ? "" : " of the moves that came to their end");
     if (demo->pages_lost != 0)
         printf("  LOST        %" PRIu32 " page%s in %" PRIu32 " of %" PRIu32 " move%s\n", demo->pages_lost, s(demo->pages_lost),
                demo->moves_with_loss, demo->options.moves, s(demo->options.moves));
