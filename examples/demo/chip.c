@@ -1,135 +1,90 @@
 #include "chip.h"
-#include "random.h"
+#include "spare.h"
 
-#include <stdlib.h>
 #include <string.h>
-
-enum { BLANK = 255 };
-
-static uint64_t slot_of(const struct chip *chip, uint32_t block, uint32_t page)
-{
-    return (uint64_t)block * chip->pages + page;
-}
-
-static uint8_t *page_at(const struct chip *chip, uint64_t slot)
-{
-    return chip->bytes + slot * chip->page_bytes;
-}
 
 int chip_make(struct chip *chip, uint32_t blocks, uint32_t pages, uint32_t page_bytes, uint64_t seed)
 {
-    size_t slots = (size_t)blocks * pages;
-    memset(chip, 0, sizeof *chip);
-    chip->blocks = blocks;
-    chip->pages = pages;
-    chip->page_bytes = page_bytes;
-    chip->random = seed;
-    chip->bytes = malloc(slots * page_bytes);
-    chip->marks = malloc(slots);
-    chip->erases = calloc(blocks, sizeof *chip->erases);
-    if (chip->bytes == NULL || chip->marks == NULL || chip->erases == NULL) {
-        chip_free(chip);
-        return 0;
-    }
-    memset(chip->bytes, BLANK, slots * page_bytes);
-    memset(chip->marks, BLANK, slots);
-    return 1;
+    chip->cells.blocks = blocks;
+    chip->cells.pages = pages;
+    chip->cells.page_bytes = page_bytes;
+    chip->cells.spare_bytes = SPARE_BYTES;
+    chip->cells.random = seed;
+    return cells_make(&chip->cells);
 }
 
 void chip_free(struct chip *chip)
 {
-    free(chip->bytes);
-    free(chip->marks);
-    free(chip->erases);
+    cells_free(&chip->cells);
 }
 
-/* Whether the power fails at this operation. */
-static int fails_now(struct chip *chip)
+/* What is to be in the spare area of a page. A raw mark is a byte, and the others stay blank. */
+static void make_spare(const struct chip *chip, uint8_t *spare, uint32_t mark, uint64_t slot, const uint8_t *bytes)
 {
-    return chip->fuse != 0 && --chip->fuse == 0;
-}
-
-/* A page that the power left in the middle: no mark, any bytes. Now and then it looks blank, as a real one may. */
-static void tear(struct chip *chip, uint64_t slot)
-{
-    chip->marks[slot] = BLANK;
-    if (random_below(&chip->random, 8) == 0)
-        memset(page_at(chip, slot), BLANK, chip->page_bytes);
+    memset(spare, BLANK, SPARE_BYTES);
+    if (chip->raw)
+        spare[0] = (uint8_t)mark;
     else
-        random_bytes(&chip->random, page_at(chip, slot), chip->page_bytes);
+        spare_make(spare, mark, slot, bytes, chip->cells.page_bytes);
 }
 
-static int is_blank(const struct chip *chip, uint64_t slot)
+static uint8_t mark_of(const struct chip *chip, uint64_t slot)
 {
-    const uint8_t *page = page_at(chip, slot);
-    if (chip->marks[slot] != BLANK)
-        return 0;
-    for (uint32_t i = 0; i < chip->page_bytes; i++)
-        if (page[i] != BLANK)
+    const uint8_t *spare = cells_spare(&chip->cells, slot);
+    if (chip->raw)
+        return spare[0] <= 2 ? spare[0] : BLANK;
+    return spare_mark(spare, slot, cells_page(&chip->cells, slot), chip->cells.page_bytes);
+}
+
+static int all_blank(const uint8_t *bytes, uint32_t count)
+{
+    for (uint32_t i = 0; i < count; i++)
+        if (bytes[i] != BLANK)
             return 0;
     return 1;
 }
 
-/* Most cuts fall inside an operation, since these take their time. */
-enum moment { BEFORE, INSIDE, AFTER };
-
-static enum moment moment_of_cut(struct chip *chip)
+void chip_fill(struct chip *chip, const uint8_t *bytes, uint32_t letter)
 {
-    uint32_t moment = random_below(&chip->random, 10);
-    if (moment == 0) {
-        chip->cut_before++;
-        return BEFORE;
+    struct cells *cells = &chip->cells;
+    cells_clear(cells);
+    for (uint64_t slot = cells->pages; slot < (uint64_t)cells->blocks * cells->pages; slot++, bytes += cells->page_bytes) {
+        memcpy(cells_page(cells, slot), bytes, cells->page_bytes);
+        make_spare(chip, cells_spare(cells, slot), letter, slot, bytes);
     }
-    if (moment == 1) {
-        chip->cut_after++;
-        return AFTER;
+}
+
+void chip_load(struct chip *chip, uint8_t *store, uint8_t *marks)
+{
+    const struct cells *cells = &chip->cells;
+    uint64_t slots = (uint64_t)cells->blocks * cells->pages;
+    memcpy(store, cells->bytes, slots * cells->page_bytes);
+    for (uint64_t slot = 0; slot < slots; slot++) {
+        marks[slot] = mark_of(chip, slot);
+        chip->inexact += marks[slot] == BLANK && !all_blank(cells_spare(cells, slot), SPARE_BYTES);
     }
-    return INSIDE;
+}
+
+/* The bytes first, and the spare area once they are there; a raw mark goes with the bytes. Returns 0 if the power failed. */
+static int program(struct chip *chip, uint64_t slot, const uint8_t *bytes, const uint8_t *spare)
+{
+    if (chip->raw)
+        return cells_program(&chip->cells, slot, bytes, spare);
+    return cells_program(&chip->cells, slot, bytes, NULL) && cells_program(&chip->cells, slot, NULL, spare);
 }
 
 enum chip_answer chip_program(struct chip *chip, uint32_t block, uint32_t page, const uint8_t *bytes, uint32_t mark)
 {
-    uint64_t slot = slot_of(chip, block, page);
-    int fails = fails_now(chip);
-    enum moment cut = fails ? moment_of_cut(chip) : AFTER;
-    if (cut == BEFORE)
-        return CHIP_DOWN;
-    if (!is_blank(chip, slot))
+    const struct cells *cells = &chip->cells;
+    uint64_t slot = (uint64_t)block * cells->pages + page;
+    uint8_t spare[SPARE_BYTES];
+    if (!all_blank(cells_page(cells, slot), cells->page_bytes) || !all_blank(cells_spare(cells, slot), SPARE_BYTES))
         return CHIP_MISUSED;
-    chip->writes++;
-    if (cut == INSIDE) {
-        chip->cut_in_write++;
-        tear(chip, slot);
-        return CHIP_DOWN;
-    }
-    memcpy(page_at(chip, slot), bytes, chip->page_bytes);
-    chip->marks[slot] = (uint8_t)mark;
-    return fails ? CHIP_DOWN : CHIP_DONE;
-}
-
-/* Some pages of the block are torn, the others are as they were. */
-static void tear_block(struct chip *chip, uint32_t block)
-{
-    uint32_t share = random_below(&chip->random, 5);
-    for (uint32_t page = 0; page < chip->pages; page++)
-        if (random_below(&chip->random, 4) < share)
-            tear(chip, slot_of(chip, block, page));
+    make_spare(chip, spare, mark, slot, bytes);
+    return program(chip, slot, bytes, spare) ? CHIP_DONE : CHIP_DOWN;
 }
 
 enum chip_answer chip_erase(struct chip *chip, uint32_t block)
 {
-    uint64_t first = slot_of(chip, block, 0);
-    int fails = fails_now(chip);
-    enum moment cut = fails ? moment_of_cut(chip) : AFTER;
-    if (cut == BEFORE)
-        return CHIP_DOWN;
-    chip->erases[block]++;
-    if (cut == INSIDE) {
-        chip->cut_in_erase++;
-        tear_block(chip, block);
-        return CHIP_DOWN;
-    }
-    memset(page_at(chip, first), BLANK, (size_t)chip->pages * chip->page_bytes);
-    memset(chip->marks + first, BLANK, chip->pages);
-    return fails ? CHIP_DOWN : CHIP_DONE;
+    return cells_erase(&chip->cells, block) ? CHIP_DONE : CHIP_DOWN;
 }

@@ -1,21 +1,16 @@
-/* A flash chip in memory, with a power supply that fails.
+/* The driver of a flash chip: pages with marks, on cells that have bytes and a spare area.
  *
- * A chip does two things: it programs a page that is blank, and it erases a block. Power may fail before an operation, inside it
- * or after it. Inside a write the page is left with mark 255 and any bytes; inside an erase each page of the block is as it was,
- * or has mark 255 and any bytes. Nothing else changes. */
+ * The mark of a page is in its spare area: as a code word with a checksum (spare.h), which is programmed after the bytes; or raw, as
+ * a single byte that is programmed together with the bytes, to show what comes of that. */
 #ifndef CHIP_H
 #define CHIP_H
 
-#include <stdint.h>
+#include "cells.h"
 
 struct chip {
-    uint32_t blocks, pages, page_bytes;     /* the spare is one of the blocks */
-    uint8_t *bytes, *marks;                 /* what the flash holds */
-    uint32_t *erases;                       /* how many erases of each block were begun */
-    uint32_t writes;                        /* how many writes were begun */
-    uint32_t fuse;                          /* operations until the power fails; 0 for never */
-    uint32_t cut_before, cut_in_write, cut_in_erase, cut_after;
-    uint64_t random;
+    struct cells cells;
+    int raw;
+    uint32_t inexact;       /* how many pages were read as not written although their spare area was not blank */
 };
 
 enum chip_answer {
@@ -24,9 +19,15 @@ enum chip_answer {
     CHIP_MISUSED    /* a page that is not blank was to be written */
 };
 
-/* Returns 0 if there is no memory. The chip is blank; chip_free gives back what it holds. */
+/* Returns 0 if there is no memory. One of the blocks is the spare block. chip_free gives back what the chip takes. */
 int chip_make(struct chip *chip, uint32_t blocks, uint32_t pages, uint32_t page_bytes, uint64_t seed);
 void chip_free(struct chip *chip);
+
+/* The state before a move: the spare block, number 0, is blank, and the others are filled with pages that have this letter. */
+void chip_fill(struct chip *chip, const uint8_t *bytes, uint32_t letter);
+
+/* At power-up: the bytes of all pages as they read, and their marks. */
+void chip_load(struct chip *chip, uint8_t *store, uint8_t *marks);
 
 enum chip_answer chip_program(struct chip *chip, uint32_t block, uint32_t page, const uint8_t *bytes, uint32_t mark);
 enum chip_answer chip_erase(struct chip *chip, uint32_t block);

@@ -1,43 +1,32 @@
-/* A move of pages on a flash chip whose power fails again and again.
+/* Moves of pages on a flash chip whose power fails again and again.
  *
  * The chip is driven as a real one would be: the library takes one step on an image of the chip in RAM, and the program then does
  * the same on the chip. A power cut takes the image away. What is left is the chip, the list,
  * the sizes and s. */
 #define _POSIX_C_SOURCE 200809L
 
-#include "chip.h"
-#include "mover.h"
-#include "options.h"
+#include "demo.h"
 #include "random.h"
 
-#include <inttypes.h>
 #include <stdio.h>
 #include <stdlib.h>
 #include <string.h>
 #include <time.h>
 #include <unistd.h>
 
-struct demo {
-    struct options options;
-    struct chip chip;
-    struct mover_move move;       /* the image of the chip, and the list */
-    uint8_t *list, *originals;    /* the originals are kept to compare with */
-    uint32_t place, last, shown;
-    uint32_t cuts, recoveries, cut_recoveries, pages_read, most_summed;
-    uint64_t random;
-    int live;                     /* progress is shown on a terminal */
-};
-
 enum outcome { DONE, POWER_CUT, WRONG };
 
-static enum outcome wrong(const struct demo *demo, const char *what)
+/* The move cannot go on. */
+static enum outcome wrong(struct demo *demo, const char *what)
 {
-    printf("\n\nWRONG at place %" PRIu32 ": %s\n", demo->place, what);
+    if (demo->stopped_by == NULL)
+        demo->stopped_by = what;
+    demo->moves_stopped++;
     return WRONG;
 }
 
 /* The chip's answer, with what a fault of it means. */
-static enum outcome outcome_of(const struct demo *demo, enum chip_answer answer)
+static enum outcome outcome_of(struct demo *demo, enum chip_answer answer)
 {
     if (answer == CHIP_MISUSED)
         return wrong(demo, "a page that is not blank was to be written");
@@ -80,9 +69,8 @@ static enum outcome read_one(struct demo *demo, uint32_t original)
     const uint8_t *due = demo->originals + (uint64_t)original * demo->options.page_bytes;
     if (mover_read_move(&demo->move, original, &count) != MOVER_DONE)
         return wrong(demo, "a read was refused");
-    if (memcmp(demo->move.work, due, demo->options.page_bytes) != 0)
-        return wrong(demo, "a page was not what it had been");
     demo->pages_read++;
+    demo->reads_wrong += memcmp(demo->move.work, due, demo->options.page_bytes) != 0;
     if (count > demo->most_summed)
         demo->most_summed = count;
     return DONE;
@@ -108,30 +96,12 @@ static uint32_t fuse_of(struct demo *demo)
 static enum outcome power_on(struct demo *demo)
 {
     const struct options *o = &demo->options;
-    demo->chip.fuse = fuse_of(demo);
+    demo->chip.cells.fuse = fuse_of(demo);
     memset(demo->move.work, 0xA5, o->page_bytes);
     memset(demo->move.sets, 0xA5, mover_sets_bytes(o->blocks, o->pages));
-    memcpy(demo->move.store, demo->chip.bytes, mover_store_bytes(o->blocks, o->pages, o->page_bytes));
-    memcpy(demo->move.marks, demo->chip.marks, mover_marks_bytes(o->blocks, o->pages));
+    chip_load(&demo->chip, demo->move.store, demo->move.marks);
     demo->place = demo->last + 1;   /* forgotten as well */
     return mover_split_move(&demo->move) == MOVER_DONE ? DONE : wrong(demo, "the list was refused");
-}
-
-/* Progress: one line that is written over on a terminal and grows elsewhere. */
-static void show(struct demo *demo)
-{
-    enum { WIDTH = 50 };
-    uint32_t full = demo->place > demo->last ? 0 : demo->place * WIDTH / demo->last;
-    if (!demo->live) {
-        for (; demo->shown < full; demo->shown++)
-            putchar('#');
-        return;
-    }
-    printf("\r  [");
-    for (uint32_t i = 0; i < WIDTH; i++)
-        putchar(i < full ? '#' : '.');
-    printf("] %3" PRIu32 "%%  cuts %" PRIu32 "  pages read %" PRIu32 " ", full * 100 / WIDTH, demo->cuts, demo->pages_read);
-    fflush(stdout);
 }
 
 /* On a terminal the move goes slowly enough to be watched. */
@@ -154,7 +124,7 @@ static enum outcome go_on(struct demo *demo)
     }
     while (outcome == DONE && demo->place < demo->last) {
         outcome = take_step(demo);
-        show(demo);
+        print_progress(demo);
         rest(demo);
         if (outcome == DONE && random_below(&demo->random, 4) == 0)
             outcome = read_some(demo, 1);
@@ -162,22 +132,7 @@ static enum outcome go_on(struct demo *demo)
     return outcome;
 }
 
-static enum outcome move_pages(struct demo *demo)
-{
-    enum outcome outcome;
-    if (!demo->live)
-        printf("  [");
-    while ((outcome = go_on(demo)) == POWER_CUT)
-        demo->cuts++;
-    if (outcome == DONE)
-        show(demo);
-    if (!demo->live)
-        printf("]");
-    printf("\n\n");
-    return outcome;
-}
-
-/* The start: random pages at rest on the chip, and a list in random order. */
+/* The start of a move: random pages at rest on the chip, and a list in random order. */
 
 static void shuffle(struct demo *demo)
 {
@@ -195,10 +150,42 @@ static void shuffle(struct demo *demo)
 static void fill_chip(struct demo *demo)
 {
     const struct options *o = &demo->options;
-    uint64_t bytes = (uint64_t)o->blocks * o->pages * o->page_bytes;
-    random_bytes(&demo->random, demo->originals, bytes);
-    memcpy(demo->chip.bytes + (uint64_t)o->pages * o->page_bytes, demo->originals, bytes);
-    memset(demo->chip.marks + o->pages, (int)o->letter, (size_t)o->blocks * o->pages);
+    random_bytes(&demo->random, demo->originals, (uint64_t)o->blocks * o->pages * o->page_bytes);
+    chip_fill(&demo->chip, demo->originals, demo->move.s);
+}
+
+/* The end of a move: every page on the chip, read as after a power-up, is compared with its original. */
+static uint32_t pages_out_of_place(struct demo *demo)
+{
+    const struct options *o = &demo->options;
+    const struct mover_move *move = &demo->move;
+    uint32_t bad = 0;
+    chip_load(&demo->chip, move->store, move->marks);
+    for (uint32_t k = 0; k < o->blocks * o->pages; k++) {
+        uint64_t slot = o->pages + (uint64_t)demo->list[2 * k] + 256 * (uint64_t)demo->list[2 * k + 1];
+        bad += memcmp(move->store + slot * o->page_bytes, demo->originals + (uint64_t)k * o->page_bytes, o->page_bytes) != 0
+            || move->marks[slot] != (move->s + 2) % 3;
+    }
+    return bad;
+}
+
+/* One move through all its cuts. The data blocks have the letter after next then, which is where the next move starts. */
+static void move_pages(struct demo *demo)
+{
+    uint32_t wrong_before = demo->reads_wrong, bad = 0;
+    enum outcome outcome;
+    shuffle(demo);
+    fill_chip(demo);
+    while ((outcome = go_on(demo)) == POWER_CUT)
+        demo->cuts++;
+    if (outcome == DONE) {
+        bad = pages_out_of_place(demo);
+        demo->moves_ended++;
+        demo->moves_with_loss += bad != 0;
+        demo->pages_lost += bad;
+    }
+    demo->moves_wrong += outcome == WRONG || bad != 0 || demo->reads_wrong != wrong_before;
+    demo->move.s = (demo->move.s + 2) % 3;
 }
 
 static int prepare(struct demo *demo)
@@ -206,7 +193,10 @@ static int prepare(struct demo *demo)
     const struct options *o = &demo->options;
     struct mover_move *move = &demo->move;
     demo->random = o->seed;
+    demo->live = isatty(STDOUT_FILENO);
     demo->last = mover_last_place(o->blocks, o->pages);
+    demo->chip.raw = o->raw;
+    demo->chip.cells.rude = !o->plain;
     move->n = o->blocks;
     move->m = o->pages;
     move->page_bytes = o->page_bytes;
@@ -232,97 +222,21 @@ static void clear(struct demo *demo)
     chip_free(&demo->chip);
 }
 
-/* The end: every page on the chip is compared with its original, and the erases with their bound. */
-
-static uint32_t pages_in_place(const struct demo *demo)
-{
-    const struct options *o = &demo->options;
-    uint32_t good = 0;
-    for (uint32_t k = 0; k < o->blocks * o->pages; k++) {
-        uint64_t slot = o->pages + (uint64_t)demo->list[2 * k] + 256 * (uint64_t)demo->list[2 * k + 1];
-        good += memcmp(demo->chip.bytes + slot * o->page_bytes, demo->originals + (uint64_t)k * o->page_bytes, o->page_bytes) == 0
-            && demo->chip.marks[slot] == (o->letter + 2) % 3;
-    }
-    return good;
-}
-
-static uint32_t erases_begun(const struct demo *demo)
-{
-    uint32_t sum = 0;
-    for (uint32_t block = 0; block <= demo->options.blocks; block++)
-        sum += demo->chip.erases[block];
-    return sum;
-}
-
-static void print_start(const struct options *o)
-{
-    printf("Pages trade places while the power fails\n\n");
-    printf("  flash       %" PRIu32 " data blocks and a spare, %" PRIu32 " pages a block, %" PRIu32 " bytes a page\n", o->blocks,
-           o->pages, o->page_bytes);
-    printf("  move        %" PRIu32 " pages in random order, %" PRIu32 " steps, seed %" PRIu64 "\n", o->blocks * o->pages,
-           mover_last_place(o->blocks, o->pages), o->seed);
-    if (o->cut_within == 0)
-        printf("  power       never fails\n\n");
-    else
-        printf("  power       fails after 1 to %" PRIu32 " chip operations, then again, until the move is done\n\n", o->cut_within);
-}
-
-static void print_erases(const struct demo *demo)
-{
-    enum { A_ROW = 17 };
-    for (uint32_t first = 0; first <= demo->options.blocks; first += A_ROW) {
-        printf("  block     ");
-        for (uint32_t block = first; block <= demo->options.blocks && block < first + A_ROW; block++)
-            printf("%4" PRIu32, block);
-        printf("\n  erases    ");
-        for (uint32_t block = first; block <= demo->options.blocks && block < first + A_ROW; block++)
-            printf("%4" PRIu32, demo->chip.erases[block]);
-        printf("\n\n");
-    }
-}
-
-static int print_end(const struct demo *demo)
-{
-    const struct options *o = &demo->options;
-    uint32_t due = o->blocks * o->pages, good = pages_in_place(demo), erases = erases_begun(demo);
-    uint32_t bound = 2 * o->blocks + demo->recoveries;
-    printf("  cuts        %" PRIu32 ": %" PRIu32 " tore a page, %" PRIu32 " tore an erase, %" PRIu32 " between steps; %" PRIu32
-           " in recovery\n", demo->cuts, demo->chip.cut_in_write, demo->chip.cut_in_erase,
-           demo->chip.cut_before + demo->chip.cut_after, demo->cut_recoveries);
-    printf("  read        %" PRIu32 " pages in mid-move, each as it was; at most %" PRIu32 " stored pages summed for one\n",
-           demo->pages_read, demo->most_summed);
-    printf("  written     %" PRIu32 " pages; without a cut it is %" PRIu32 "\n", demo->chip.writes, 2 * due);
-    printf("  erased      %" PRIu32 " blocks; proved: at most 2 x %" PRIu32 " + %" PRIu32 " recoveries = %" PRIu32 "\n\n", erases,
-           o->blocks, demo->recoveries, bound);
-    print_erases(demo);
-    printf("  compared    %" PRIu32 " of %" PRIu32 " pages are where the list sends them\n", good, due);
-    return good == due && erases <= bound;
-}
-
 int main(int count, char **words)
 {
     static struct demo demo;
-    const char *bad;
-    int good;
-    if (count > 1 && (strcmp(words[1], "--help") == 0 || strcmp(words[1], "-h") == 0)) {
-        print_help();
-        return 0;
-    }
-    bad = take_options(&demo.options, count, words);
-    if (bad != NULL) {
-        fprintf(stderr, "demo: %s is not an option, or its number is missing or out of range; see --help\n", bad);
-        return 2;
-    }
-    demo.live = isatty(STDOUT_FILENO);
+    int status = take_options(&demo.options, count, words);
+    if (status != 0)
+        return status == 1 ? 0 : status;
     if (!prepare(&demo)) {
         fprintf(stderr, "demo: no memory\n");
+        clear(&demo);
         return 2;
     }
-    shuffle(&demo);
-    fill_chip(&demo);
-    print_start(&demo.options);
-    good = move_pages(&demo) == DONE && print_end(&demo);
-    printf(good ? "\nEvery page is in its place.\n" : "\nSomething is WRONG.\n");
+    print_start(&demo);
+    for (uint32_t move = 0; move < demo.options.moves; move++)
+        move_pages(&demo);
+    status = print_end(&demo) ? 0 : 1;
     clear(&demo);
-    return good ? 0 : 1;
+    return status;
 }

@@ -1,72 +1,147 @@
+/* The options, known here alone. With ALONE defined this is a program that needs no library: it prints the help or tells what is
+ * wrong, and ends with status 1 or 2; or with 0 if the options are good. */
 #include "options.h"
 
+#include <errno.h>
+#include <inttypes.h>
 #include <stdio.h>
 #include <stdlib.h>
 #include <string.h>
 
-void print_help(void)
+enum { TAKEN = 0, HELP = 1, WRONG = 2, MOST_OPERATIONS = 1000000 };
+
+/* Zero moves and no number of operations stand for what goes with other options. */
+static const struct options usual = {1, 0, 16, 16, 512, 0, UINT32_MAX, 2, 0, 0};
+
+static void print_help(void)
 {
     printf("Moves random pages on a flash chip in memory whose power fails again and again, and compares every page.\n"
            "\n"
-           "  --seed N         the same seed gives the same run (1)\n"
+           "  --seed N         the same seed gives the same run, 0 to %" PRIu64 " (1)\n"
+           "  --moves N        moves to make, each on a chip that is filled anew, 1 to 1000 (1; with --raw 20)\n"
            "  --blocks N       data blocks, 1 to 64 (16)\n"
            "  --pages N        pages a block, 1 to 64 (16)\n"
            "  --page-bytes N   bytes a page, 1 to 4096 (512)\n"
-           "  --letter N       the mark of the data blocks before the move, 0, 1 or 2 (0)\n"
-           "  --cut-within N   the power fails within so many chip operations: pages + 3 or more, or no block would\n"
-           "                   ever be done; 0 for never (twice the pages, and 4)\n"
+           "  --letter N       the mark of the data blocks before the first move, 0, 1 or 2 (0)\n"
+           "  --cut-within N   the power fails within so many chip operations: 2 x pages + 3 or more, or no block would ever be\n"
+           "                   done, to %d; or 0 for never (4 x pages + 4)\n"
+           "  --tears KIND     what a cut leaves: 'rude', bits that changed in any order, as on a real chip; or 'plain', pages that\n"
+           "                   read as not written, which is what the library asks for (rude)\n"
+           "  --raw            marks are bare bytes, without code words and checksums (docs/CHIPS.md): rude tears then lose pages\n"
            "  --pause N        milliseconds after each step on a terminal, 0 to 999 (2)\n"
+           "  --help           this text\n"
            "\n"
-           "Ends with status 1 if a page is wrong, and with 2 if an option is.\n");
+           "Ends with status 0 if every page of every move was right, with 1 if not, and with 2 if an option is wrong.\n",
+           UINT64_MAX, MOST_OPERATIONS);
 }
 
-/* The number after an option, within limits. */
-static int take(const char *text, uint64_t low, uint64_t high, uint64_t *number)
+/* Tells what an option takes and what it got, which may be nothing. */
+static int refuse(const char *name, const char *takes, const char *given)
 {
-    char *end;
-    if (text == NULL || *text < '0' || *text > '9')
-        return 0;
-    *number = strtoull(text, &end, 10);
-    return *end == '\0' && low <= *number && *number <= high;
+    fprintf(stderr, "demo: %s takes %s", name, takes);
+    if (given == NULL)
+        fprintf(stderr, ", and nothing follows it");
+    else
+        fprintf(stderr, ", not '%s'", given);
+    fprintf(stderr, " (./demo --help lists the options)\n");
+    return WRONG;
 }
 
-static int take_option(struct options *o, const char *name, const char *text)
+/* The number that follows an option, in decimal digits and within its range. */
+static int take_number(const char *name, const char *text, uint64_t low, uint64_t high, uint64_t *number)
+{
+    char takes[80];
+    errno = 0;
+    if (text != NULL && *text != '\0' && text[strspn(text, "0123456789")] == '\0') {
+        *number = strtoull(text, NULL, 10);
+        if (errno == 0 && low <= *number && *number <= high)
+            return TAKEN;
+    }
+    snprintf(takes, sizeof takes, "a number from %" PRIu64 " to %" PRIu64, low, high);
+    return refuse(name, takes, text);
+}
+
+static int take_tears(struct options *o, const char *text)
+{
+    if (text == NULL || (strcmp(text, "plain") != 0 && strcmp(text, "rude") != 0))
+        return refuse("--tears", "'rude' or 'plain'", text);
+    o->plain = strcmp(text, "plain") == 0;
+    return TAKEN;
+}
+
+/* An option that something follows. */
+static int take_pair(struct options *o, const char *name, const char *text)
 {
     const struct {
         const char *name;
         uint32_t low, high, *value;
     } known[] = {
+        {"--moves", 1, 1000, &o->moves},
         {"--blocks", 1, 64, &o->blocks},
         {"--pages", 1, 64, &o->pages},
         {"--page-bytes", 1, 4096, &o->page_bytes},
         {"--letter", 0, 2, &o->letter},
-        {"--cut-within", 0, 1000000, &o->cut_within},
+        {"--cut-within", 0, MOST_OPERATIONS, &o->cut_within},
         {"--pause", 0, 999, &o->pause},
     };
-    uint64_t number;
+    if (strcmp(name, "--tears") == 0)
+        return take_tears(o, text);
     if (strcmp(name, "--seed") == 0)
-        return take(text, 0, UINT64_MAX, &o->seed);
+        return take_number(name, text, 0, UINT64_MAX, &o->seed);
     for (size_t i = 0; i < sizeof known / sizeof *known; i++) {
+        uint64_t number = 0;
+        int status;
         if (strcmp(name, known[i].name) != 0)
             continue;
-        if (!take(text, known[i].low, known[i].high, &number))
-            return 0;
+        status = take_number(name, text, known[i].low, known[i].high, &number);
         *known[i].value = (uint32_t)number;
-        return 1;
+        return status;
     }
-    return 0;
+    fprintf(stderr, "demo: there is no option '%s' (./demo --help lists the options)\n", name);
+    return WRONG;
 }
 
-const char *take_options(struct options *o, int count, char **words)
+/* What goes with other options, which may be given later. */
+static int take_rest(struct options *o)
 {
-    static const struct options usual = {16, 16, 512, 0, UINT32_MAX, 2, 1};
-    *o = usual;
-    for (int i = 1; i < count; i += 2)
-        if (!take_option(o, words[i], i + 1 < count ? words[i + 1] : NULL))
-            return words[i];
-    if (o->cut_within == UINT32_MAX)
-        o->cut_within = 2 * o->pages + 4;
-    if (o->cut_within != 0 && o->cut_within < o->pages + 3)
-        return "--cut-within";
-    return NULL;
+    uint32_t least = 2 * o->pages + 3;
+    char takes[80], given[24];
+    if (o->moves == usual.moves)
+        o->moves = o->raw ? 20 : 1;
+    if (o->cut_within == usual.cut_within)
+        o->cut_within = 4 * o->pages + 4;
+    if (o->cut_within == 0 || o->cut_within >= least)
+        return TAKEN;
+    snprintf(takes, sizeof takes, "0 or, with %" PRIu32 " page%s a block, a number from %" PRIu32 " to %d", o->pages,
+             o->pages == 1 ? "" : "s", least, MOST_OPERATIONS);
+    snprintf(given, sizeof given, "%" PRIu32, o->cut_within);
+    return refuse("--cut-within", takes, given);
 }
+
+int take_options(struct options *o, int count, char **words)
+{
+    int status = TAKEN;
+    *o = usual;
+    for (int i = 1; i < count; i++)
+        if (strcmp(words[i], "--help") == 0 || strcmp(words[i], "-h") == 0) {
+            print_help();
+            return HELP;
+        }
+    for (int i = 1; i < count && status == TAKEN; i++) {
+        if (strcmp(words[i], "--raw") == 0) {
+            o->raw = 1;
+        } else {
+            status = take_pair(o, words[i], i + 1 < count ? words[i + 1] : NULL);
+            i++;
+        }
+    }
+    return status == TAKEN ? take_rest(o) : status;
+}
+
+#ifdef ALONE
+int main(int count, char **words)
+{
+    struct options options;
+    return take_options(&options, count, words);
+}
+#endif

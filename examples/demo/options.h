@@ -5,13 +5,13 @@
 #include <stdint.h>
 
 struct options {
-    uint32_t blocks, pages, page_bytes, letter, cut_within, pause;
     uint64_t seed;
+    uint32_t moves, blocks, pages, page_bytes, letter, cut_within, pause;
+    int plain, raw;
 };
 
-void print_help(void);
-
-/* Returns NULL, or the option that is wrong. */
-const char *take_options(struct options *options, int count, char **words);
+/* Takes the options. Returns 0; or, when the program is to end with it, 1 after printing the help and 2 after telling which option
+ * is wrong. */
+int take_options(struct options *options, int count, char **words);
 
 #endif

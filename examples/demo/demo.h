@@ -1,0 +1,33 @@
+/* What the demo works on and keeps count of. */
+#ifndef DEMO_H
+#define DEMO_H
+
+#include "chip.h"
+#include "mover.h"
+#include "options.h"
+
+struct demo {
+    struct options options;
+    struct chip chip;
+    struct mover_move move;       /* the image of the chip, and the list */
+    uint8_t *list, *originals;    /* the originals are kept to compare with */
+    uint32_t place, last;
+    uint64_t random;
+
+    uint32_t moves_ended, moves_stopped;    /* a move comes to its end, or stops because something was refused */
+    uint32_t moves_wrong;                   /* those that stopped, lost a page or read one wrong */
+    uint32_t cuts, recoveries, cut_recoveries;
+    uint32_t pages_read, reads_wrong, most_summed;
+    uint32_t pages_lost, moves_with_loss;   /* of moves that ended */
+    const char *stopped_by;                 /* what was wrong in the first move that stopped, or NULL */
+
+    int live;                     /* progress is shown on a terminal */
+    uint32_t shown;
+};
+
+/* report.c: what the demo prints. print_end also returns whether all is well. */
+void print_start(const struct demo *demo);
+void print_progress(struct demo *demo);
+int print_end(const struct demo *demo);
+
+#endif

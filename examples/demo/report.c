@@ -1,0 +1,158 @@
+/* What the demo prints. */
+#include "demo.h"
+
+#include <inttypes.h>
+#include <stdio.h>
+
+/* The ending of a word that is counted. */
+static const char *s(uint32_t count)
+{
+    return count == 1 ? "" : "s";
+}
+
+/* Whether a cut leaves what the library asks for: with bare mark bytes it does only if tears are plain. */
+static int keeps_promises(const struct demo *demo)
+{
+    return !demo->options.raw || demo->options.plain;
+}
+
+static uint32_t erases_begun(const struct demo *demo)
+{
+    uint32_t sum = 0;
+    for (uint32_t block = 0; block <= demo->options.blocks; block++)
+        sum += demo->chip.cells.erases[block];
+    return sum;
+}
+
+/* Two for each data block of a move, and one for each recovery. */
+static uint32_t erases_allowed(const struct demo *demo)
+{
+    return 2 * demo->options.blocks * demo->options.moves + demo->recoveries;
+}
+
+void print_start(const struct demo *demo)
+{
+    const struct options *o = &demo->options;
+    uint32_t pages = o->blocks * o->pages;
+    printf("Pages trade places while the power fails\n\n");
+    printf("  flash       %" PRIu32 " data block%s and a spare, %" PRIu32 " page%s a block, %" PRIu32 " byte%s a page\n", o->blocks,
+           s(o->blocks), o->pages, s(o->pages), o->page_bytes, s(o->page_bytes));
+    printf("  marks       %s\n",
+           o->raw ? "bare bytes, programmed together with the page" : "code words with a checksum, programmed after the page");
+    if (o->moves == 1)
+        printf("  move        ");
+    else
+        printf("  moves       %" PRIu32 ", each of ", o->moves);
+    printf("%" PRIu32 " page%s in random order, %" PRIu32 " steps, seed %" PRIu64 "\n", pages, s(pages), demo->last, o->seed);
+    if (o->cut_within == 0)
+        printf("  power       never fails\n\n");
+    else
+        printf("  power       fails after 1 to %" PRIu32 " chip operations, then again, until the move is done; %s tears\n\n",
+               o->cut_within, o->plain ? "plain" : "rude");
+    if (!demo->live)
+        printf("  [");
+}
+
+/* One line that is written over on a terminal and grows elsewhere. */
+void print_progress(struct demo *demo)
+{
+    enum { WIDTH = 50 };
+    uint64_t done = (uint64_t)(demo->moves_ended + demo->moves_stopped) * demo->last + (demo->place > demo->last ? 0 : demo->place);
+    uint32_t full = (uint32_t)(done * WIDTH / ((uint64_t)demo->last * demo->options.moves));
+    if (!demo->live) {
+        for (; demo->shown < full; demo->shown++)
+            putchar('#');
+        return;
+    }
+    printf("\r  [");
+    for (uint32_t i = 0; i < WIDTH; i++)
+        putchar(i < full ? '#' : '.');
+    printf("] %3" PRIu32 "%%  %" PRIu32 " cut%s, %" PRIu32 " page%s read ", full * 100 / WIDTH, demo->cuts, s(demo->cuts),
+           demo->pages_read, s(demo->pages_read));
+    fflush(stdout);
+}
+
+static void print_erases(const struct demo *demo)
+{
+    enum { A_ROW = 17 };
+    for (uint32_t first = 0; first <= demo->options.blocks; first += A_ROW) {
+        printf("  block     ");
+        for (uint32_t block = first; block <= demo->options.blocks && block < first + A_ROW; block++)
+            printf("%5" PRIu32, block);
+        printf("\n  erases    ");
+        for (uint32_t block = first; block <= demo->options.blocks && block < first + A_ROW; block++)
+            printf("%5" PRIu32, demo->chip.cells.erases[block]);
+        printf("\n\n");
+    }
+}
+
+static void print_cuts(const struct demo *demo)
+{
+    const struct cells *cells = &demo->chip.cells;
+    printf("  cut%-9s%" PRIu32 ": %" PRIu32 " tore a page, %" PRIu32 " tore an erase, %" PRIu32 " between operations; %" PRIu32
+           " in recovery\n", s(demo->cuts), demo->cuts, cells->cut_in_write, cells->cut_in_erase,
+           cells->cut_before + cells->cut_after, demo->cut_recoveries);
+    printf("  marks       %" PRIu32 " damaged one%s met and read as 'not written'\n", demo->chip.inexact, s(demo->chip.inexact));
+}
+
+static void print_reads(const struct demo *demo)
+{
+    printf("  read        %" PRIu32 " page%s in mid-move, ", demo->pages_read, s(demo->pages_read));
+    if (demo->reads_wrong == 0)
+        printf("each as it was");
+    else
+        printf("%" PRIu32 " of them WRONG", demo->reads_wrong);
+    printf("; at most %" PRIu32 " stored page%s summed for one\n", demo->most_summed, s(demo->most_summed));
+}
+
+static void print_work(const struct demo *demo)
+{
+    const struct options *o = &demo->options;
+    uint32_t writes = demo->chip.cells.writes, erases = erases_begun(demo), data_blocks = o->blocks * o->moves;
+    printf("  written     %" PRIu32 " page%s; without a cut it is %" PRIu32 "\n", writes, s(writes), 2 * data_blocks * o->pages);
+    printf("  erased      %" PRIu32 " block%s", erases, s(erases));
+    if (keeps_promises(demo))
+        printf("; proved: at most 2 x %" PRIu32 " + %" PRIu32 " recover%s = %" PRIu32, data_blocks, demo->recoveries,
+               demo->recoveries == 1 ? "y" : "ies", erases_allowed(demo));
+    printf("\n\n");
+    print_erases(demo);
+}
+
+static void print_losses(const struct demo *demo)
+{
+    uint32_t pages = demo->moves_ended * demo->options.blocks * demo->options.pages;
+    printf("  in place    %" PRIu32 " of %" PRIu32 " page%s%s\n", pages - demo->pages_lost, pages, s(pages),
+           demo->moves_stopped == 0 ? "" : " of the moves that came to their end");
+    if (demo->pages_lost != 0)
+        printf("  LOST        %" PRIu32 " page%s in %" PRIu32 " of %" PRIu32 " move%s\n", demo->pages_lost, s(demo->pages_lost),
+               demo->moves_with_loss, demo->options.moves, s(demo->options.moves));
+    if (demo->moves_stopped != 0)
+        printf("  STOPPED     %" PRIu32 " of %" PRIu32 " move%s; the first of them because %s\n", demo->moves_stopped,
+               demo->options.moves, s(demo->options.moves), demo->stopped_by);
+}
+
+/* The last line. Returns whether all is well. */
+static int print_verdict(const struct demo *demo)
+{
+    if (demo->moves_wrong != 0) {
+        printf("\n%" PRIu32 " of %" PRIu32 " move%s went WRONG.%s\n", demo->moves_wrong, demo->options.moves, s(demo->options.moves),
+               keeps_promises(demo) ? "" : " Bare mark bytes do not stand rude tears; docs/CHIPS.md tells what does.");
+        return 0;
+    }
+    if (keeps_promises(demo) && erases_begun(demo) > erases_allowed(demo)) {
+        printf("\nThere were more erases than there may be: something is WRONG.\n");
+        return 0;
+    }
+    printf("\nEvery page is in its place.\n");
+    return 1;
+}
+
+int print_end(const struct demo *demo)
+{
+    printf("%s\n\n", demo->live ? "" : "]");
+    print_cuts(demo);
+    print_reads(demo);
+    print_work(demo);
+    print_losses(demo);
+    return print_verdict(demo);
+}
