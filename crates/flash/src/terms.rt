@@ -26,6 +26,29 @@ fn byte_sum(terms: usize, a: u8, b: u8, c: u8, d: u8) -> u8
     a ^ (second ^ (third ^ fourth))
 }
 
+// The sum of up to four pages goes into a target of its own.
+pub fn sum_into(
+    target: &mut [u8],
+    a: &[u8],
+    b: &[u8],
+    c: &[u8],
+    d: &[u8],
+    terms: usize,
+    add: bool,
+)
+    requires { ⌜ (length (now a) ≡ length (now target)) × (length (now b) ≡ length (now target)) ⌝ }
+    requires { ⌜ (length (now c) ≡ length (now target)) × (length (now d) ≡ length (now target)) ⌝ }
+    ensures { λ _. ⌜ now (target .exit) ≡ putOrAdd add (now (target .entry))
+        (termsSum terms (now (a .entry)) (now (b .entry)) (now (c .entry)) (now (d .entry))) ⌝ }
+{
+    let mut i = 0;
+    while i < target.len() {
+        let sum = byte_sum(terms, a[i], b[i], c[i], d[i]);
+        target[i] = when(add, target[i]) ^ sum;
+        i += 1;
+    }
+}
+
 // The sum of up to four pages of the store goes into one of its slots.
 pub fn sum_within(
     store: &mut [u8],
