@@ -12,3 +12,4 @@ pub mod Chips
 pub mod Loops
 pub mod Bounds
 pub mod TermLaws
+pub mod PassLaws

@@ -77,22 +77,30 @@ module _ (p to : ℕ) (old page : List ℕ) (fits : to * p + p ≤ length old) (
       let next : to * p + (i + 1) ≡ to * p + i + 1 = omega arith in
       rw (next, ← setPart-at p to old page fits whole i 0 h) (front-more new old (to * p + i) same (omega arith))
 
--- the page that a slot gets, and its byte i by the bytes that are read in that turn
-module _ (old : List ℕ) (p to a b c d terms : ℕ) (add : Bool) where
-  abbrev pub slotSum : List ℕ
-  slotSum = putOrAdd add (part p to old) (termsSum terms (part p a old) (part p b old) (part p c old) (part p d old))
+-- the sum of slots' pages, put into a page or added to it
+abbrev pub summed : (store : List ℕ) (p a b c d terms : ℕ) → List ℕ
+summed store p a b c d terms = termsSum terms (part p a store) (part p b store) (part p c store) (part p d store)
 
-  pub length-slotSum : (to * p + p ≤ length old) × (a * p + p ≤ length old) × (b * p + p ≤ length old)
-      → (c * p + p ≤ length old) × (d * p + p ≤ length old) → length slotSum ≡ p
-  length-slotSum f g =
-      let size = length-part p to old (f .0) in
-      let sum = length-terms terms (part p a old) (part p b old) (part p c old) (part p d old) p (length-part p a old (f .1)) (length-part p b old (f .2)) (length-part p c old (g .0)) (length-part p d old (g .1)) in
-      length-putOrAdd add (part p to old) (termsSum terms (part p a old) (part p b old) (part p c old) (part p d old)) (sum ∙ sym size) ∙ size
+abbrev pub pageSum : (page sum : List ℕ) (add : Bool) → List ℕ
+pageSum page sum add = putOrAdd add page sum
 
-  pub slotSum-at : (now : List ℕ) (i : ℕ) → ((slot : ℕ) → getD now (slot * p + i) 0 ≡ getD (part p slot old) i 0)
-      → bitXor (cond add (getD now (to * p + i) 0) 0) (byteSum terms (getD now (a * p + i) 0) (getD now (b * p + i) 0) (getD now (c * p + i) 0) (getD now (d * p + i) 0))
-      ≡ getD slotSum i 0
-  slotSum-at now i f =
-      rw (f to, f a, f b, f c, f d)
-      (sym (added-byte add (part p to old) (termsSum terms (part p a old) (part p b old) (part p c old) (part p d old)) i
-      ∙ ap (bitXor (cond add (getD (part p to old) i 0) 0)) (terms-at terms (part p a old) (part p b old) (part p c old) (part p d old) i)))
+module _ (old : List ℕ) (p a b c d terms : ℕ) (page : List ℕ) (add : Bool) where
+  abbrev bytes : (now : List ℕ) (i : ℕ) → ℕ
+  bytes now i = byteSum terms (getD now (a * p + i) 0) (getD now (b * p + i) 0) (getD now (c * p + i) 0) (getD now (d * p + i) 0)
+
+  pub length-pageSum : (a * p + p ≤ length old) × (b * p + p ≤ length old) × (length page ≡ p) → (c * p + p ≤ length old) × (d * p + p ≤ length old)
+      → length (pageSum page (summed old p a b c d terms) add) ≡ length page
+  length-pageSum f g =
+      length-putOrAdd add page (summed old p a b c d terms)
+      (length-terms terms (part p a old) (part p b old) (part p c old) (part p d old) p (length-part p a old (f .0)) (length-part p b old (f .1)) (length-part p c old (g .0)) (length-part p d old (g .1)) ∙ sym (f .2))
+
+  -- byte i of it, from the bytes that are read in that turn
+  pub pageSum-now : (now : List ℕ) (i : ℕ) → ((slot : ℕ) → getD now (slot * p + i) 0 ≡ getD (part p slot old) i 0)
+      → bitXor (cond add (getD page i 0) 0) (bytes now i) ≡ getD (pageSum page (summed old p a b c d terms) add) i 0
+  pageSum-now now i f =
+      rw (f a, f b, f c, f d)
+      (sym (added-byte add page (summed old p a b c d terms) i
+      ∙ ap (bitXor (cond add (getD page i 0) 0)) (terms-at terms (part p a old) (part p b old) (part p c old) (part p d old) i)))
+
+  pub pageSum-at : (i : ℕ) → i < p → bitXor (cond add (getD page i 0) 0) (bytes old i) ≡ getD (pageSum page (summed old p a b c d terms) add) i 0
+  pageSum-at i h = pageSum-now old i (λ slot. sym (part-at p slot old i 0 h))

@@ -1,5 +1,5 @@
-// The page sum, up to four pages in a pass: put into its target or added to what is there. There is a loop for a target of its own and one
-// for a slot of the store, since a slot cannot be lent beside the store that it is part of.
+// The page sum, up to four pages in a pass: put into its target or added to what is there. There is a loop for a page outside the store
+// and one for a slot of it, since a slot cannot be lent beside the store that it is part of.
 
 ghost use mathlib.Core.Path.{_≡_};
 ghost use mathlib.Core.Bool.{cond};
@@ -8,6 +8,9 @@ ghost use lib.ListN.{length};
 ghost use Rattle.flash.specs.Lists.{part, setPart};
 ghost use Rattle.flash.specs.PageSum.{putOrAdd};
 ghost use Rattle.flash.specs.inner.Terms.{byteSum, termsSum};
+
+// The most pages of one pass.
+pub const MOST_TERMS: usize = 4;
 
 fn when(test: bool, byte: u8) -> u8
     ensures { λ r. ⌜ r ≡ cond test byte 0 ⌝ }
@@ -26,25 +29,37 @@ fn byte_sum(terms: usize, a: u8, b: u8, c: u8, d: u8) -> u8
     a ^ (second ^ (third ^ fourth))
 }
 
-// The sum of up to four pages goes into a target of its own.
-pub fn sum_into(
-    target: &mut [u8],
-    a: &[u8],
-    b: &[u8],
-    c: &[u8],
-    d: &[u8],
+// The sum of up to four pages of the store goes into a page outside it.
+pub fn sum_from(
+    store: &[u8],
+    p: usize,
+    a: usize,
+    b: usize,
+    c: usize,
+    d: usize,
     terms: usize,
+    page: &mut [u8],
     add: bool,
 )
-    requires { ⌜ (length (now a) ≡ length (now target)) × (length (now b) ≡ length (now target)) ⌝ }
-    requires { ⌜ (length (now c) ≡ length (now target)) × (length (now d) ≡ length (now target)) ⌝ }
-    ensures { λ _. ⌜ now (target .exit) ≡ putOrAdd add (now (target .entry))
-        (termsSum terms (now (a .entry)) (now (b .entry)) (now (c .entry)) (now (d .entry))) ⌝ }
+    requires { ⌜ (a * p + p ≤ length (now store)) × (b * p + p ≤ length (now store)) × (length (now page) ≡ p) ⌝ }
+    requires { ⌜ (c * p + p ≤ length (now store)) × (d * p + p ≤ length (now store)) ⌝ }
+    ensures { λ _. ⌜ now (page .exit) ≡ putOrAdd add (now (page .entry)) (termsSum terms (part p a (now (store .entry)))
+        (part p b (now (store .entry))) (part p c (now (store .entry))) (part p d (now (store .entry)))) ⌝ }
 {
+    let one = a * p;
+    let two = b * p;
+    let three = c * p;
+    let four = d * p;
     let mut i = 0;
-    while i < target.len() {
-        let sum = byte_sum(terms, a[i], b[i], c[i], d[i]);
-        target[i] = when(add, target[i]) ^ sum;
+    while i < p {
+        let sum = byte_sum(
+            terms,
+            store[one + i],
+            store[two + i],
+            store[three + i],
+            store[four + i],
+        );
+        page[i] = when(add, page[i]) ^ sum;
         i += 1;
     }
 }

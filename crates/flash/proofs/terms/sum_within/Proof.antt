@@ -1,19 +1,21 @@
 -- `sum_within` leaves the sum of pages of the store in one slot of it: what a step of the run writes.
 use mathlib.Core.Path.{_≡_, sym, ap, ap₂, _∙_}
+use mathlib.Core.Bool.{cond}
 use mathlib.Core.List.{_++_}
-use Prim.Native.Nat.{_+_, _-_, _*_, _≤_, _<_}
+use Prim.Native.Nat.{ℕ, _+_, _-_, _*_, _≤_, _<_}
 use native.Mathlib.Omega.{arith}
 use lib.Bits.{bitXor}
-use lib.ListN.{length, set, take, drop, length-set}
+use lib.ListN.{length, getD, set, take, drop, length-set}
 use borrow.Author.Needs.{needs}
-use Rattle.flash.specs.Lists.{setPart}
-use Rattle.flash.proofs.TermLaws.{over-none, over-whole, over-at, over-more, slotSum, length-slotSum, slotSum-at}
+use Rattle.flash.specs.Lists.{part, setPart}
+use Rattle.flash.proofs.Parts.{length-part}
+use Rattle.flash.proofs.TermLaws.{over-none, over-whole, over-at, over-more, summed, pageSum, length-pageSum, pageSum-now}
 use Rattle.flash.proofs.terms.sum_within.Statement.{statement}
 use Rattle.flash.proofs.terms.sum_within.Tie as tie
 
 abbrev Inv-loop : tie.InvT-loop
 Inv-loop store₀ p to a b c d terms add target one two three four i₀ store i =
-    (store ≡ take (to * p + i) (setPart p to store₀ (slotSum store₀ p to a b c d terms add)) ++ drop (to * p + i) store₀)
+    (store ≡ take (to * p + i) (setPart p to store₀ (pageSum (part p to store₀) (summed store₀ p a b c d terms) add)) ++ drop (to * p + i) store₀)
     × (i ≤ p) × (length store ≡ length store₀)
 
 abbrev μ-loop : tie.MeasureT-loop
@@ -37,8 +39,9 @@ mul-four c = omega arith
 loop-holds : tie.Need-loop-holds Inv-loop μ-loop
 loop-holds c =
     let a = c .before .args in
-    let page = slotSum (a .store .now) (a .p) (a .to) (a .a) (a .b) (a .c) (a .d) (a .terms) (a .add) in
-    let whole = length-slotSum (a .store .now) (a .p) (a .to) (a .a) (a .b) (a .c) (a .d) (a .terms) (a .add) (c .before .pre .0) (c .before .pre .1) in
+    let page = pageSum (part (a .p) (a .to) (a .store .now)) (summed (a .store .now) (a .p) (a .a) (a .b) (a .c) (a .d) (a .terms)) (a .add) in
+    let own = length-part (a .p) (a .to) (a .store .now) (omega arith) in
+    let whole = length-pageSum (a .store .now) (a .p) (a .a) (a .b) (a .c) (a .d) (a .terms) (part (a .p) (a .to) (a .store .now)) (a .add) (omega arith, omega arith, own) (c .before .pre .1) ∙ own in
     (sym (over-none (a .p) (a .to) (a .store .now) page (omega arith) whole), omega arith, omega arith)
 
 add-byte-sum : tie.Need-add-byte-sum Inv-loop μ-loop
@@ -94,13 +97,18 @@ loop-again c =
     let start = c .before .before .before .before .before .before .before .before .before .before in
     let a = start .args in
     let l = c .before .before .before .before .before .before .before .before .loop in
-    let page = slotSum (a .store .now) (a .p) (a .to) (a .a) (a .b) (a .c) (a .d) (a .terms) (a .add) in
-    let whole = length-slotSum (a .store .now) (a .p) (a .to) (a .a) (a .b) (a .c) (a .d) (a .terms) (a .add) (start .pre .0) (start .pre .1) in
+    let page = pageSum (part (a .p) (a .to) (a .store .now)) (summed (a .store .now) (a .p) (a .a) (a .b) (a .c) (a .d) (a .terms)) (a .add) in
+    let own = length-part (a .p) (a .to) (a .store .now) (omega arith) in
+    let whole = length-pageSum (a .store .now) (a .p) (a .a) (a .b) (a .c) (a .d) (a .terms) (part (a .p) (a .to) (a .store .now)) (a .add) (omega arith, omega arith, own) (start .pre .1) ∙ own in
     let inside : l .i < a .p = omega arith in
-    let byte-is = slotSum-at (a .store .now) (a .p) (a .to) (a .a) (a .b) (a .c) (a .d) (a .terms) (a .add) (l .store) (l .i)
-    (λ slot. rw (l .inv .0) (over-at (a .p) (a .to) (a .store .now) page (omega arith) whole slot (l .i) inside)) in
-    (ap (set (l .store) (a .to * a .p + l .i)) (ap₂ bitXor (c .when .ensures) (c .before .before .byte-sum .ensures) ∙ byte-is)
-    ∙ rw (l .inv .0) (over-more (a .p) (a .to) (a .store .now) page (omega arith) whole (l .i) inside), omega arith, simp length-set (omega arith))
+    let still : (slot : ℕ) → getD (l .store) (slot * a .p + l .i) 0 ≡ getD (part (a .p) slot (a .store .now)) (l .i) 0 =
+    λ slot. rw (l .inv .0) (over-at (a .p) (a .to) (a .store .now) page (omega arith) whole slot (l .i) inside) in
+    let byte-is = pageSum-now (a .store .now) (a .p) (a .a) (a .b) (a .c) (a .d) (a .terms) (part (a .p) (a .to) (a .store .now)) (a .add) (l .store) (l .i) still in (
+      ap (set (l .store) (a .to * a .p + l .i)) (ap₂ bitXor (c .when .ensures ∙ ap (λ (x : ℕ). cond (a .add) x 0) (still (a .to))) (c .before .before .byte-sum .ensures) ∙ byte-is)
+          ∙ rw (l .inv .0) (over-more (a .p) (a .to) (a .store .now) page (omega arith) whole (l .i) inside),
+      omega arith,
+      simp length-set (omega arith),
+    )
 
 same-length : tie.Need-same-length Inv-loop μ-loop
 same-length c = c .before .loop .inv .2
@@ -110,8 +118,9 @@ returns c =
     let start = c .before .before .before in
     let a = start .args in
     let l = c .before .loop in
-    let page = slotSum (a .store .now) (a .p) (a .to) (a .a) (a .b) (a .c) (a .d) (a .terms) (a .add) in
-    let whole = length-slotSum (a .store .now) (a .p) (a .to) (a .a) (a .b) (a .c) (a .d) (a .terms) (a .add) (start .pre .0) (start .pre .1) in
+    let page = pageSum (part (a .p) (a .to) (a .store .now)) (summed (a .store .now) (a .p) (a .a) (a .b) (a .c) (a .d) (a .terms)) (a .add) in
+    let own = length-part (a .p) (a .to) (a .store .now) (omega arith) in
+    let whole = length-pageSum (a .store .now) (a .p) (a .a) (a .b) (a .c) (a .d) (a .terms) (part (a .p) (a .to) (a .store .now)) (a .add) (omega arith, omega arith, own) (start .pre .1) ∙ own in
     let end : l .i ≡ a .p = omega arith in
     l .inv .0 ∙ rw end (over-whole (a .p) (a .to) (a .store .now) page (omega arith) whole)
 
