@@ -11,3 +11,5 @@ pub mod Blocks
 pub mod Chips
 pub mod Loops
 pub mod Bounds
+pub mod TermLaws
+pub mod PassLaws

@@ -3,40 +3,10 @@
 ghost use mathlib.Core.Path.{_≡_};
 ghost use Prim.Native.Nat.{_+_, _*_, _≤_, _<_};
 ghost use lib.ListN.{length};
-ghost use Rattle.flash.specs.Lists.{part};
-ghost use Rattle.flash.specs.PageSum.{oneOrBoth, putOrAdd};
 ghost use Rattle.flash.specs.Chip.{Holds, isBlank, writePage};
 use crate::ERASED;
 use crate::bytes::is_filled;
 use crate::bytes::put_or_add;
-
-// A slot's page, or the sum of two slots' pages, is put into the work page or added to it.
-pub fn read_pages(
-    store: &[u8],
-    p: usize,
-    one: usize,
-    other: usize,
-    both: bool,
-    work: &mut [u8],
-    add: bool,
-)
-    requires { ⌜ (one * p + p ≤ length (now store)) × (other * p + p ≤ length (now store)) ⌝ }
-    requires { ⌜ length (now work) ≡ p ⌝ }
-    ensures { λ _. ⌜ now (work .exit) ≡ putOrAdd add (now (work .entry))
-        (oneOrBoth both (part p one (now (store .entry))) (part p other (now (store .entry)))) ⌝ }
-{
-    let first = one * p;
-    let first_end = first + p;
-    let second = other * p;
-    let second_end = second + p;
-    put_or_add(
-        work,
-        &store[first..first_end],
-        &store[second..second_end],
-        both,
-        add,
-    );
-}
 
 // The work page goes into the slot, with its mark.
 pub fn write_page(store: &mut [u8], marks: &mut [u8], p: usize, slot: usize, work: &[u8], mark: u8)

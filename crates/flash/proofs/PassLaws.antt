@@ -1,0 +1,117 @@
+-- A sum taken four pages a pass: what a pass adds, and what it leaves of the store where the sum goes into a slot.
+use mathlib.Core.Path.{_≡_, refl, sym, ap, ap₂, _∙_, subst}
+use mathlib.Core.Logic.{_≢_, ⊎-elim}
+use mathlib.Core.Bool.{Bool, true, false, cond}
+use mathlib.Core.List.{List, [], _∷_, _++_}
+use Prim.Native.Nat.{ℕ, zero, suc, _+_, _-_, _*_, _≤_, _<_}
+use native.Mathlib.Nat.{not-suc-le-zero, le-of-suc-le-suc}
+use native.Mathlib.Omega.{arith}
+use lib.Dec.{ltb}
+use lib.ListN.{length, getD, take, drop, length-drop, List·getD-eq-default}
+use lib.Seq.{take-add, take-all, getD-drop, getD-take, length-take-le}
+use borrow.Author.Tests.{lt-ltb}
+use Rattle.flash.specs.Lists.{part, setPart}
+use Rattle.flash.specs.PageSum.{_⊕_, sum, putOrAdd}
+use Rattle.flash.specs.inner.Terms.{termsSum}
+use Rattle.flash.specs.inner.Passes.{fourFrom}
+use Rattle.flash.specs.declared.slots.Four.{Four}
+use Rattle.flash.proofs.Comparisons.{lt-cases}
+use Rattle.flash.proofs.Parts.{part-setPart, part-setPart-other, setPart-same, setPart-twice, length-setPart}
+use Rattle.flash.proofs.Sums.{⊕-nil, sum-append, putOrAdd-is}
+
+-- the first four of a list, or as many as it has
+four : (page : ℕ → List ℕ) (x : ℕ) (xs : List ℕ)
+    → sum page (take 4 (x ∷ xs)) ≡ termsSum (suc (length xs)) (page x) (page (getD xs 0 x)) (page (getD xs 1 x)) (page (getD xs 2 x))
+unfolding sum termsSum _⊕_
+four page x [] = refl
+four page x (y ∷ []) = refl
+four page x (y ∷ z ∷ []) = refl
+four page x (y ∷ z ∷ w ∷ ws) =
+    let n : ℕ = suc (suc (suc (suc (length ws)))) in
+    rw (lt-ltb 1 n (omega arith), lt-ltb 2 n (omega arith), lt-ltb 3 n (omega arith)) (ap (λ (s : List ℕ). page x ⊕ (page y ⊕ (page z ⊕ s))) (⊕-nil (page w)))
+
+four-of : (page : ℕ → List ℕ) (xs : List ℕ) → 1 ≤ length xs
+    → sum page (take 4 xs) ≡ termsSum (length xs) (page (getD xs 0 0)) (page (getD xs 1 (getD xs 0 0))) (page (getD xs 2 (getD xs 0 0))) (page (getD xs 3 (getD xs 0 0)))
+four-of page [] h = absurd (not-suc-le-zero h)
+four-of page (x ∷ xs) h = four page x xs
+
+module _ (page : ℕ → List ℕ) (slots : List ℕ) (i : ℕ) (left : i < length slots) where
+  abbrev f : Four
+  f = fourFrom slots i
+
+  -- one pass more
+  pub pass-more : sum page (take (i + 4) slots)
+      ≡ sum page (take i slots) ⊕ termsSum (length slots - i) (page (f .a)) (page (f .b)) (page (f .c)) (page (f .d))
+  pass-more =
+      let none : i + 0 ≡ i = omega arith in
+      let first : getD (drop i slots) 0 0 ≡ getD slots i 0 = getD-drop i slots 0 0 ∙ ap (λ (k : ℕ). getD slots k 0) none in
+      let a : ℕ = getD slots i 0 in
+      let size : length (drop i slots) ≡ length slots - i = length-drop i slots in
+      ap (sum page) (take-add i 4 slots) ∙ sum-append page (take i slots) (take 4 (drop i slots))
+      ∙ ap (λ (s : List ℕ). sum page (take i slots) ⊕ s)
+      (four-of page (drop i slots) (omega arith) ∙ rw (size, first, getD-drop i slots 1 a, getD-drop i slots 2 a, getD-drop i slots 3 a))
+
+-- an entry is the same whatever stands for those that are missing
+pub getD-any : (xs : List ℕ) (j d e : ℕ) → j < length xs → getD xs j d ≡ getD xs j e
+getD-any [] j d e h = absurd (not-suc-le-zero h)
+getD-any (x ∷ xs) zero d e h = refl
+getD-any (x ∷ xs) (suc j) d e h = getD-any xs j d e (le-of-suc-le-suc h)
+
+pub taken-each : (P : ℕ → Type 0) (slots : List ℕ) (count : ℕ) → count ≤ length slots → ((j : ℕ) → j < count → P (getD slots j 0))
+    → (j : ℕ) → j < length (take count slots) → P (getD (take count slots) j 0)
+taken-each P slots count fits f j h =
+    let l : j < count = omega (arith, length-take-le count slots fits) in
+    subst P (sym (getD-take count slots j 0 l)) (f j l)
+
+-- what holds of every slot holds of those of a pass
+pub four-each : (P : ℕ → Type 0) (slots : List ℕ) (i : ℕ) → i < length slots → ((j : ℕ) → j < length slots → P (getD slots j 0))
+    → P (fourFrom slots i .a) × P (fourFrom slots i .b) × P (fourFrom slots i .c) × P (fourFrom slots i .d)
+four-each P slots i h f = (f i h, other (i + 1), other (i + 2), other (i + 3))
+  where
+    other : (j : ℕ) → P (getD slots j (getD slots i 0))
+    other j = ⊎-elim (λ (l : j < length slots). subst P (getD-any slots j 0 (getD slots i 0) l) (f j l)) (λ (l : length slots ≤ j). subst P (sym (List·getD-eq-default slots (getD slots i 0) l)) (f i h)) (lt-cases j (length slots))
+
+-- ---- the sum of the first i slots goes into slot `to` of a store that was `old`
+pub record Summing (p to : ℕ) (old slots : List ℕ) (i : ℕ) (now : List ℕ) : Type 0 where
+  -- the other slots are as they were, and so is all around slot `to`
+  pub others : (t : ℕ) → t ≢ to → part p t now ≡ part p t old
+  pub around : (page : List ℕ) → setPart p to now page ≡ setPart p to old page
+  -- before the first pass slot `to` counts for nothing
+  pub so-far : cond (ltb 0 i) (part p to now) [] ≡ sum (λ t. part p t old) (take i slots)
+
+pub summing-none : (p to : ℕ) (old slots : List ℕ) → Summing p to old slots 0 old
+unfolding sum
+summing-none p to old slots = record { others = λ t ne. refl; around = λ page. refl; so-far = refl }
+
+module _ (p to : ℕ) (old slots : List ℕ) (i : ℕ) (now : List ℕ) (S : Summing p to old slots i now) (left : i < length slots)
+    (apart : (j : ℕ) → j < length slots → getD slots j 0 ≢ to) (fits : to * p + p ≤ length now) where
+  abbrev t : Four
+  t = fourFrom slots i
+
+  abbrev page : List ℕ → ℕ → List ℕ
+  page store s = part p s store
+
+  abbrev added : List ℕ → List ℕ
+  added store = termsSum (length slots - i) (page store (t .a)) (page store (t .b)) (page store (t .c)) (page store (t .d))
+
+  pub summing-more : (new : List ℕ) → length new ≡ p → new ≡ putOrAdd (ltb 0 i) (part p to now) (added now)
+      → Summing p to old slots (i + 4) (setPart p to now new)
+  summing-more new whole e =
+      let ne = four-each (λ (s : ℕ). s ≢ to) slots i left apart in
+      let same : added now ≡ added old =
+      rw (S .others (t .a) (ne .0), S .others (t .b) (ne .1), S .others (t .c) (ne .2), S .others (t .d) (ne .3)) in
+      record {
+        others = λ s n. part-setPart-other p to now new fits whole s n ∙ S .others s n;
+        around = λ x. setPart-twice p to now fits new x whole ∙ S .around x;
+        so-far = rw (lt-ltb 0 (i + 4) (omega arith)) (part-setPart p to now new fits whole ∙ e ∙ putOrAdd-is (ltb 0 i) (part p to now) (added now)
+            ∙ ap₂ (λ (x y : List ℕ). x ⊕ y) (S .so-far) same ∙ sym (pass-more (page old) slots i left));
+      }
+
+-- all are summed
+pub summing-all : (p to : ℕ) (old slots : List ℕ) (i : ℕ) (now : List ℕ) → Summing p to old slots i now → to * p + p ≤ length now → length slots ≤ i → 1 ≤ i
+    → now ≡ setPart p to old (sum (λ t. part p t old) slots)
+summing-all p to old slots i now S fits end some =
+    sym (setPart-same p to now fits) ∙ S .around (part p to now) ∙ ap (setPart p to old) (total ∙ ap (sum (λ t. part p t old)) (take-all i slots end))
+  where
+    total : part p to now ≡ sum (λ t. part p t old) (take i slots)
+    total = rw (lt-ltb 0 i some) at (S .so-far)

@@ -1,0 +1,106 @@
+-- The sum of up to four pages byte by byte, and a slot of the store while that sum is written over it.
+use mathlib.Core.Path.{_≡_, refl, sym, ap, ap₂, _∙_}
+use mathlib.Core.Logic.{⊎-elim}
+use mathlib.Core.Bool.{Bool, true, false, cond}
+use mathlib.Core.List.{List, [], _++_}
+use Prim.Native.Nat.{ℕ, _+_, _*_, _≤_, _<_}
+use native.Mathlib.Nat.{mul-le-mul-right}
+use native.Mathlib.Omega.{arith}
+use lib.Bits.{bitXor}
+use lib.Dec.{ltb}
+use lib.ListN.{length, getD, set, take, drop}
+use Rattle.flash.specs.Lists.{part, setPart}
+use Rattle.flash.specs.PageSum.{_⊕_, putOrAdd}
+use Rattle.flash.specs.inner.Terms.{byteSum, termsSum}
+use Rattle.flash.proofs.Comparisons.{lt-cases}
+use Rattle.flash.proofs.Loops.{front-below, front-above, front-more, front-old, front-new}
+use Rattle.flash.proofs.Parts.{part-fits, length-part, part-at, length-setPart, setPart-at, setPart-below, setPart-above}
+use Rattle.flash.proofs.Sums.{⊕-at, length-⊕, length-putOrAdd}
+
+when-at : (t : Bool) (page : List ℕ) (i : ℕ) → getD (cond t page []) i 0 ≡ cond t (getD page i 0) 0
+when-at true page i = refl
+when-at false page i = refl
+
+when-short : (t : Bool) (page : List ℕ) (size : ℕ) → length page ≡ size → length (cond t page []) ≤ size
+when-short true page size e = omega arith
+when-short false page size e = omega arith
+
+module _ (terms : ℕ) (a b c d : List ℕ) where
+  pub terms-at : (i : ℕ) → getD (termsSum terms a b c d) i 0 ≡ byteSum terms (getD a i 0) (getD b i 0) (getD c i 0) (getD d i 0)
+  unfolding termsSum
+  terms-at i = rw (⊕-at, ⊕-at, ⊕-at, when-at, when-at, when-at)
+
+  pub length-terms : (size : ℕ) → length a ≡ size → length b ≡ size → length c ≡ size → length d ≡ size → length (termsSum terms a b c d) ≡ size
+  unfolding termsSum
+  length-terms size e f g h =
+      let x : List ℕ = cond (ltb 1 terms) b [] in
+      let y : List ℕ = cond (ltb 2 terms) c [] in
+      let z : List ℕ = cond (ltb 3 terms) d [] in
+      omega (arith, length-⊕ a (x ⊕ (y ⊕ z)), length-⊕ x (y ⊕ z), length-⊕ y z, when-short (ltb 1 terms) b size f, when-short (ltb 2 terms) c size g, when-short (ltb 3 terms) d size h)
+
+pub added-byte : (add : Bool) (work page : List ℕ) (i : ℕ) → getD (putOrAdd add work page) i 0 ≡ bitXor (cond add (getD work i 0) 0) (getD page i 0)
+unfolding putOrAdd
+added-byte true work page i = ⊕-at work page i
+added-byte false work page i = refl
+
+-- a slot that is written over byte by byte, from its first on
+module _ (p to : ℕ) (old page : List ℕ) (fits : to * p + p ≤ length old) (whole : length page ≡ p) where
+  abbrev new : List ℕ
+  new = setPart p to old page
+
+  same : length new ≡ length old
+  same = length-setPart p to old page fits whole
+
+  abbrev over : ℕ → List ℕ
+  over i = take (to * p + i) new ++ drop (to * p + i) old
+
+  pub over-none : over 0 ≡ old
+  over-none = front-old new old (to * p + 0) same (λ k h. setPart-below p to old page fits whole k 0 (omega arith))
+
+  pub over-whole : over p ≡ setPart p to old page
+  over-whole = front-new new old (to * p + p) same (λ k h. setPart-above p to old page fits whole k 0 h)
+
+  -- what is read in the turn of byte i is still the old byte
+  pub over-at : (slot i : ℕ) → i < p → getD (over i) (slot * p + i) 0 ≡ getD (part p slot old) i 0
+  over-at slot i h =
+      ⊎-elim
+      (λ (l : slot < to). let f = part-fits slot to p l in front-below new old (to * p + i) (slot * p + i) same (omega arith) ∙ setPart-below p to old page fits whole (slot * p + i) 0 (omega arith))
+      (λ (l : to ≤ slot). front-above new old (to * p + i) (slot * p + i) same (higher l))
+      (lt-cases slot to)
+      ∙ sym (part-at p slot old i 0 h)
+    where
+      higher : to ≤ slot → to * p + i ≤ slot * p + i
+      higher l = omega (arith, mul-le-mul-right p l)
+
+  pub over-more : (i : ℕ) → i < p → set (over i) (to * p + i) (getD page i 0) ≡ over (i + 1)
+  over-more i h =
+      let next : to * p + (i + 1) ≡ to * p + i + 1 = omega arith in
+      rw (next, ← setPart-at p to old page fits whole i 0 h) (front-more new old (to * p + i) same (omega arith))
+
+-- the sum of slots' pages, put into a page or added to it
+abbrev pub summed : (store : List ℕ) (p a b c d terms : ℕ) → List ℕ
+summed store p a b c d terms = termsSum terms (part p a store) (part p b store) (part p c store) (part p d store)
+
+abbrev pub pageSum : (page sum : List ℕ) (add : Bool) → List ℕ
+pageSum page sum add = putOrAdd add page sum
+
+module _ (old : List ℕ) (p a b c d terms : ℕ) (page : List ℕ) (add : Bool) where
+  abbrev bytes : (now : List ℕ) (i : ℕ) → ℕ
+  bytes now i = byteSum terms (getD now (a * p + i) 0) (getD now (b * p + i) 0) (getD now (c * p + i) 0) (getD now (d * p + i) 0)
+
+  pub length-pageSum : (a * p + p ≤ length old) × (b * p + p ≤ length old) × (length page ≡ p) → (c * p + p ≤ length old) × (d * p + p ≤ length old)
+      → length (pageSum page (summed old p a b c d terms) add) ≡ length page
+  length-pageSum f g =
+      length-putOrAdd add page (summed old p a b c d terms)
+      (length-terms terms (part p a old) (part p b old) (part p c old) (part p d old) p (length-part p a old (f .0)) (length-part p b old (f .1)) (length-part p c old (g .0)) (length-part p d old (g .1)) ∙ sym (f .2))
+
+  -- byte i of it, from the bytes that are read in that turn
+  pub pageSum-now : (now : List ℕ) (i : ℕ) → ((slot : ℕ) → getD now (slot * p + i) 0 ≡ getD (part p slot old) i 0)
+      → bitXor (cond add (getD page i 0) 0) (bytes now i) ≡ getD (pageSum page (summed old p a b c d terms) add) i 0
+  pageSum-now now i f =
+      rw (f a, f b, f c, f d)
+      (sym (added-byte add page (summed old p a b c d terms) i
+      ∙ ap (bitXor (cond add (getD page i 0) 0)) (terms-at terms (part p a old) (part p b old) (part p c old) (part p d old) i)))
+
+  pub pageSum-at : (i : ℕ) → i < p → bitXor (cond add (getD page i 0) 0) (bytes old i) ≡ getD (pageSum page (summed old p a b c d terms) add) i 0
+  pageSum-at i h = pageSum-now old i (λ slot. sym (part-at p slot old i 0 h))

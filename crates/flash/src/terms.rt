@@ -1,0 +1,102 @@
+// The page sum, up to four pages in a pass: put into its target or added to what is there. There is a loop for a page outside the store
+// and one for a slot of it, since a slot cannot be lent beside the store that it is part of.
+
+ghost use mathlib.Core.Path.{_≡_};
+ghost use mathlib.Core.Bool.{cond};
+ghost use Prim.Native.Nat.{_+_, _*_, _≤_};
+ghost use lib.ListN.{length};
+ghost use Rattle.flash.specs.Lists.{part, setPart};
+ghost use Rattle.flash.specs.PageSum.{putOrAdd};
+ghost use Rattle.flash.specs.inner.Terms.{byteSum, termsSum};
+
+// The most pages of one pass.
+pub const MOST_TERMS: usize = 4;
+
+fn when(test: bool, byte: u8) -> u8
+    ensures { λ r. ⌜ r ≡ cond test byte 0 ⌝ }
+{
+    if test { byte } else { 0 }
+}
+
+// The sum of the first `terms` of four bytes. In a loop the tests of `terms` are the same in every turn, so that the compiler makes a loop
+// of vector instructions for each number of terms.
+fn byte_sum(terms: usize, a: u8, b: u8, c: u8, d: u8) -> u8
+    ensures { λ r. ⌜ r ≡ byteSum terms a b c d ⌝ }
+{
+    let second = when(1 < terms, b);
+    let third = when(2 < terms, c);
+    let fourth = when(3 < terms, d);
+    a ^ (second ^ (third ^ fourth))
+}
+
+// The sum of up to four pages of the store goes into a page outside it.
+pub fn sum_from(
+    store: &[u8],
+    p: usize,
+    a: usize,
+    b: usize,
+    c: usize,
+    d: usize,
+    terms: usize,
+    page: &mut [u8],
+    add: bool,
+)
+    requires { ⌜ (a * p + p ≤ length (now store)) × (b * p + p ≤ length (now store)) × (length (now page) ≡ p) ⌝ }
+    requires { ⌜ (c * p + p ≤ length (now store)) × (d * p + p ≤ length (now store)) ⌝ }
+    ensures { λ _. ⌜ now (page .exit) ≡ putOrAdd add (now (page .entry)) (termsSum terms (part p a (now (store .entry)))
+        (part p b (now (store .entry))) (part p c (now (store .entry))) (part p d (now (store .entry)))) ⌝ }
+{
+    let one = a * p;
+    let two = b * p;
+    let three = c * p;
+    let four = d * p;
+    let mut i = 0;
+    while i < p {
+        let sum = byte_sum(
+            terms,
+            store[one + i],
+            store[two + i],
+            store[three + i],
+            store[four + i],
+        );
+        page[i] = when(add, page[i]) ^ sum;
+        i += 1;
+    }
+}
+
+// The sum of up to four pages of the store goes into one of its slots.
+pub fn sum_within(
+    store: &mut [u8],
+    p: usize,
+    to: usize,
+    a: usize,
+    b: usize,
+    c: usize,
+    d: usize,
+    terms: usize,
+    add: bool,
+)
+    requires { ⌜ (to * p + p ≤ length (now store)) × (a * p + p ≤ length (now store)) × (b * p + p ≤ length (now store)) ⌝ }
+    requires { ⌜ (c * p + p ≤ length (now store)) × (d * p + p ≤ length (now store)) ⌝ }
+    ensures { λ _. ⌜ now (store .exit) ≡ setPart p to (now (store .entry)) (putOrAdd add (part p to (now (store .entry)))
+        (termsSum terms (part p a (now (store .entry))) (part p b (now (store .entry))) (part p c (now (store .entry)))
+        (part p d (now (store .entry))))) ⌝ }
+{
+    let target = to * p;
+    let one = a * p;
+    let two = b * p;
+    let three = c * p;
+    let four = d * p;
+    let mut i = 0;
+    while i < p {
+        let sum = byte_sum(
+            terms,
+            store[one + i],
+            store[two + i],
+            store[three + i],
+            store[four + i],
+        );
+        store[target + i] = when(add, store[target + i]) ^ sum;
+        i += 1;
+    }
+}
