@@ -10,7 +10,7 @@ use Rattle.flash.specs.Lists.{concatMap, part}
 use Rattle.flash.specs.declared.sizes.Sizes.{Sizes}
 use Rattle.flash.specs.Geometry.{slot, numberAt}
 use Rattle.flash.specs.PageSum.{sum}
-use Rattle.flash.specs.Chip.{Holds, pageAt, writePage, eraseBlock}
+use Rattle.flash.specs.Chip.{Chip, pageAt, writePage, eraseBlock}
 use Rattle.method.specs.Move.{Move, AcceptedMove}
 use Rattle.method.specs.Cycle.{D, pred, isTop, coded, sentTo}
 use Rattle.method.specs.Place.{Pass, forward, backward, Operation, write, erase, done, markOf, writes, operationAt, written}
@@ -57,6 +57,10 @@ module _ (M : Move) (G : AcceptedMove M) (block page : ℕ) (page-in : page < M 
     code-slots k u j e f g t =
         rw (t, ← e, ← f, ← g) (ap (λ (xs : List ℕ). readSlots M marks k ++ xs) (append-nil (readSlots M marks j)))
 
+-- the parts of a chip
+left : {store marks : List ℕ} {chip : Chip} (work : List ℕ) → _≡_ {A = Chip} (record { store = store; marks = marks }) chip → Leaves (record { chip = chip; work = work }) store marks work
+left work H = record { store-is = ap (λ (c : Chip). c .store) H; marks-is = ap (λ (c : Chip). c .marks) H; work-is = refl }
+
 -- ---- a write
 module _ (M : Move) (pass : Pass) (block page : ℕ) (store marks work : List ℕ) where
   open Sizes (M .sizes) using (m, p as P)
@@ -67,17 +71,17 @@ module _ (M : Move) (pass : Pass) (block page : ℕ) (store marks work : List �
   written-is slots new count e f = e ∙ ap (sum (λ t. part P t store)) f
 
   pub wrote : (new store′ marks′ : List ℕ) (mark : ℕ) → new ≡ writtenPage M pass block page (record { store = store; marks = marks }) → mark ≡ markOf (M .sizes) pass
-      → Holds (writePage P (slot m block page) new mark (record { store = store; marks = marks })) store′ marks′
+      → _≡_ {A = Chip} (record { store = store′; marks = marks′ }) (writePage P (slot m block page) new mark (record { store = store; marks = marks }))
       → Leaves (perform M (write pass block page) (runningOf store marks work)) store′ marks′ new
   unfolding perform
-  wrote new store′ marks′ mark e f H = rw (← e, ← f) (record { store-is = H .store-is; marks-is = H .marks-is; work-is = refl })
+  wrote new store′ marks′ mark e f H = rw (← e, ← f) (left new H)
 
 -- ---- the other steps, and the step at a place
 pub erased : (M : Move) (block : ℕ) (store marks work store′ marks′ : List ℕ)
-    → Holds (eraseBlock (M .sizes .m) (M .sizes .p) block (record { store = store; marks = marks })) store′ marks′
+    → _≡_ {A = Chip} (record { store = store′; marks = marks′ }) (eraseBlock (M .sizes .m) (M .sizes .p) block (record { store = store; marks = marks }))
     → Leaves (perform M (erase block) (runningOf store marks work)) store′ marks′ work
 unfolding perform
-erased M block store marks work store′ marks′ H = record { store-is = H .store-is; marks-is = H .marks-is; work-is = refl }
+erased M block store marks work store′ marks′ H = left work H
 
 pub nothing : (M : Move) (store marks work : List ℕ) → Leaves (perform M done (runningOf store marks work)) store marks work
 unfolding perform

@@ -1,3 +1,4 @@
+-- `read_pages` meets its contract: both pages lie in the store.
 use mathlib.Core.Path.{ap₂, _∙_}
 use mathlib.Core.List.{List}
 use Prim.Native.Nat.{ℕ}
