@@ -16,6 +16,11 @@ use Rattle.flash.proofs.Bools.{and-left, and-right}
 use Rattle.flash.proofs.Searches.{all-at, all-of}
 use Rattle.flash.proofs.Parts.{part-fits, length-part, part-at, length-setPart, setPart-at, part-setPart, part-setPart-other, part-part, part-replicate}
 
+-- a chip is its two parts
+pub chip-eq : {store store′ marks marks′ : List ℕ} → store ≡ store′ → marks ≡ marks′
+    → _≡_ {A = Chip} (record { store = store; marks = marks }) (record { store = store′; marks = marks′ })
+chip-eq e f = rw (e, f)
+
 -- a page is a part of the store
 pub page-is : (P : ℕ) (chip : Chip) (t : ℕ) → pageAt P chip t ≡ part P t (chip .store)
 unfolding pageAt

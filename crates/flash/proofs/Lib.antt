@@ -1,3 +1,4 @@
+-- The laws behind the proofs of this crate and of those above it.
 pub mod Bools
 pub mod Comparisons
 pub mod Tables

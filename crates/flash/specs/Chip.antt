@@ -1,6 +1,5 @@
 -- Document 01, "The store": the chip's pages and marks, what is blank, whole or full, and the two things done to them.
 use mathlib.Core.Bool.{Bool, _&&_, _||_, not}
-use mathlib.Core.Path.{_≡_}
 use mathlib.Core.List.{List}
 use Prim.Native.Nat.{ℕ, _*_}
 use lib.Dec.{eqb}
@@ -54,8 +53,3 @@ eraseBlock m P block chip = record {
 -- a page is written to a slot with its mark
 unfoldable pub writePage : (P t : ℕ) → (page : List ℕ) → (mark : ℕ) → Chip → Chip
 writePage P t page mark chip = record { store = setPart P t (chip .store) page; marks = set (chip .marks) t mark }
-
--- the lent store and the lent marks are those of a chip
-pub record Holds (chip : Chip) (store marks : List ℕ) : Type 0 where
-  pub store-is : store ≡ chip .store
-  pub marks-is : marks ≡ chip .marks

@@ -1,3 +1,4 @@
+-- What the contracts of this crate say.
 pub mod Lists
 pub mod Tables
 pub mod Geometry

@@ -3,7 +3,7 @@
 ghost use mathlib.Core.Path.{_≡_};
 ghost use Prim.Native.Nat.{_+_, _*_, _≤_};
 ghost use lib.ListN.{length};
-ghost use Rattle.flash.specs.Chip.{Holds, isFull, eraseBlock};
+ghost use Rattle.flash.specs.Chip.{isFull, eraseBlock};
 use crate::ERASED;
 use crate::bytes::fill;
 use crate::bytes::is_filled;
@@ -12,8 +12,8 @@ use crate::bytes::is_filled;
 pub fn erase_block(store: &mut [u8], marks: &mut [u8], m: usize, p: usize, block: usize)
     requires { ⌜ block * (m * p) + m * p ≤ length (now store) ⌝ }
     requires { ⌜ block * m + m ≤ length (now marks) ⌝ }
-    ensures { λ _. ⌜ Holds (eraseBlock m p block (record { store = now (store .entry); marks = now (marks .entry) }))
-        (now (store .exit)) (now (marks .exit)) ⌝ }
+    ensures { λ _. ⌜ record { store = now (store .exit); marks = now (marks .exit) }
+        ≡ eraseBlock m p block (record { store = now (store .entry); marks = now (marks .entry) }) ⌝ }
 {
     let size = m * p;
     let start = block * size;

@@ -3,7 +3,7 @@
 ghost use mathlib.Core.Path.{_≡_};
 ghost use Prim.Native.Nat.{_+_, _*_, _≤_, _<_};
 ghost use lib.ListN.{length};
-ghost use Rattle.flash.specs.Chip.{Holds, isBlank, writePage};
+ghost use Rattle.flash.specs.Chip.{isBlank, writePage};
 use crate::ERASED;
 use crate::bytes::is_filled;
 use crate::bytes::put_or_add;
@@ -13,8 +13,8 @@ pub fn write_page(store: &mut [u8], marks: &mut [u8], p: usize, slot: usize, wor
     requires { ⌜ slot * p + p ≤ length (now store) ⌝ }
     requires { ⌜ slot < length (now marks) ⌝ }
     requires { ⌜ length (now work) ≡ p ⌝ }
-    ensures { λ _. ⌜ Holds (writePage p slot (now (work .entry)) mark (record { store = now (store .entry); marks = now (marks .entry) }))
-        (now (store .exit)) (now (marks .exit)) ⌝ }
+    ensures { λ _. ⌜ record { store = now (store .exit); marks = now (marks .exit) }
+        ≡ writePage p slot (now (work .entry)) mark (record { store = now (store .entry); marks = now (marks .entry) }) ⌝ }
 {
     let to = slot * p;
     let end = to + p;

@@ -2,19 +2,22 @@
 // for each page.
 ghost use mathlib.Core.Path.{_≡_};
 ghost use Prim.Native.Nat.{_/_, _≤_, _<_};
-ghost use Rattle.flash.specs.inner.Reciprocal.{reciprocal};
+ghost use Rattle.flash.specs.inner.Reciprocal.{reciprocalOf};
 
-// The number `by` for m pages a block.
+// As large as the products below can tell apart: 65,536 page numbers times 64 pages of a block.
+const SCALE: usize = 65536 * 64;
+
+// What a page number is multiplied by, for m pages a block.
 pub fn reciprocal(m: usize) -> usize
     requires { ⌜ 1 ≤ m ⌝ }
-    ensures { λ r. ⌜ r ≡ reciprocal m ⌝ }
+    ensures { λ r. ⌜ r ≡ reciprocalOf m ⌝ }
 {
-    4194304 / m + 1
+    SCALE / m + 1
 }
 
-pub fn quotient(number: usize, m: usize, by: usize) -> usize
-    requires { ⌜ (number < 65536) × (1 ≤ m) × (m ≤ 64) × (by ≡ reciprocal m) ⌝ }
+pub fn quotient(number: usize, m: usize, reciprocal: usize) -> usize
+    requires { ⌜ (number < 65536) × (1 ≤ m) × (m ≤ 64) × (reciprocal ≡ reciprocalOf m) ⌝ }
     ensures { λ r. ⌜ r ≡ number / m ⌝ }
 {
-    number * by / 4194304
+    number * reciprocal / SCALE
 }

@@ -3,6 +3,14 @@
 ghost use mathlib.Core.Path.{_≡_};
 ghost use Prim.Native.Nat.{_≤_, _<_};
 ghost use Rattle.flash.specs.Geometry.{letter, inRange, originalCount, slotCount, storeLength};
+use crate::LETTERS;
+
+// What the sizes may be at most.
+pub const MOST_BLOCKS: usize = 64;
+
+pub const MOST_PAGES: usize = 64;
+
+pub const MOST_PAGE_BYTES: usize = 4096;
 
 // What each call is given besides the lent parts. The definitions use this struct as it is.
 pub struct Sizes {
@@ -21,12 +29,12 @@ pub fn in_range(sizes: Sizes) -> bool
     ensures { λ r. ⌜ r ≡ inRange sizes ⌝ }
 {
     (1 <= sizes.n)
-        & (sizes.n <= 64)
+        & (sizes.n <= MOST_BLOCKS)
         & (1 <= sizes.m)
-        & (sizes.m <= 64)
+        & (sizes.m <= MOST_PAGES)
         & (1 <= sizes.p)
-        & (sizes.p <= 4096)
-        & (sizes.s < 3)
+        & (sizes.p <= MOST_PAGE_BYTES)
+        & (sizes.s < LETTERS as usize)
 }
 
 // How many originals there are, which is the length of the list and of the set bytes.
@@ -58,5 +66,5 @@ pub fn letter_after(sizes: Sizes, i: usize) -> u8
     requires { ⌜ (sizes .s < 3) × (i < 3) ⌝ }
     ensures { λ r. ⌜ r ≡ letter sizes i ⌝ }
 {
-    ((sizes.s + i) % 3) as u8
+    ((sizes.s + i) % LETTERS as usize) as u8
 }

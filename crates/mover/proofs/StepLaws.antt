@@ -10,7 +10,7 @@ use Rattle.flash.specs.Lists.{concatMap, part}
 use Rattle.flash.specs.declared.sizes.Sizes.{Sizes}
 use Rattle.flash.specs.Geometry.{slot, numberAt}
 use Rattle.flash.specs.PageSum.{sum}
-use Rattle.flash.specs.Chip.{Chip, Holds, pageAt, writePage, eraseBlock}
+use Rattle.flash.specs.Chip.{Chip, pageAt, writePage, eraseBlock}
 use Rattle.method.specs.declared.tally.Tally.{Tally}
 use Rattle.method.specs.Move.{Move, AcceptedMove}
 use Rattle.method.specs.Cycle.{D, pred, isTop, coded, sentTo}
@@ -58,9 +58,6 @@ module _ (M : Move) (G : AcceptedMove M) (block page : ℕ) (page-in : page < M 
         rw (t, ← e, ← f, ← g) (ap (λ (xs : List ℕ). readSlots M marks k ++ xs) (append-nil (readSlots M marks j)))
 
 -- ---- a write
-pub held : (chip : Chip) (store marks : List ℕ) → Holds chip store marks → record { store = store; marks = marks } ≡ chip
-held chip store marks H = λ i. record { store = H .store-is i; marks = H .marks-is i }
-
 module _ (M : Move) (pass : Pass) (block page : ℕ) (store marks work : List ℕ) where
   open Sizes (M .sizes) using (m, p as P)
 

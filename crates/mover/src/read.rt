@@ -12,10 +12,10 @@ ghost use Rattle.mover.specs.Answers.{readAs};
 use crate::refusals::move_refusal;
 use flash::sizes::Sizes;
 use flash::sizes::original_count;
+use flash::slots::sum_to_page;
 use recovery::marks::MarksRead;
 use recovery::marks::read_marks;
 use walk::cycles::follow;
-use walk::pages::sum_pages;
 use walk::walk::read_slots;
 
 // What a read returns: the refusal number, and how many stored pages were summed, 0 with a refusal.
@@ -70,7 +70,7 @@ fn rebuild(
     follow(sizes, list, sets, &mut pages, &mut from);
     let mut slots = [0usize; 130];
     let count = read_slots(sizes, list, sets, &pages, &from, marks, k, &mut slots, 0);
-    sum_pages(store, sizes.p, &slots, count, work);
+    sum_to_page(store, sizes.p, &slots, count, work);
     count
 }
 

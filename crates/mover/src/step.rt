@@ -16,13 +16,13 @@ use flash::block::erase_block;
 use flash::casts::wide;
 use flash::page::write_page;
 use flash::sizes::Sizes;
+use flash::slots::sum_to_page;
 use method::tally::Tally;
 use places::place::Op;
 use places::place::Place;
 use walk::cycles::is_top;
 use walk::cycles::page_of;
 use walk::cycles::sent_to;
-use walk::pages::sum_pages;
 use walk::walk::read_slots;
 
 // The slots whose pages are summed for a write: in the backward pass those of the original that the list sends there, in the
@@ -97,7 +97,7 @@ fn write(
         page,
         &mut slots,
     );
-    sum_pages(store, sizes.p, &slots, count, work);
+    sum_to_page(store, sizes.p, &slots, count, work);
     write_page(store, marks, sizes.p, block * sizes.m + page, work, mark);
 }
 

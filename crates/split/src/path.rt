@@ -4,7 +4,7 @@ ghost use mathlib.Core.Bool.{cond};
 ghost use Prim.Native.Nat.{_≤_, _<_};
 ghost use lib.ListN.{length, getD};
 ghost use Rattle.split.specs.Rule.{isPageOf};
-ghost use Rattle.flash.specs.inner.Reciprocal.{reciprocal};
+ghost use Rattle.flash.specs.inner.Reciprocal.{reciprocalOf};
 ghost use Rattle.split.specs.inner.Ends.{endOf};
 ghost use Rattle.split.specs.inner.Hints.{pageOf, soughtPage};
 ghost use Rattle.split.specs.inner.Work.{Found, Sought, Working, Blocked, Exchanged};
@@ -26,7 +26,7 @@ fn is_page(
     set: usize,
     page: usize,
 ) -> bool
-    requires { ⌜ (1 ≤ m) × (m ≤ 64) × (by ≡ reciprocal m) ⌝ }
+    requires { ⌜ (1 ≤ m) × (m ≤ 64) × (by ≡ reciprocalOf m) ⌝ }
     requires { ⌜ (page < length (now list)) × (page < length (now sets)) × (page < 65536) ⌝ }
     ensures { λ r. ⌜ r ≡ isPageOf m (now (list .entry)) (now (sets .entry)) (endOf source) block set page ⌝ }
 {
@@ -44,7 +44,7 @@ fn search(
     block: usize,
     set: usize,
 ) -> usize
-    requires { ⌜ (1 ≤ m) × (m ≤ 64) × (by ≡ reciprocal m) ⌝ }
+    requires { ⌜ (1 ≤ m) × (m ≤ 64) × (by ≡ reciprocalOf m) ⌝ }
     requires { ⌜ (k ≤ length (now list)) × (k ≤ length (now sets)) × (k ≤ 65536) ⌝ }
     ensures { λ r. ⌜ Found m (now (list .entry)) (now (sets .entry)) k (endOf source) block set r ⌝ }
     ensures { λ r. ⌜ r ≡ pageOf m (now (list .entry)) (now (sets .entry)) k (endOf source) block set ⌝ }
@@ -72,7 +72,7 @@ fn find(
     set: usize,
     mask: u64,
 ) -> usize
-    requires { ⌜ (1 ≤ m) × (m ≤ 64) × (by ≡ reciprocal m) ⌝ }
+    requires { ⌜ (1 ≤ m) × (m ≤ 64) × (by ≡ reciprocalOf m) ⌝ }
     requires { ⌜ (k ≤ length (now list)) × (k ≤ length (now sets)) × (k ≤ 65536) ⌝ }
     requires { ⌜ (1 ≤ block) × (block ≤ 64) × (set < 64) ⌝ }
     ensures { λ r. ⌜ Sought m (now (list .entry)) (now (sets .entry)) k (endOf source) block set mask r ⌝ }
@@ -122,7 +122,7 @@ pub fn exchange(
     last: &mut [u8; 8192],
 )
     requires { ⌜ Working m (now list) k (now sets) (now sources) (now destinations) ⌝ }
-    requires { ⌜ (by ≡ reciprocal m) × (k < length (now list)) × Blocked m (now list) k a b ⌝ }
+    requires { ⌜ (by ≡ reciprocalOf m) × (k < length (now list)) × Blocked m (now list) k a b ⌝ }
     ensures { λ _. ⌜ Exchanged m (now (list .entry)) k a b (now (sets .exit)) (now (sources .exit)) (now (destinations .exit)) ⌝ }
 {
     let mut source = false;

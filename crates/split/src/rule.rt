@@ -4,7 +4,7 @@ ghost use Prim.Native.Nat.{_+_, _*_, _<_};
 ghost use lib.ListN.{length};
 ghost use Rattle.split.specs.Rule.{splitByRule};
 ghost use Rattle.split.specs.inner.Accepted.{Accepted};
-ghost use Rattle.flash.specs.inner.Reciprocal.{reciprocal};
+ghost use Rattle.flash.specs.inner.Reciprocal.{reciprocalOf};
 ghost use Rattle.split.specs.inner.Work.{Working};
 use crate::ends::block_by;
 use crate::mask::flip;
@@ -26,7 +26,7 @@ fn give(
     last: &mut [u8; 8192],
 )
     requires { ⌜ Working m (now list) k (now sets) (now sources) (now destinations) ⌝ }
-    requires { ⌜ (by ≡ reciprocal m) × (k < length (now list)) ⌝ }
+    requires { ⌜ (by ≡ reciprocalOf m) × (k < length (now list)) ⌝ }
     ensures { λ _. ⌜ Working m (now (list .entry)) (k + 1) (now (sets .exit)) (now (sources .exit)) (now (destinations .exit)) ⌝ }
 {
     let source = block_by(list, m, by, true, k);

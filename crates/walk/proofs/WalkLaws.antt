@@ -31,35 +31,6 @@ use Rattle.walk.specs.inner.Moving.{Tables}
 pub home-is : (m k : ℕ) → k + m ≡ slotOf m k
 home-is m k = omega (arith, suc-mul (k / m) m, div-add-mod' k m, add-one (k / m))
 
--- one page more is added
-pub sum-turn : (page : ℕ → List ℕ) (slots : List ℕ) (i : ℕ) → i < length slots → sum page (take (i + 1) slots) ≡ sum page (take i slots) ⊕ page (getD slots i 0)
-sum-turn page slots i h = rw (add-one i, take-suc slots i 0 h) (sum-more page (take i slots) (getD slots i 0))
-
--- the next page of the first `count` slots, and the one behind it if there is one
-module _ (page : ℕ → List ℕ) (slots : List ℕ) (count i other : ℕ) (fits : count ≤ length slots) (more : i < count) where
-  summed : ℕ → List ℕ
-  summed j = sum page (take j (take count slots))
-
-  turn : (j : ℕ) → j < count → summed (j + 1) ≡ summed j ⊕ page (getD slots j 0)
-  unfolding summed
-  turn j h = rw (← getD-take count slots j 0 h) (sum-turn page (take count slots) j (omega (arith, length-take-le count slots fits)))
-
-  pub sum-pair : ((i + 1 < count) × (other ≡ getD slots (i + 1) 0)) ⊎ (count ≤ i + 1)
-      → sum page (take (i + 2) (take count slots)) ≡ sum page (take i (take count slots)) ⊕ oneOrBoth (ltb (i + 1) count) (page (getD slots i 0)) (page other)
-  unfolding oneOrBoth summed
-  sum-pair =
-      ⊎-elim
-      (λ two.
-      let next : i + 2 ≡ (i + 1) + 1 = omega arith in
-      let second : List ℕ = page (getD slots (i + 1) 0) in
-      rw (lt-ltb (i + 1) count (two .0), two .1, next)
-      (turn (i + 1) (two .0) ∙ ap (λ (w : List ℕ). w ⊕ second) (turn i more) ∙ ⊕-assoc (summed i) (page (getD slots i 0)) second))
-      (λ last.
-      let size = length-take-le count slots fits in
-      let same : take (i + 2) (take count slots) ≡ take (i + 1) (take count slots) =
-      take-all (i + 2) (take count slots) (omega arith) ∙ sym (take-all (i + 1) (take count slots) (omega arith)) in
-      rw (le-ltb (i + 1) count last, same) (turn i more))
-
 -- ---- slots that are put into the array one after the other: `rest` are those that are left of `all`
 module _ (slots : List ℕ) (count t : ℕ) (rest all : List ℕ) (fits : count < length slots) (now : take count slots ++ rest ≡ all) where
   pub put-next : (more : List ℕ) → rest ≡ t ∷ more → take (count + 1) (set slots count t) ++ more ≡ all

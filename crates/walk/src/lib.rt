@@ -2,5 +2,4 @@
 // A function here may have a `requires`: only the crates above call it, and their proofs show it.
 
 pub mod cycles;
-pub mod pages;
 pub mod walk;

@@ -1,3 +1,4 @@
+-- The claims about marks hold.
 use borrow.Author.Tests.{lt-ltb, le-ltb}
 use Rattle.flash.specs.Geometry.{isLetter}
 use Rattle.flash.specs.Chip.{markAt, isWhole}

@@ -1,7 +1,9 @@
+-- `erase_block` meets its contract: both parts are filled and come back.
 use native.Mathlib.Omega.{arith}
 use Prim.Native.Nat.{_*_}
 use Rattle.flash.specs.Chip.{erased, eraseBlock}
 use Rattle.flash.proofs.Parts.{filled-back}
+use Rattle.flash.proofs.Chips.{chip-eq}
 use Rattle.flash.proofs.block.erase_block.Statement.{statement}
 use Rattle.flash.proofs.block.erase_block.Tie as tie
 
@@ -56,10 +58,8 @@ returns c =
     let a = c .before .before .before .before .before .before .before .before .before .before .args in
     let store-part = c .before .before .before .before .before .before .fill in
     let marks-part = c .before .before .fill2 in
-    record {
-      store-is = filled-back (a .m * a .p) (a .block) erased (a .store .now) (store-part .last .0) (omega arith) (store-part .ensures);
-      marks-is = filled-back (a .m) (a .block) erased (a .marks .now) (marks-part .last .0) (omega arith) (marks-part .ensures);
-    }
+    chip-eq (filled-back (a .m * a .p) (a .block) erased (a .store .now) (store-part .last .0) (omega arith) (store-part .ensures))
+    (filled-back (a .m) (a .block) erased (a .marks .now) (marks-part .last .0) (omega arith) (marks-part .ensures))
 
 pub erase-block-spec : {M : Type 1} → statement M
 erase-block-spec =

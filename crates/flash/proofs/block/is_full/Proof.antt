@@ -1,3 +1,4 @@
+-- `is_full` meets its contract: the marks of a block are a part.
 use mathlib.Core.Path.{sym, ap, _∙_}
 use mathlib.Core.List.{List}
 use Prim.Native.Nat.{ℕ}

@@ -1,3 +1,4 @@
+-- `fill` meets its contract: the bytes passed are the value.
 use mathlib.Core.Path.{_≡_, refl, _∙_}
 use mathlib.Core.List.{_++_, append-nil}
 use Prim.Native.Nat.{_≤_, _-_}

@@ -1,3 +1,4 @@
+-- `is_filled` meets its contract: the gathered bits are 0 while each byte is the value.
 use mathlib.Core.Path.{_≡_, refl, _∙_}
 use Prim.Native.Nat.{_≤_, _<_, _-_}
 use native.Mathlib.Omega.{arith}

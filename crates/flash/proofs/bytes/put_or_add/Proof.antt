@@ -1,3 +1,4 @@
+-- `put_or_add` meets its contract: the bytes passed are those of the sum.
 use mathlib.Core.Path.{_≡_, refl, sym, _∙_}
 use mathlib.Core.List.{_++_, append-nil}
 use mathlib.Core.Logic.{⊎-elim}

@@ -1,3 +1,4 @@
+-- `write_page` meets its contract: a plain copy, and the mark.
 use mathlib.Core.Path.{refl, ap, _∙_}
 use native.Mathlib.Omega.{arith}
 use lib.ListN.{length-set}
@@ -5,6 +6,7 @@ use Rattle.flash.specs.Lists.{setPart}
 use Rattle.flash.specs.PageSum.{oneOrBoth, putOrAdd}
 use Rattle.flash.specs.Chip.{writePage}
 use Rattle.flash.proofs.Parts.{lent-back}
+use Rattle.flash.proofs.Chips.{chip-eq}
 use Rattle.flash.proofs.page.write_page.Statement.{statement}
 use Rattle.flash.proofs.page.write_page.Tie as tie
 
@@ -40,10 +42,7 @@ unfolding writePage putOrAdd oneOrBoth
 returns c =
     let a = c .before .before .before .before .before .before .before .args in
     let put = c .before .before .put-or-add in
-    record {
-      store-is = lent-back (a .p) (a .slot) (a .store .now) (put .last .0) ∙ ap (setPart (a .p) (a .slot) (a .store .now)) (put .ensures);
-      marks-is = refl;
-    }
+    chip-eq (lent-back (a .p) (a .slot) (a .store .now) (put .last .0) ∙ ap (setPart (a .p) (a .slot) (a .store .now)) (put .ensures)) refl
 
 pub write-page-spec : {M : Type 1} → statement M
 write-page-spec =

@@ -1,8 +1,9 @@
+-- `reciprocal` meets its contract.
 use mathlib.Core.Path.{refl}
 use native.Mathlib.Nat.{div-le-self}
 use native.Mathlib.Omega.{arith}
 use borrow.Author.Needs.{needs}
-use Rattle.flash.specs.inner.Reciprocal.{reciprocal}
+use Rattle.flash.specs.inner.Reciprocal.{scale, reciprocalOf}
 use Rattle.flash.proofs.quotient.reciprocal.Statement.{statement}
 use Rattle.flash.proofs.quotient.reciprocal.Tie as tie
 
@@ -10,10 +11,10 @@ div-result : tie.Need-div-result
 div-result c = search needs
 
 add-result : tie.Need-add-result
-add-result c = record { fits = omega (arith, div-le-self 4194304 (c .args .m)) }
+add-result c = record { fits = omega (arith, div-le-self scale (c .args .m)) }
 
 returns : tie.Need-returns
-unfolding reciprocal
+unfolding reciprocalOf
 returns c = refl
 
 pub reciprocal-spec : {M : Type 1} → statement M

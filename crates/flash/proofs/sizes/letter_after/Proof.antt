@@ -1,3 +1,4 @@
+-- `letter_after` meets its contract.
 use borrow.Author.Needs.{needs}
 use Rattle.flash.specs.Geometry.{letter}
 use Rattle.flash.proofs.sizes.letter_after.Statement.{statement}
@@ -9,9 +10,15 @@ add-result c = search needs
 cast-result : tie.Need-cast-result
 cast-result c = search needs
 
+rem-result : tie.Need-rem-result
+rem-result c = search needs
+
+cast-result-2 : tie.Need-cast-result-2
+cast-result-2 c = search needs
+
 returns : tie.Need-returns
 unfolding letter
 returns c = search needs
 
 pub letter-after-spec : {M : Type 1} → statement M
-letter-after-spec = tie.close (tie.spec add-result cast-result returns)
+letter-after-spec = tie.close (tie.spec add-result cast-result rem-result cast-result-2 returns)

@@ -1,3 +1,4 @@
+-- `original_count` meets its contract.
 use native.Mathlib.Omega.{arith}
 use Rattle.flash.proofs.Bounds.{product-le}
 use Rattle.flash.proofs.sizes.original_count.Statement.{statement}

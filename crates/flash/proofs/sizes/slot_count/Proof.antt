@@ -1,3 +1,4 @@
+-- `slot_count` meets its contract.
 use native.Mathlib.Omega.{arith}
 use Rattle.flash.proofs.Bounds.{product-le}
 use Prim.Native.Nat.{_+_}

@@ -34,18 +34,18 @@ read-slots-requires c κs =
     let f = c .before .before .before .before .before .follow .ensures in
     (f, (pre .1 .marks-length, pre .2, omega arith, omega arith))
 
-slice-aggregate-sum-pages : tie.Need-slice-aggregate-sum-pages
-slice-aggregate-sum-pages c = search needs
+slice-aggregate-sum-to-page : tie.Need-slice-aggregate-sum-to-page
+slice-aggregate-sum-to-page c = search needs
 
-sum-pages-requires : tie.Need-sum-pages-requires
-sum-pages-requires c κs =
+sum-to-page-requires : tie.Need-sum-to-page-requires
+sum-to-page-requires c κs =
     let start = c .before .before .before .before .before .before .before .before .before .before .before .before .before .before .before .before .before in
     let a = start .args in
     let pre = start .pre in
     let M = moveOf (a .sizes) (a .list .now) (a .sets .now) in
     let r = c .before .before .before .read-slots in
     let inside = among (λ t. t < slotCount (a .sizes)) _ _ (r .result) (omega (arith, r .ensures .few)) (r .ensures .slots-are) (read-in M (pre .0) (a .marks .now) (a .k) (pre .2)) in
-    ((r .ensures .some, omega (arith, r .ensures .few), pre .1 .work-length), (λ j h. rw (pre .1 .store-length) (slot-in-store (a .sizes) _ (inside j h))))
+    ((r .ensures .some, omega (arith, r .ensures .few), omega (arith, r .ensures .few), pre .1 .work-length), (λ j h. rw (pre .1 .store-length) (slot-in-store (a .sizes) _ (inside j h))))
 
 same-length : tie.Need-same-length
 same-length c = search needs
@@ -54,7 +54,7 @@ returns : tie.Need-returns
 unfolding readPage pageAt
 returns c =
     let r = c .before .before .before .before .before .before .read-slots in
-    let s = c .before .before .sum-pages in
+    let s = c .before .before .sum-to-page in
     let a = c .before .before .before .before .before .before .before .before .before .before .before .before .before .before .before .before .before .before .before .before .args in
     (((sym (length-take-le (r .result) _ (omega (arith, r .ensures .few))) ∙ ap length (r .ensures .slots-are), omega (arith, r .ensures .few))), s .ensures ∙ ap (sum (λ t. part (a .sizes .p) t (a .store .now))) (r .ensures .slots-are))
 
@@ -67,7 +67,7 @@ rebuild-spec =
     follow-requires
     slice-aggregate-read-slots
     read-slots-requires
-    slice-aggregate-sum-pages
-    sum-pages-requires
+    slice-aggregate-sum-to-page
+    sum-to-page-requires
     same-length
     returns)

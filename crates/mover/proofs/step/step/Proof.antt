@@ -7,7 +7,7 @@ use Rattle.method.specs.Place.{write, erase, done, operationAt}
 use Rattle.method.specs.Step.{perform, tallied}
 use Rattle.places.specs.inner.Place.{passOf}
 use Rattle.places.proofs.StepTold.{IsWrite, is-write, IsErase, is-erase, told-done}
-use Rattle.mover.proofs.StepLaws.{held, erased, stepped}
+use Rattle.mover.proofs.StepLaws.{erased, stepped}
 use Rattle.mover.proofs.step.step.Statement.{statement}
 use Rattle.mover.proofs.step.step.Tie as tie
 
@@ -90,7 +90,7 @@ returns-2 c =
     let M = moveOf (a .sizes) (a .list .now) (a .sets .now) in
     let b = d .before .before .before .before .before .before .before .before .block .given .0 .0 in
     stepped M (a .place .at) (erase b) (erases (d .before .before .before .before .before) .is) _ _ _ _
-    (erased M b (a .store .now) (a .marks .now) (a .work .now) _ _ (held _ _ _ (d .before .before .before .before .erase-block .ensures))) (c .one-erase .ensures)
+    (erased M b (a .store .now) (a .marks .now) (a .work .now) _ _ (d .before .before .before .before .erase-block .ensures)) (c .one-erase .ensures)
 
 returns-3 : tie.Need-returns-3
 unfolding perform tallied

@@ -8,7 +8,7 @@ use Rattle.flash.proofs.Bounds.{slot-in-marks, slot-in-store, product-le}
 use Rattle.places.specs.inner.Place.{passOf}
 use Rattle.walk.proofs.SlotLaws.{among}
 use Rattle.mover.proofs.WriteSlots.{write-in}
-use Rattle.mover.proofs.StepLaws.{held, written-is, wrote}
+use Rattle.mover.proofs.StepLaws.{written-is, wrote}
 use Rattle.mover.proofs.step.write.Statement.{statement}
 use Rattle.mover.proofs.step.write.Tie as tie
 
@@ -24,11 +24,11 @@ write-slots-requires c κs =
     let L = start .pre .0 .1 in
     ((R, L .marks-length, omega arith), (omega arith, omega arith, start .pre .1 .2, start .pre .1 .3))
 
-slice-aggregate-sum-pages : tie.Need-slice-aggregate-sum-pages
-slice-aggregate-sum-pages c = search needs
+slice-aggregate-sum-to-page : tie.Need-slice-aggregate-sum-to-page
+slice-aggregate-sum-to-page c = search needs
 
-sum-pages-requires : tie.Need-sum-pages-requires
-sum-pages-requires c κs =
+sum-to-page-requires : tie.Need-sum-to-page-requires
+sum-to-page-requires c κs =
     let start = c .before .before .before .before .before .before .before .before .before .before .before .before in
     let a = start .args in
     let M = moveOf (a .sizes) (a .list .now) (a .sets .now) in
@@ -37,7 +37,7 @@ sum-pages-requires c κs =
     let w = c .before .before .before .before .write-slots in
     let inside = among (λ t. t < slotCount (a .sizes)) _ _ (w .result) (omega (arith, w .kept .1 .1 .1 .1 .1 .1 .1 .1 .1 .0, w .ensures .2)) (w .ensures .0)
     (write-in M (R .given) (a .marks .now) (a .block) (a .page) (omega arith) (a .backward) (start .pre .1 .2) (start .pre .1 .3) (omega arith)) in
-    ((w .ensures .1, omega (arith, w .kept .1 .1 .1 .1 .1 .1 .1 .1 .1 .0, w .ensures .2), L .work-length), (λ j h. rw (L .store-length) (slot-in-store (a .sizes) _ (inside j h))))
+    ((w .ensures .1, omega (arith, w .kept .1 .1 .1 .1 .1 .1 .1 .1 .1 .0, w .ensures .2), omega (arith, w .ensures .2), L .work-length), (λ j h. rw (L .store-length) (slot-in-store (a .sizes) _ (inside j h))))
 
 -- the slot is one of the store
 inside : (c : tie.Start) → c .args .block * c .args .sizes .m + c .args .page < 4225
@@ -59,7 +59,7 @@ write-page-requires c κs =
     let R = start .pre .0 .0 in
     let L = start .pre .0 .1 in
     let i = slot-in-marks (a .sizes) (a .block) (a .page) (omega arith) (omega arith) in
-    (rw (L .store-length) (slot-in-store (a .sizes) _ i), (rw (L .marks-length) i, omega (arith, c .before .before .before .before .before .before .sum-pages .kept .1 .1 .1 .1 .0, L .work-length)))
+    (rw (L .store-length) (slot-in-store (a .sizes) _ i), (rw (L .marks-length) i, omega (arith, c .before .before .before .before .before .before .sum-to-page .kept .1 .1 .1 .1 .0, L .work-length)))
 
 same-length : tie.Need-same-length
 same-length c = search needs
@@ -68,7 +68,7 @@ same-length-2 : tie.Need-same-length-2
 same-length-2 c = search needs
 
 same-length-3 : tie.Need-same-length-3
-same-length-3 c = omega (arith, c .before .before .before .before .before .before .before .before .before .before .before .sum-pages .kept .1 .1 .1 .1 .0)
+same-length-3 c = omega (arith, c .before .before .before .before .before .before .before .before .before .before .before .sum-to-page .kept .1 .1 .1 .1 .0)
 
 returns : tie.Need-returns
 returns c =
@@ -78,9 +78,9 @@ returns c =
     let R = start .pre .0 .0 in
     let L = start .pre .0 .1 in
     let w = c .before .before .before .before .before .before .before .before .before .before .before .before .before .before .before .before .write-slots in
-    let s = c .before .before .before .before .before .before .before .before .before .before .before .sum-pages in
+    let s = c .before .before .before .before .before .before .before .before .before .before .before .sum-to-page in
     let new = written-is M (passOf (a .backward)) (a .block) (a .page) (a .store .now) (a .marks .now) (a .work .now) _ _ (w .result) (s .ensures) (w .ensures .0) in
-    wrote M (passOf (a .backward)) (a .block) (a .page) (a .store .now) (a .marks .now) (a .work .now) _ _ _ (a .mark) new (start .pre .1 .4) (held _ _ _ (c .before .before .before .before .write-page .ensures))
+    wrote M (passOf (a .backward)) (a .block) (a .page) (a .store .now) (a .marks .now) (a .work .now) _ _ _ (a .mark) new (start .pre .1 .4) (c .before .before .before .before .write-page .ensures)
 
 pub write-spec : {M : Type 1} → statement M
 write-spec =
@@ -88,8 +88,8 @@ write-spec =
     (tie.spec
     slice-aggregate-write-slots
     write-slots-requires
-    slice-aggregate-sum-pages
-    sum-pages-requires
+    slice-aggregate-sum-to-page
+    sum-to-page-requires
     mul-write-page
     add-write-page
     write-page-requires

@@ -151,7 +151,7 @@ returns-5 c =
     let t = e .before .before .before .before in
     let k = t .before .before .before .before in
     let a = k .before .before .before .before .before .before .before .args in
-    rw (e .erase-block .ensures .store-is, e .erase-block .ensures .marks-is, c .place-if-torn .ensures)
+    rw (e .erase-block .ensures, c .place-if-torn .ensures)
     (sym (mended-torn _ _ (in-ranges (k .before .before .before)) (good k) _ _ (sym (told (t .before .before)) ∙ ap (readingOf (a .sizes)) (t .backward2 .given .1))))
 
 pub mend-spec : {M : Type 1} → statement M

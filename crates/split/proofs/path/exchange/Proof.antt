@@ -6,7 +6,7 @@ use borrow.Author.Needs.{needs}
 use lib.ListN.{length, getD}
 use Rattle.split.specs.Rule.{End, source, destination, blockAt}
 use Rattle.split.specs.inner.Mask.{FlippedBoth}
-use Rattle.flash.specs.inner.Reciprocal.{reciprocal}
+use Rattle.flash.specs.inner.Reciprocal.{reciprocalOf}
 use Rattle.split.specs.inner.Ends.{endOf}
 use Rattle.split.specs.inner.Work.{Sought}
 use Rattle.split.proofs.PathLaws.{pages-fit, block-room, of-block}
@@ -75,7 +75,7 @@ inside : (i : tie.In-loop Inv-loop μ-loop)
 inside i = let start = i .before .before .before .before .before .before .before .before .before in omega (arith, start .pre .0 .within, i .loop-test .taken)
 
 listed : (i : tie.In-loop Inv-loop μ-loop) → (let start = i .before .before .before .before .before .before .before .before .before in let m = start .args .m in let met = i .before .loop .met in
-    (1 ≤ m) × (m ≤ 64) × (start .args .by ≡ reciprocal m) × (met < length (start .args .list .now)) × (met < 65536))
+    (1 ≤ m) × (m ≤ 64) × (start .args .by ≡ reciprocalOf m) × (met < length (start .args .list .now)) × (met < 65536))
 listed i =
     let start = i .before .before .before .before .before .before .before .before .before in
     let A = start .pre .0 .accepted in

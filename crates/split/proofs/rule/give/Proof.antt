@@ -5,7 +5,7 @@ use native.Mathlib.Omega.{arith}
 use Rattle.split.specs.Rule.{End, source, destination, blockAt, isUsed, lowestUnused, setsGiven}
 use lib.ListN.{length, length-set}
 use Rattle.split.specs.inner.Mask.{FlippedAt}
-use Rattle.flash.specs.inner.Reciprocal.{reciprocal}
+use Rattle.flash.specs.inner.Reciprocal.{reciprocalOf}
 use Rattle.split.specs.inner.Work.{Blocked}
 use Rattle.split.proofs.PathLaws.{pages-fit, block-room, of-block}
 use Rattle.split.proofs.Filling.{lowest-free, lowest-fits, blocked, given-more, gives-plain, gives-exchanged, Fresh}
@@ -14,7 +14,7 @@ use Rattle.split.proofs.rule.give.Statement.{statement}
 use Rattle.split.proofs.rule.give.Tie as tie
 
 listed : (c : tie.After-slice-known) → (let start = c .before .before in let m = start .args .m in let k = start .args .k in
-    (1 ≤ m) × (m ≤ 64) × (start .args .by ≡ reciprocal m) × (k < length (start .args .list .now)) × (k < 65536))
+    (1 ≤ m) × (m ≤ 64) × (start .args .by ≡ reciprocalOf m) × (k < length (start .args .list .now)) × (k < 65536))
 listed c =
     let start = c .before .before in
     let A = start .pre .0 .accepted in
