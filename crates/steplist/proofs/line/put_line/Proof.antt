@@ -1,3 +1,4 @@
+-- The line printed is that of the step at the place.
 use native.Mathlib.Omega.{arith}
 use Rattle.method.specs.Place.{operationAt}
 use Rattle.listing.proofs.PrintLaws.{nothing-printed}
