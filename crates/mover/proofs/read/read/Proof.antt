@@ -5,8 +5,6 @@ use native.Mathlib.Omega.{arith}
 use borrow.Author.Needs.{needs}
 use lib.Dec.{leb}
 use borrow.Author.Tests.{leb-false}
-use Rattle.split.specs.Request.{requestOf}
-use Rattle.flash.specs.Chip.{Chip}
 use Rattle.method.proofs.basics.AcceptedCalls.{move-accepted}
 use Rattle.mover.proofs.ReadLaws.{refused-by-move, refused-6, refused-7, rebuilt}
 use Rattle.mover.proofs.read.read.Statement.{statement}
@@ -23,27 +21,18 @@ same-length c = search needs
 
 returns : tie.Need-returns
 returns c =
-    let a = c .before .before .before .before .before .before .before .before .before .args in
-    let R = requestOf (a .sizes) (a .list .now) (a .sets .now) in
-    let chip : Chip = record { store = a .store .now; marks = a .marks .now } in
     let r = c .before .before .move-refusal in
-    refused-by-move R chip (a .work .now) (a .k) (r .result) (c .refused .result) (r .ensures) (c .before .if1 .taken) (c .refused .ensures)
+    refused-by-move _ _ _ _ (r .result) (c .refused .result) (r .ensures) (c .before .if1 .taken) (c .refused .ensures)
 
 fits-none-requires : tie.Need-fits-none-requires
 fits-none-requires c κs =
-    let a = c .before .before .before .before .before .before .before .before .args in
-    let R = requestOf (a .sizes) (a .list .now) (a .sets .now) in
-    let chip : Chip = record { store = a .store .now; marks = a .marks .now } in
-    let g = move-accepted R chip (a .work .now) [] (sym (sym (c .if1 .left) ∙ c .before .move-refusal .ensures)) in
+    let g = move-accepted _ _ _ [] (sym (sym (c .if1 .left) ∙ c .before .move-refusal .ensures)) in
     let G = g .0 in
     ((G .ranges .n-high, G .ranges .m-low, G .ranges .m-high, G .ranges .s-high), g .1 .marks-length)
 
 original-count-requires : tie.Need-original-count-requires
 original-count-requires c κs =
-    let a = c .before .before .before .before .before .before .before .before .before .args in
-    let R = requestOf (a .sizes) (a .list .now) (a .sets .now) in
-    let chip : Chip = record { store = a .store .now; marks = a .marks .now } in
-    let G = move-accepted R chip (a .work .now) [] (sym (sym (c .before .if1 .left) ∙ c .before .before .move-refusal .ensures)) .0 in
+    let G = move-accepted _ _ _ [] (sym (sym (c .before .if1 .left) ∙ c .before .before .move-refusal .ensures)) .0 in
     (G .ranges .n-high, G .ranges .m-high)
 
 refused-requires-2 : tie.Need-refused-requires-2
@@ -55,9 +44,7 @@ same-length-2 c = search needs
 returns-2 : tie.Need-returns-2
 returns-2 c =
     let a = c .before .before .before .before .before .before .before .before .before .before .before .before .args in
-    let R = requestOf (a .sizes) (a .list .now) (a .sets .now) in
-    let chip : Chip = record { store = a .store .now; marks = a .marks .now } in
-    refused-6 R chip (a .work .now) (a .k) (sym (c .before .before .before .before .if1 .left) ∙ c .before .before .before .before .before .move-refusal .ensures) _ (c .refused2 .result) (sym (c .before .if2 .taken) ∙ c .before .before .before .fits-none .ensures) (ap (λ x. leb x (a .k)) (c .before .before .original-count .ensures)) (c .refused2 .ensures)
+    refused-6 _ _ _ _ (sym (c .before .before .before .before .if1 .left) ∙ c .before .before .before .before .before .move-refusal .ensures) _ (c .refused2 .result) (sym (c .before .if2 .taken) ∙ c .before .before .before .fits-none .ensures) (ap (λ x. leb x (a .k)) (c .before .before .original-count .ensures)) (c .refused2 .ensures)
 
 refused-requires-3 : tie.Need-refused-requires-3
 refused-requires-3 c κs = search needs
@@ -68,17 +55,13 @@ same-length-3 c = search needs
 returns-3 : tie.Need-returns-3
 returns-3 c =
     let a = c .before .before .before .before .before .before .before .before .before .before .before .before .before .args in
-    let R = requestOf (a .sizes) (a .list .now) (a .sets .now) in
-    let chip : Chip = record { store = a .store .now; marks = a .marks .now } in
-    refused-7 R chip (a .work .now) (a .k) (sym (c .before .before .before .before .before .if1 .left) ∙ c .before .before .before .before .before .before .move-refusal .ensures) (c .refused3 .result) (sym (c .before .before .if2 .left) ∙ c .before .before .before .before .fits-none .ensures)
+    refused-7 _ _ _ _ (sym (c .before .before .before .before .before .if1 .left) ∙ c .before .before .before .before .before .before .move-refusal .ensures) (c .refused3 .result) (sym (c .before .before .if2 .left) ∙ c .before .before .before .before .fits-none .ensures)
     (sym (c .before .if3 .taken) ∙ ap (λ x. leb x (a .k)) (c .before .before .before .original-count .ensures)) (c .refused3 .ensures)
 
 rebuild-requires : tie.Need-rebuild-requires
 rebuild-requires c κs =
     let a = c .before .before .before .before .before .before .before .before .before .before .before .before .before .args in
-    let R = requestOf (a .sizes) (a .list .now) (a .sets .now) in
-    let chip : Chip = record { store = a .store .now; marks = a .marks .now } in
-    let g = move-accepted R chip (a .work .now) [] (sym (sym (c .before .before .before .before .before .if1 .left) ∙ c .before .before .before .before .before .before .move-refusal .ensures)) in
+    let g = move-accepted _ _ _ [] (sym (sym (c .before .before .before .before .before .if1 .left) ∙ c .before .before .before .before .before .before .move-refusal .ensures)) in
     (g .0, g .1, omega (arith, leb-false (c .before .before .before .original-count .result) (a .k) (c .before .if3 .left), c .before .before .before .original-count .ensures))
 
 cast-count : tie.Need-cast-count
@@ -90,10 +73,8 @@ same-length-4 c = search needs
 returns-4 : tie.Need-returns-4
 returns-4 c =
     let a = c .before .before .before .before .before .before .before .before .before .before .before .before .before .before .before .before .args in
-    let R = requestOf (a .sizes) (a .list .now) (a .sets .now) in
-    let chip : Chip = record { store = a .store .now; marks = a .marks .now } in
     let b = c .before .before .rebuild .ensures in
-    rebuilt R chip (a .work .now) (a .k) (sym (c .before .before .before .before .before .before .before .before .if1 .left) ∙ c .before .before .before .before .before .before .before .before .before .move-refusal .ensures) _ _ (sym (c .before .before .before .before .before .if2 .left) ∙ c .before .before .before .before .before .before .before .fits-none .ensures)
+    rebuilt _ _ _ _ (sym (c .before .before .before .before .before .before .before .before .if1 .left) ∙ c .before .before .before .before .before .before .before .before .before .move-refusal .ensures) _ _ (sym (c .before .before .before .before .before .if2 .left) ∙ c .before .before .before .before .before .before .before .fits-none .ensures)
     (sym (c .before .before .before .before .if3 .left) ∙ ap (λ x. leb x (a .k)) (c .before .before .before .before .before .before .original-count .ensures)) (b .0 .0) (b .1)
 
 pub read-spec : {M : Type 1} → statement M

@@ -20,10 +20,7 @@ in-range-requires c κs = search needs
 
 returns : tie.Need-returns
 returns c =
-    let a = c .before .before .before .before .before .before .before .args in
-    let R = requestOf (a .sizes) (a .list .now) (a .sets .now) in
-    let N = move-number R (record { store = a .store .now; marks = a .marks .now }) (a .work .now) in
-    sym (N ∙ rw (← c .before .in-range .ensures, c .if1 .taken))
+    sym (move-number _ _ _ ∙ rw (← c .before .in-range .ensures, c .if1 .taken))
 
 -- the sizes are in their ranges
 ranged : (c : tie.Else1)
@@ -38,10 +35,7 @@ bad-parts-requires c κs = let B = ranges c in (B .n-high, B .m-high, B .p-high)
 
 returns-2 : tie.Need-returns-2
 returns-2 c =
-    let a = c .before .before .before .before .before .before .before .before .before .args in
-    let R = requestOf (a .sizes) (a .list .now) (a .sets .now) in
-    let N = move-number R (record { store = a .store .now; marks = a .marks .now }) (a .work .now) in
-    sym (N ∙ rw (ranged (c .before .before), ← c .before .bad-parts .ensures, c .if2 .taken))
+    sym (move-number _ _ _ ∙ rw (ranged (c .before .before), ← c .before .bad-parts .ensures, c .if2 .taken))
 
 is-split-requires : tie.Need-is-split-requires
 is-split-requires c κs = search needs
@@ -52,10 +46,8 @@ decided : (c : tie.After-is-split)
     let R = requestOf (a .sizes) (a .list .now) (a .sets .now) in
     refusal (moveRows R (record { store = a .store .now; marks = a .marks .now }) (a .work .now) []) ≡ cond (c .is-split .result) 0 (cond (isOneToOne (a .sizes .n * a .sizes .m) (a .list .now)) 4 3))
 decided c =
-    let a = c .before .before .before .before .before .before .before .before .before .before .args in
-    let R = requestOf (a .sizes) (a .list .now) (a .sets .now) in
     rw (c .is-split .ensures)
-    (move-split R (record { store = a .store .now; marks = a .marks .now }) (a .work .now) (not-false _ (ranged (c .before .before .before)))
+    (move-split _ _ _ (not-false _ (ranged (c .before .before .before)))
     (sym (c .before .before .bad-parts .ensures) ∙ c .before .if2 .left))
 
 returns-3 : tie.Need-returns-3

@@ -2,8 +2,6 @@
 use mathlib.Core.Path.{sym, _∙_}
 use mathlib.Core.List.{[]}
 use borrow.Author.Needs.{needs}
-use Rattle.split.specs.Request.{requestOf}
-use Rattle.flash.specs.Chip.{Chip}
 use Rattle.method.proofs.basics.AcceptedCalls.{move-accepted}
 use Rattle.mover.proofs.RefusalLaws.{refused-by-move, refused-by-place, in-place, not-refused}
 use Rattle.mover.proofs.run.run.Statement.{statement}
@@ -26,18 +24,12 @@ same-length-3 c = search needs
 
 returns : tie.Need-returns
 returns c =
-    let a = c .before .before .before .before .before .before .before .before .before .before .before .args in
-    let R = requestOf (a .sizes) (a .list .now) (a .sets .now) in
-    let chip : Chip = record { store = a .store .now; marks = a .marks .now } in
     let r = c .before .before .move-refusal in
-    refused-by-move R chip (a .work .now) (a .place) (a .budget) (r .result) (r .ensures) (c .before .if1 .taken) _ (c .refused .ensures)
+    refused-by-move _ _ _ _ _ (r .result) (r .ensures) (c .before .if1 .taken) _ (c .refused .ensures)
 
 is-elsewhere-requires : tie.Need-is-elsewhere-requires
 is-elsewhere-requires c κs =
-    let a = c .before .before .before .before .before .before .before .before .before .before .before .before .args in
-    let R = requestOf (a .sizes) (a .list .now) (a .sets .now) in
-    let chip : Chip = record { store = a .store .now; marks = a .marks .now } in
-    let g = move-accepted R chip (a .work .now) [] (sym (c .before .before .before .move-refusal .ensures) ∙ c .before .before .if1 .left) in
+    let g = move-accepted _ _ _ [] (sym (c .before .before .before .move-refusal .ensures) ∙ c .before .before .if1 .left) in
     let G = g .0 in
     (record { n-high = G .ranges .n-high; m-low = G .ranges .m-low; m-high = G .ranges .m-high; s-high = G .ranges .s-high }, g .1 .marks-length, g .1 .store-length)
 
@@ -55,20 +47,14 @@ same-length-6 c = search needs
 
 returns-2 : tie.Need-returns-2
 returns-2 c =
-    let a = c .before .before .before .before .before .before .before .before .before .before .before .before .before .before .before .args in
-    let R = requestOf (a .sizes) (a .list .now) (a .sets .now) in
-    let chip : Chip = record { store = a .store .now; marks = a .marks .now } in
-    refused-by-place R chip (a .work .now) (a .place) (a .budget) (sym (c .before .before .before .before .before .if1 .left) ∙ c .before .before .before .before .before .before .move-refusal .ensures)
+    refused-by-place _ _ _ _ _ (sym (c .before .before .before .before .before .if1 .left) ∙ c .before .before .before .before .before .before .move-refusal .ensures)
     (sym (c .before .if2 .taken) ∙ c .before .before .is-elsewhere .ensures) _ (c .refused2 .ensures)
 
 carry-out-requires : tie.Need-carry-out-requires
 carry-out-requires c κs =
-    let a = c .before .before .before .before .before .before .before .before .before .before .before .before .before .before .before .before .before .args in
-    let R = requestOf (a .sizes) (a .list .now) (a .sets .now) in
-    let chip : Chip = record { store = a .store .now; marks = a .marks .now } in
     let none = sym (c .before .before .before .before .before .before .before .if1 .left) ∙ c .before .before .before .before .before .before .before .before .move-refusal .ensures in
-    let g = move-accepted R chip (a .work .now) [] (sym none) in
-    (g .0, g .1, in-place R chip (a .work .now) (a .place) (a .budget) none (sym (c .before .before .before .if2 .left) ∙ c .before .before .before .before .is-elsewhere .ensures))
+    let g = move-accepted _ _ _ [] (sym none) in
+    (g .0, g .1, in-place _ _ _ _ none (sym (c .before .before .before .if2 .left) ∙ c .before .before .before .before .is-elsewhere .ensures))
 
 same-length-7 : tie.Need-same-length-7
 same-length-7 c = search needs
@@ -81,11 +67,8 @@ same-length-9 c = search needs
 
 returns-3 : tie.Need-returns-3
 returns-3 c =
-    let a = c .before .before .before .before .before .before .before .before .before .before .before .before .before .before .before .before .before .before .before .before .before .before .before .before .args in
-    let R = requestOf (a .sizes) (a .list .now) (a .sets .now) in
-    let chip : Chip = record { store = a .store .now; marks = a .marks .now } in
     let none = sym (c .before .before .before .before .before .before .before .before .before .before .before .before .before .before .if1 .left) ∙ c .before .before .before .before .before .before .before .before .before .before .before .before .before .before .before .move-refusal .ensures in
-    not-refused R chip (a .work .now) (a .place) (a .budget) none (sym (c .before .before .before .before .before .before .before .before .before .before .if2 .left) ∙ c .before .before .before .before .before .before .before .before .before .before .before .is-elsewhere .ensures) _ (c .before .before .before .before .before .before .carry-out .ensures)
+    not-refused _ _ _ _ _ none (sym (c .before .before .before .before .before .before .before .before .before .before .if2 .left) ∙ c .before .before .before .before .before .before .before .before .before .before .before .is-elsewhere .ensures) _ (c .before .before .before .before .before .before .carry-out .ensures)
 
 pub run-spec : {M : Type 1} → statement M
 run-spec =
