@@ -72,13 +72,14 @@ module _ (R : Request) (chip : Chip) (work : List ℕ) where
       in-turn false false = refl
 
 -- ---- the answer of run
-module _ (R : Request) (chip : Chip) (work : List ℕ) (place budget : ℕ) where
+module _ (R : Request) (chip : Chip) (work : List ℕ) (place : ℕ) where
   -- rows 1 to 4 decide, and else row 5
   by-move : (x : ℕ) → x ≡ refusal (moveRows R chip work []) → x ≢ 0 → refusal (runRows R chip work place) ≡ x
   unfolding runRows
   by-move x e ne = move-then R chip work _ ∙ rw (← e, ne-eqb x 0 ne)
 
-  by-place : (elsewhere : Bool) → 0 ≡ refusal (moveRows R chip work []) → elsewhere ≡ isElsewhere (R .sizes) chip place → refusal (runRows R chip work place) ≡ cond elsewhere 5 0
+  by-place : (elsewhere : Bool) → 0 ≡ refusal (moveRows R chip work []) → elsewhere ≡ isElsewhere (R .sizes) chip place
+      → refusal (runRows R chip work place) ≡ cond elsewhere 5 0
   unfolding runRows refusal firstFit numberOr0
   by-place elsewhere e f = move-then R chip work _ ∙ rw (← e, ← f) (last elsewhere)
     where
@@ -86,26 +87,27 @@ module _ (R : Request) (chip : Chip) (work : List ℕ) (place budget : ℕ) wher
       last true = refl
       last false = refl
 
-  -- what a refused run returns; it leaves all as it was
-  abbrev Refused : ℕ → Type 0
-  Refused x =
-      (ran : RunResult) → ran ≡ record { number = x; place = 0; tally = nothingDone; finished = 0 }
-      → ranAs ran (chip .store) (chip .marks) work ≡ runAnswer R chip work place budget
+  pub in-place : 0 ≡ refusal (moveRows R chip work []) → false ≡ isElsewhere (R .sizes) chip place → place ≤ lastPlace (R .sizes)
+  in-place e f = run-taken R chip work place (by-place false e f) .stands .inside
 
-  refused-answer : (x : ℕ) → x ≢ 0 → refusal (runRows R chip work place) ≡ x → Refused x
-  unfolding runAnswer runRefused
-  refused-answer x ne e ran r = rw (r, e, ne-eqb x 0 ne)
+  module _ (budget : ℕ) where
+    -- what a refused run returns; it leaves all as it was
+    abbrev Refused : ℕ → Type 0
+    Refused x =
+        (ran : RunResult) → ran ≡ record { number = x; place = 0; tally = nothingDone; finished = 0 }
+        → ranAs ran (chip .store) (chip .marks) work ≡ runAnswer R chip work place budget
 
-  pub refused-by-move : (x : ℕ) → x ≡ refusal (moveRows R chip work []) → x ≢ 0 → Refused x
-  refused-by-move x e ne = refused-answer x ne (by-move x e ne)
+    refused-answer : (x : ℕ) → x ≢ 0 → refusal (runRows R chip work place) ≡ x → Refused x
+    unfolding runAnswer runRefused
+    refused-answer x ne e ran r = rw (r, e, ne-eqb x 0 ne)
 
-  pub refused-by-place : 0 ≡ refusal (moveRows R chip work []) → true ≡ isElsewhere (R .sizes) chip place → Refused 5
-  refused-by-place e f = refused-answer 5 (λ z. absurd (omega arith)) (by-place true e f)
+    pub refused-by-move : (x : ℕ) → x ≡ refusal (moveRows R chip work []) → x ≢ 0 → Refused x
+    refused-by-move x e ne = refused-answer x ne (by-move x e ne)
 
-  module _ (e : 0 ≡ refusal (moveRows R chip work [])) (f : false ≡ isElsewhere (R .sizes) chip place) where
-    pub in-place : place ≤ lastPlace (R .sizes)
-    in-place = run-taken R chip work place (by-place false e f) .stands .inside
+    pub refused-by-place : 0 ≡ refusal (moveRows R chip work []) → true ≡ isElsewhere (R .sizes) chip place → Refused 5
+    refused-by-place e f = refused-answer 5 (λ z. absurd (omega arith)) (by-place true e f)
 
-    pub not-refused : (answer : RunAnswer) → answer ≡ runCarriedOut (move R) chip work place budget → answer ≡ runAnswer R chip work place budget
+    pub not-refused : 0 ≡ refusal (moveRows R chip work []) → false ≡ isElsewhere (R .sizes) chip place
+        → (answer : RunAnswer) → answer ≡ runCarriedOut (move R) chip work place budget → answer ≡ runAnswer R chip work place budget
     unfolding runAnswer
-    not-refused answer A = rw (by-place false e f) A
+    not-refused e f answer A = rw (by-place false e f) A

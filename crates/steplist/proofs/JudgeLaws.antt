@@ -15,13 +15,14 @@ use Rattle.flash.proofs.Bools.{bool-cases}
 use Rattle.flash.proofs.Tables.{refusal-skip, refusal-nil}
 use Rattle.flash.proofs.Bounds.{range-in}
 use Rattle.split.specs.OneToOne.{badList}
+use Rattle.split.specs.Request.{requestOf}
 use Rattle.split.specs.Answer.{splitRows, SplitAnswer, splitAnswer}
 use Rattle.split.proofs.Answers.{passed}
 use Rattle.listing.specs.Lines.{refusedLine}
 use Rattle.listing.specs.Input.{isAllowed, request}
 use Rattle.listing.proofs.InputLaws.{bounded, few-originals}
 use Rattle.steplist.specs.Output.{listed, answered}
-use Rattle.steplist.specs.inner.Given.{Readable, Accepted}
+use Rattle.steplist.specs.inner.Given.{Readable, AcceptedInput}
 use Rattle.steplist.proofs.StartLaws.{in-bounds}
 
 -- an entry such as 65536 is judged before anything is cut to 16 bits: no page has that number
@@ -50,11 +51,11 @@ module _ (Z : Sizes) (allowed : isAllowed Z ≡ true) (list bytes : List ℕ) wh
   in-range : inRange Z ≡ true
   in-range = range-in Z (in-bounds Z allowed)
 
-  module _ (old sets : List ℕ) (number : ℕ) (list-length : length list ≡ n * m) (sets-length : length old ≡ n * m) (S : record { number = number; sets = sets } ≡ splitAnswer Z list old) where
-    number-is : number ≡ splitAnswer Z list old .number
+  module _ (old sets : List ℕ) (number : ℕ) (list-length : length list ≡ n * m) (sets-length : length old ≡ n * m) (S : record { number = number; sets = sets } ≡ splitAnswer (requestOf Z list old)) where
+    number-is : number ≡ splitAnswer (requestOf Z list old) .number
     number-is = ap (λ (a : SplitAnswer). a .number) S
 
-    sets-are : sets ≡ splitAnswer Z list old .sets
+    sets-are : sets ≡ splitAnswer (requestOf Z list old) .sets
     sets-are = ap (λ (a : SplitAnswer). a .sets) S
 
     -- only row 3 can fit
@@ -75,9 +76,9 @@ module _ (Z : Sizes) (allowed : isAllowed Z ≡ true) (list bytes : List ℕ) wh
     module _ (e : number ≡ 0) where
       good : badList (n * m) list ≡ false
       unfolding splitAnswer
-      good = passed Z list old (sym (number-is) ∙ e) .good
+      good = passed (requestOf Z list old) (sym (number-is) ∙ e) .good
 
-      pub is-split : Readable Z list bytes → Accepted Z list sets bytes
+      pub is-split : Readable Z list bytes → AcceptedInput Z list sets bytes
       unfolding splitAnswer
       is-split R = record { readable = R; good = good; sets-is = sets-are ∙ rw (eq-eqb _ 0 (sym (number-is) ∙ e)) }
 

@@ -1,3 +1,4 @@
+-- Laws of the program's definitions, used by the proofs of its functions.
 pub mod AskedLaws
 pub mod Exampled
 pub mod JudgeLaws

@@ -6,13 +6,15 @@ use native.Mathlib.Nat.{zero-add, suc-add, add-zero}
 use native.Mathlib.Omega.{arith}
 use lib.ListN.{take}
 use lib.Seq.{take-length}
-use Rattle.method.specs.Move.{Move}
+use Rattle.split.specs.Request.{Request}
+use Rattle.method.specs.declared.tally.Tally.{Tally}
+use Rattle.method.specs.Move.{Move, move}
 use Rattle.method.specs.Place.{operations, operationAt, lastPlace}
-use Rattle.method.specs.Step.{Running, step, steps, tally, operationsFrom}
+use Rattle.method.specs.Step.{runningOf, Running, step, steps, tallyOf, operationsFrom}
 use Rattle.method.specs.Claims.{StepsCounted}
 use Rattle.method.proofs.places.StepsCounted.{steps-counted}
 use Rattle.method.proofs.states.StepsAddUp.{steps-add}
-use Rattle.method.proofs.places.Tallies.{tally-split, tally-total, steps-tallied}
+use Rattle.method.proofs.places.Tallies.{tally-split, few-tallied}
 use Rattle.method.proofs.basics.AcceptedCalls.{run-taken, taken-run}
 use Rattle.method.proofs.states.RunsAddUp.{still-taken}
 use Rattle.listing.specs.Area.{Written}
@@ -20,7 +22,7 @@ use Rattle.listing.specs.Lines.{Printed, endLine}
 use Rattle.listing.proofs.PrintLaws.{over-printed}
 use Rattle.steplist.specs.declared.listed.Shown.{Shown}
 use Rattle.steplist.specs.Output.{stepLine, stepLines, moveLines}
-use Rattle.steplist.specs.inner.Listing.{runningOf, Listable, Stepped, Shows}
+use Rattle.steplist.specs.inner.Listing.{Listable, Stepped, Shows}
 
 -- the lines of some steps, and then of more
 lines-add : (M : Move) (a b place : ℕ) (run : Running) → stepLines M (a + b) place run ≡ stepLines M a place run ++ stepLines M b (place + a) (steps M a place run)
@@ -31,6 +33,18 @@ lines-add M (suc a) b place run =
     let after = step M place run in
     rw (suc-add a b, lines-add M a b (suc place) after, next)
     (sym (append-assoc (stepLine place (operationAt (M .sizes) place) (after .work)) (stepLines M a (suc place) after) (stepLines M b (place + suc a) (steps M a (suc place) after))))
+
+-- at every place the run goes on
+pub listable-at : (R : Request) (start : Running) (place : ℕ) (run : Running) → Listable R start 0 → place ≤ lastPlace (R .sizes) → run ≡ steps (move R) place 0 start
+    → Listable R run place
+listable-at R start place run L h e =
+    let T = still-taken R (start .chip) (start .work) 0 place (omega arith) (run-taken R (start .chip) (start .work) 0 (L .taken)) in
+    record {
+      few-blocks = L .few-blocks;
+      few-pages = L .few-pages;
+      short-pages = L .short-pages;
+      taken = rw e (taken-run R _ _ place (rw (zero-add place) at T));
+    }
 
 module _ (M : Move) (start : Running) where
   -- the line of the step at a place, behind those of the steps before it
@@ -43,26 +57,14 @@ module _ (M : Move) (start : Running) where
   unfolding steps
   step-more place = steps-add M place 1 0 start ∙ rw (zero-add place)
 
-  -- at every place the run goes on
-  pub listable-at : (place : ℕ) (run : Running) → Listable M start 0 → place ≤ lastPlace (M .sizes) → run ≡ steps M place 0 start → Listable M run place
-  listable-at place run L h e =
-      let T = still-taken M (start .chip) (start .work) 0 place (omega arith) (run-taken M (start .chip) (start .work) 0 (L .taken)) in
-      record {
-        few-blocks = L .few-blocks;
-        few-pages = L .few-pages;
-        short-pages = L .short-pages;
-        taken = rw e (taken-run M _ _ place (rw (zero-add place) at T));
-      }
-
   -- no more is counted than steps were taken
   pub few-counted : (place at writes erases : ℕ) (before out store marks work : List ℕ) → place ≤ lastPlace (M .sizes) → Shows M start place at writes erases before out store marks work → (writes ≤ place) × (erases ≤ place)
   few-counted place at writes erases before out store marks work h S =
-      let t = tally-total (operationsFrom M 0 place) in
-      let s = steps-tallied M place 0 (omega arith) in
+      let few = few-tallied (M .sizes) place 0 (omega arith) in
       (omega (arith, S .writes-is), omega (arith, S .erases-is))
 
   pub shows-none : (out : List ℕ) → Shows M start 0 0 0 0 out out (start .chip .store) (start .chip .marks) (start .work)
-  unfolding steps stepLines tally operationsFrom
+  unfolding steps stepLines tallyOf operationsFrom
   shows-none out = record { left = refl; lines-are = (refl, refl); at-high = omega arith; writes-is = refl; erases-is = refl }
 
   pub shows-more : (place at writes erases : ℕ) (before out store marks work out′ store′ marks′ work′ : List ℕ) (shown : Shown)
@@ -70,15 +72,14 @@ module _ (M : Move) (start : Running) where
       → Shows M start (place + 1) (shown .at) (writes + shown .writes) (erases + shown .erases) before out′ store′ marks′ work′
   shows-more place at writes erases before out store marks work out′ store′ marks′ work′ shown S T =
       let after = T .left ∙ ap (step M place) (S .left) in
-      let A = tally-split M 0 place 1 in
-      let B = rw (zero-add place) at A in
+      let counts = rw (zero-add place) at (tally-split (M .sizes) 0 place 1) in
       let lines : stepLines M place 0 start ++ stepLine place (operationAt (M .sizes) place) work′ ≡ stepLines M (place + 1) 0 start = sym (line-more place ∙ rw (← after)) in
       record {
         left = after ∙ sym (step-more place);
         lines-are = subst (λ (lines : List ℕ). Written lines before out′ (shown .at)) lines (over-printed (stepLines M place 0 start) before (S .lines-are .0) (S .lines-are .1) (T .printed));
         at-high = omega (arith, T .printed .next-is, T .short, S .at-high);
-        writes-is = omega (arith, B .writes, S .writes-is, T .writes-is);
-        erases-is = omega (arith, B .erases, S .erases-is, T .erases-is);
+        writes-is = omega (arith, ap (λ (t : Tally). t .writes) counts, S .writes-is, T .writes-is);
+        erases-is = omega (arith, ap (λ (t : Tally). t .erases) counts, S .erases-is, T .erases-is);
       }
 
   -- all steps, and the end line

@@ -18,14 +18,16 @@ use Rattle.flash.proofs.Blocks.{full-of}
 use Rattle.flash.proofs.Chips.{blank-of}
 use Rattle.split.specs.OneToOne.{isOneToOne}
 use Rattle.split.proofs.RuleLaws.{rule-split, rule-length}
-use Rattle.method.specs.Move.{Move, moveOf, AcceptedMove}
+use Rattle.split.specs.Request.{Request, requestOf}
+use Rattle.method.specs.Move.{move, AcceptedMove}
 use Rattle.method.specs.State.{isAtRest, atRest}
+use Rattle.method.specs.Step.{runningOf}
 use Rattle.method.proofs.basics.AcceptedCalls.{taken-run}
 use Rattle.method.proofs.states.AtRest.{rest-stands}
 use Rattle.listing.specs.Input.{isAllowed}
 use Rattle.listing.proofs.InputLaws.{Bounded, bounded}
-use Rattle.steplist.specs.inner.Listing.{runningOf, Listable}
-use Rattle.steplist.specs.inner.Given.{Accepted}
+use Rattle.steplist.specs.inner.Listing.{Listable}
+use Rattle.steplist.specs.inner.Given.{AcceptedInput}
 
 module _ (Z : Sizes) (originals : List ℕ) where
   open Sizes Z using (n, m, p as P, s)
@@ -93,10 +95,10 @@ in-bounds Z e =
 module _ (Z : Sizes) (list sets bytes : List ℕ) where
   open Sizes Z using (n, m, p as P, s)
 
-  abbrev M : Move
-  M = moveOf Z list sets
+  abbrev R : Request
+  R = requestOf Z list sets
 
-  module _ (A : Accepted Z list sets bytes) where
+  module _ (A : AcceptedInput Z list sets bytes) where
     limits : Bounded Z
     limits = bounded Z (A .readable .allowed)
 
@@ -104,7 +106,7 @@ module _ (Z : Sizes) (list sets bytes : List ℕ) where
     unfolding isOneToOne
     one-to-one = ap not (A .good)
 
-    accepted : AcceptedMove M
+    accepted : AcceptedMove (move R)
     accepted =
         record {
           ranges = in-bounds Z (A .readable .allowed);
@@ -114,17 +116,17 @@ module _ (Z : Sizes) (list sets bytes : List ℕ) where
           split = rw (A .sets-is) (rule-split n m list (A .readable .list-length) one-to-one);
         }
 
-    pub listable : (work : List ℕ) → length work ≡ P → Listable M (record { chip = atRest Z bytes; work = work }) 0
+    pub listable : (work : List ℕ) → length work ≡ P → Listable R (record { chip = atRest Z bytes; work = work }) 0
     listable work e =
         let l = limits in
         record {
           few-blocks = l .few-blocks;
           few-pages = l .few-pages;
           short-pages = l .short-pages;
-          taken = taken-run M (atRest Z bytes) work 0 (record {
+          taken = taken-run R (atRest Z bytes) work 0 (record {
             accepted = accepted;
             lent = record { store-length = store-size Z bytes (A .readable .bytes-length); marks-length = marks-size Z bytes; work-length = e };
-            stands = rest-stands M accepted (atRest Z bytes) (store-size Z bytes (A .readable .bytes-length)) (marks-size Z bytes) (is-at-rest Z bytes);
+            stands = rest-stands (move R) accepted (atRest Z bytes) (store-size Z bytes (A .readable .bytes-length)) (marks-size Z bytes) (is-at-rest Z bytes);
           });
         }
 

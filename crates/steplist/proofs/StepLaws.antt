@@ -4,40 +4,41 @@ use mathlib.Core.List.{List}
 use Prim.Native.Nat.{ℕ, _≤_, _<_}
 use native.Mathlib.Omega.{arith}
 use lib.ListN.{length}
-use Rattle.method.specs.Move.{Move}
+use Rattle.split.specs.Request.{Request}
+use Rattle.method.specs.Move.{Move, move}
 use Rattle.method.specs.Place.{operationAt, lastPlace}
-use Rattle.method.specs.Step.{Running, step, steps, tally, operationsFrom}
+use Rattle.method.specs.Step.{runningOf, Running, step, steps, tallyOf, operationsFrom}
 use Rattle.method.specs.Answers.{stepsTaken, RunAnswer, runAnswer}
 use Rattle.method.proofs.basics.AcceptedCalls.{run-taken}
 use Rattle.method.proofs.states.RunsAddUp.{answerOf, run-answer, still-taken}
 use Rattle.mover.specs.declared.run.RunResult.{RunResult}
 use Rattle.mover.specs.Answers.{ranAs}
 use Rattle.steplist.specs.Output.{stepLine}
-use Rattle.steplist.specs.inner.Listing.{runningOf, Listable}
+use Rattle.steplist.specs.inner.Listing.{Listable}
 use Rattle.steplist.proofs.LengthLaws.{line-short}
 
 -- what one step of a run that is not refused leaves and counts
 pub record OneStep (M : Move) (run : Running) (place : ℕ) (ran : RunResult) (store marks work : List ℕ) : Type 0 where
   pub left : runningOf store marks work ≡ step M place run
-  pub writes-is : ran .writes ≡ tally (operationsFrom M place 1) .writes
-  pub erases-is : ran .erases ≡ tally (operationsFrom M place 1) .erases
+  pub writes-is : ran .tally .writes ≡ tallyOf (operationsFrom (M .sizes) place 1) .writes
+  pub erases-is : ran .tally .erases ≡ tallyOf (operationsFrom (M .sizes) place 1) .erases
   pub short : length (stepLine place (operationAt (M .sizes) place) work) ≤ 149
 
-module _ (M : Move) (run : Running) (place : ℕ) (L : Listable M run place) (h : place < lastPlace (M .sizes)) where
-  one-left : stepsTaken (M .sizes) place 1 ≡ 1
+module _ (R : Request) (run : Running) (place : ℕ) (L : Listable R run place) (h : place < lastPlace (R .sizes)) where
+  one-left : stepsTaken (R .sizes) place 1 ≡ 1
   unfolding stepsTaken
   one-left = omega arith
 
-  pub one-step : (ran : RunResult) (store marks work : List ℕ) → ranAs ran store marks work ≡ runAnswer M (run .chip) (run .work) place 1 → OneStep M run place ran store marks work
+  pub one-step : (ran : RunResult) (store marks work : List ℕ) → ranAs ran store marks work ≡ runAnswer R (run .chip) (run .work) place 1 → OneStep (move R) run place ran store marks work
   unfolding answerOf steps
   one-step ran store marks work A =
-      let e = run-answer M (run .chip) (run .work) place 1 (L .taken) ∙ ap (answerOf M (run .chip) (run .work) place) one-left in
+      let e = run-answer R (run .chip) (run .work) place 1 (L .taken) ∙ ap (answerOf (move R) (run .chip) (run .work) place) one-left in
       let B = A ∙ e in
-      let after = still-taken M (run .chip) (run .work) place 1 (omega arith) (run-taken M (run .chip) (run .work) place (L .taken)) in
-      let size : length work ≡ M .sizes .p = ap (λ (a : RunAnswer). length (a .work)) B ∙ after .lent .work-length in
+      let after = still-taken R (run .chip) (run .work) place 1 (omega arith) (run-taken R (run .chip) (run .work) place (L .taken)) in
+      let size : length work ≡ R .sizes .p = ap (λ (a : RunAnswer). length (a .work)) B ∙ after .lent .work-length in
       record {
         left = ap {B = Running} (λ (a : RunAnswer). record { chip = a .chip; work = a .work }) B;
-        writes-is = ap (λ (a : RunAnswer). a .writes) B;
-        erases-is = ap (λ (a : RunAnswer). a .erases) B;
-        short = line-short (M .sizes) place work (L .few-blocks) (L .few-pages) (omega (arith, L .short-pages)) h;
+        writes-is = ap (λ (a : RunAnswer). a .tally .writes) B;
+        erases-is = ap (λ (a : RunAnswer). a .tally .erases) B;
+        short = line-short (R .sizes) place work (L .few-blocks) (L .few-pages) (omega (arith, L .short-pages)) h;
       }

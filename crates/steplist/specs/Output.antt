@@ -11,7 +11,7 @@ use Rattle.split.specs.Rule.{splitByRule}
 use Rattle.method.specs.Move.{Move}
 use Rattle.method.specs.Place.{Operation, write, erase, done, operations, operationAt, lastPlace}
 use Rattle.method.specs.State.{atRest}
-use Rattle.method.specs.Step.{Running, step, tally}
+use Rattle.method.specs.Step.{Running, step, tallyOf}
 use Rattle.listing.specs.Input.{Input, unreadable, refused, request, inputOf, withinLimit}
 use Rattle.listing.specs.Lines.{writeLine, eraseLine, endLine, refusedLine, unreadableLine}
 
@@ -31,7 +31,7 @@ stepLines M (suc count) place run =
 -- the lines of all steps, and the end line
 unfoldable pub moveLines : Move → Running → List ℕ
 moveLines M start =
-    let counts = tally (operations (M .sizes)) in
+    let counts = tallyOf (operations (M .sizes)) in
     stepLines M (lastPlace (M .sizes)) 0 start ++ endLine (counts .writes) (counts .erases)
 
 -- rule 9.6: the move of a store at rest, by the split that the split call makes

@@ -5,12 +5,13 @@ ghost use lib.ListN.{length};
 ghost use Rattle.flash.specs.Geometry.{originalCount};
 ghost use Rattle.method.specs.Move.{moveOf};
 ghost use Rattle.method.specs.State.{atRest};
+ghost use Rattle.method.specs.Step.{runningOf};
 ghost use Rattle.listing.specs.Area.{over, Written};
 ghost use Rattle.listing.specs.Input.{request, withinLimit};
 ghost use Rattle.listing.specs.ReaderAnswers.{requestIn};
 ghost use Rattle.steplist.specs.Output.{listed, answered, output, Counts};
-ghost use Rattle.steplist.specs.inner.Listing.{runningOf, moved, mostOutput};
-ghost use Rattle.steplist.specs.inner.Given.{Asked, Readable, Accepted, judgedList, judgedSets, Empty};
+ghost use Rattle.steplist.specs.inner.Listing.{moved, mostOutput};
+ghost use Rattle.steplist.specs.inner.Given.{Asked, Readable, AcceptedInput, judgedList, judgedSets, Empty};
 use crate::listed::put_listing;
 use crate::rest::put_marks;
 use crate::rest::put_store;
@@ -56,7 +57,8 @@ fn put_from_rest(
     marks: &mut [u8],
     work: &mut [u8],
 ) -> usize
-    requires { ⌜ Accepted sizes (now list) (now sets) (now originals) × Empty sizes (now store) (now marks) (now work) × (mostOutput ≤ length (now out)) ⌝ }
+    requires { ⌜ AcceptedInput sizes (now list) (now sets) (now originals) × Empty sizes (now store) (now marks) (now work)
+        × (mostOutput ≤ length (now out)) ⌝ }
     ensures { λ r. ⌜ Written (listed sizes (now (list .entry)) (now (originals .entry))) (now (out .entry)) (now (out .exit)) r ⌝ }
     ensures { λ _. ⌜ runningOf (now (store .exit)) (now (marks .exit)) (now (work .exit))
         ≡ moved (moveOf sizes (now (list .entry)) (now (sets .entry)))
@@ -72,7 +74,7 @@ fn put_from_rest(
 
 // Lists the move of an accepted request.
 fn put_accepted(out: &mut [u8], sizes: Sizes, list: &[u16], sets: &[u8], originals: &[u32]) -> usize
-    requires { ⌜ Accepted sizes (now list) (now sets) (now originals) × (mostOutput ≤ length (now out)) ⌝ }
+    requires { ⌜ AcceptedInput sizes (now list) (now sets) (now originals) × (mostOutput ≤ length (now out)) ⌝ }
     ensures { λ r. ⌜ Written (listed sizes (now (list .entry)) (now (originals .entry))) (now (out .entry)) (now (out .exit)) r ⌝ }
 {
     let mut store = [0u8; MOST_STORE];

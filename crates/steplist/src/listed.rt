@@ -2,11 +2,13 @@
 ghost use mathlib.Core.Path.{_≡_};
 ghost use Prim.Native.Nat.{_+_, _≤_, _<_};
 ghost use lib.ListN.{length};
+ghost use Rattle.split.specs.Request.{requestOf};
 ghost use Rattle.method.specs.Move.{moveOf};
 ghost use Rattle.method.specs.Place.{lastPlace};
+ghost use Rattle.method.specs.Step.{runningOf};
 ghost use Rattle.listing.specs.Area.{Written};
 ghost use Rattle.steplist.specs.Output.{moveLines};
-ghost use Rattle.steplist.specs.inner.Listing.{runningOf, Listable, moved, mostLine, mostOutput, Stepped, Shows};
+ghost use Rattle.steplist.specs.inner.Listing.{Listable, moved, mostLine, mostOutput, Stepped, Shows};
 use crate::line::put_line;
 use flash::casts::word;
 use flash::sizes::Sizes;
@@ -33,7 +35,7 @@ fn put_step(
     work: &mut [u8],
     place: usize,
 ) -> Shown
-    requires { ⌜ Listable (moveOf sizes (now list) (now sets)) (runningOf (now store) (now marks) (now work)) place ⌝ }
+    requires { ⌜ Listable (requestOf sizes (now list) (now sets)) (runningOf (now store) (now marks) (now work)) place ⌝ }
     requires { ⌜ (place < lastPlace sizes) × (at + mostLine ≤ length (now out)) ⌝ }
     ensures { λ r. ⌜ Stepped (moveOf sizes (now (list .entry)) (now (sets .entry))) place
         (runningOf (now (store .entry)) (now (marks .entry)) (now (work .entry))) (now (out .entry)) at r (now (out .exit))
@@ -43,8 +45,8 @@ fn put_step(
     let next = put_line(out, at, sizes, place, work);
     Shown {
         at: next,
-        writes: word(ran.writes),
-        erases: word(ran.erases),
+        writes: word(ran.tally.writes),
+        erases: word(ran.tally.erases),
     }
 }
 
@@ -58,7 +60,8 @@ fn put_steps(
     marks: &mut [u8],
     work: &mut [u8],
 ) -> Shown
-    requires { ⌜ Listable (moveOf sizes (now list) (now sets)) (runningOf (now store) (now marks) (now work)) 0 × (mostOutput ≤ length (now out)) ⌝ }
+    requires { ⌜ Listable (requestOf sizes (now list) (now sets)) (runningOf (now store) (now marks) (now work)) 0
+        × (mostOutput ≤ length (now out)) ⌝ }
     ensures { λ r. ⌜ Shows (moveOf sizes (now (list .entry)) (now (sets .entry)))
         (runningOf (now (store .entry)) (now (marks .entry)) (now (work .entry))) (lastPlace sizes) (r .at) (r .writes) (r .erases)
         (now (out .entry)) (now (out .exit)) (now (store .exit)) (now (marks .exit)) (now (work .exit)) ⌝ }
@@ -88,7 +91,8 @@ pub fn put_listing(
     marks: &mut [u8],
     work: &mut [u8],
 ) -> usize
-    requires { ⌜ Listable (moveOf sizes (now list) (now sets)) (runningOf (now store) (now marks) (now work)) 0 × (mostOutput ≤ length (now out)) ⌝ }
+    requires { ⌜ Listable (requestOf sizes (now list) (now sets)) (runningOf (now store) (now marks) (now work)) 0
+        × (mostOutput ≤ length (now out)) ⌝ }
     ensures { λ r. ⌜ Written (moveLines (moveOf sizes (now (list .entry)) (now (sets .entry)))
         (runningOf (now (store .entry)) (now (marks .entry)) (now (work .entry)))) (now (out .entry)) (now (out .exit)) r ⌝ }
     ensures { λ _. ⌜ runningOf (now (store .exit)) (now (marks .exit)) (now (work .exit))

@@ -1,3 +1,4 @@
+-- The examples hold: what `claims` asks for.
 use Rattle.steplist.proofs.Exampled.{examples}
 use Rattle.steplist.proofs.claims.Statement.{statement}
 use Rattle.steplist.proofs.claims.Tie as tie

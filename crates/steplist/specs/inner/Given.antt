@@ -10,6 +10,7 @@ use Rattle.flash.specs.declared.sizes.Sizes.{Sizes}
 use Rattle.flash.specs.Geometry.{originalCount, storeLength, marksLength}
 use Rattle.split.specs.OneToOne.{badList}
 use Rattle.split.specs.Rule.{splitByRule}
+use Rattle.split.specs.Request.{requestOf}
 use Rattle.split.specs.Answer.{splitAnswer}
 use Rattle.listing.specs.Input.{isAllowed, numbersDue}
 
@@ -26,7 +27,7 @@ pub record Readable (Z : Sizes) (list bytes : List ℕ) : Type 0 where
   pub bytes-fit : all (λ byte. leb byte 255) bytes ≡ true
 
 -- a request whose list was accepted and split
-pub record Accepted (Z : Sizes) (list sets bytes : List ℕ) : Type 0 where
+pub record AcceptedInput (Z : Sizes) (list sets bytes : List ℕ) : Type 0 where
   pub readable : Readable Z list bytes
   pub good : badList (originalCount Z) list ≡ false
   pub sets-is : sets ≡ splitByRule (Z .n) (Z .m) list
@@ -36,7 +37,7 @@ abbrev pub judgedList : (entries list : List ℕ) → List ℕ
 judgedList entries list = cond (all (λ number. leb number 65535) entries) entries list
 
 abbrev pub judgedSets : Sizes → (entries sets : List ℕ) → List ℕ
-judgedSets Z entries sets = cond (all (λ number. leb number 65535) entries) (splitAnswer Z entries sets .sets) sets
+judgedSets Z entries sets = cond (all (λ number. leb number 65535) entries) (splitAnswer (requestOf Z entries sets) .sets) sets
 
 -- the parts that are lent for it: those that are filled first, and the work page
 pub record Empty (Z : Sizes) (store marks work : List ℕ) : Type 0 where

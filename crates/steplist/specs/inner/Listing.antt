@@ -4,29 +4,26 @@ use mathlib.Core.List.{List}
 use Prim.Native.Nat.{ℕ, _*_, _≤_}
 use lib.ListN.{length}
 use Rattle.flash.specs.Tables.{refusal}
+use Rattle.split.specs.Request.{Request}
 use Rattle.method.specs.Move.{Move}
 use Rattle.method.specs.Place.{operationAt, lastPlace}
-use Rattle.method.specs.Step.{Running, step, steps, tally, operationsFrom}
+use Rattle.method.specs.Step.{Running, runningOf, step, steps, tallyOf, operationsFrom}
 use Rattle.method.specs.Answers.{runRows}
 use Rattle.listing.specs.Area.{Written}
 use Rattle.listing.specs.Lines.{Printed}
 use Rattle.steplist.specs.declared.listed.Shown.{Shown}
 use Rattle.steplist.specs.Output.{stepLine, stepLines}
 
--- the run as the document has it, from what the code is lent
-abbrev pub runningOf : (store marks work : List ℕ) → Running
-runningOf store marks work = record { chip = record { store = store; marks = marks }; work = work }
-
 -- what all steps leave
 abbrev pub moved : Move → Running → Running
 moved M start = steps M (lastPlace (M .sizes)) 0 start
 
 -- sizes within the program's limits, and a run from the place that is not refused
-pub record Listable (M : Move) (run : Running) (place : ℕ) : Type 0 where
-  pub few-blocks : M .sizes .n ≤ 8
-  pub few-pages : M .sizes .m ≤ 8
-  pub short-pages : M .sizes .p ≤ 64
-  pub taken : refusal (runRows M (run .chip) (run .work) place) ≡ 0
+pub record Listable (R : Request) (run : Running) (place : ℕ) : Type 0 where
+  pub few-blocks : R .sizes .n ≤ 8
+  pub few-pages : R .sizes .m ≤ 8
+  pub short-pages : R .sizes .p ≤ 64
+  pub taken : refusal (runRows R (run .chip) (run .work) place) ≡ 0
 
 -- no line is longer
 abbrev pub mostLine : ℕ
@@ -41,13 +38,13 @@ pub record Stepped (M : Move) (place : ℕ) (run : Running) (before : List ℕ) 
   pub left : runningOf store marks work ≡ step M place run
   pub printed : Printed (stepLine place (operationAt (M .sizes) place) work) before at out (shown .at)
   pub short : length (stepLine place (operationAt (M .sizes) place) work) ≤ mostLine
-  pub writes-is : shown .writes ≡ tally (operationsFrom M place 1) .writes
-  pub erases-is : shown .erases ≡ tally (operationsFrom M place 1) .erases
+  pub writes-is : shown .writes ≡ tallyOf (operationsFrom (M .sizes) place 1) .writes
+  pub erases-is : shown .erases ≡ tallyOf (operationsFrom (M .sizes) place 1) .erases
 
 -- the steps before a place were taken, and their lines were written over the front of what the output was before
 pub record Shows (M : Move) (start : Running) (place at writes erases : ℕ) (before out store marks work : List ℕ) : Type 0 where
   pub left : runningOf store marks work ≡ steps M place 0 start
   pub lines-are : Written (stepLines M place 0 start) before out at
   pub at-high : at ≤ mostLine * place
-  pub writes-is : writes ≡ tally (operationsFrom M 0 place) .writes
-  pub erases-is : erases ≡ tally (operationsFrom M 0 place) .erases
+  pub writes-is : writes ≡ tallyOf (operationsFrom (M .sizes) 0 place) .writes
+  pub erases-is : erases ≡ tallyOf (operationsFrom (M .sizes) 0 place) .erases

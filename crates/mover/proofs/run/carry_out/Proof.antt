@@ -59,10 +59,8 @@ same-length-3 c = search needs
 
 returns : tie.Need-returns
 returns c =
-    let a = c .before .before .before .before .before .before .before .before .before .before .before .before .before .before .before .before .before .before .before .before .before .before .before .before .before .args in
-    let t = c .before .before .before .before .before .before .before .take-steps in
-    carried (moveOf (a .sizes) (a .list .now) (a .sets .now)) (a .store .now) (a .marks .now) (a .work .now) (a .place) (a .budget) (c .before .before .before .before .before .before .before .before .before .before .before .before .before .before .last-place .result) (c .before .before .before .before .before .before .before .before .before .before .before .before .before .smaller .result) _ _ _ _ _
-    (c .before .before .before .before .before .before .before .before .before .before .before .before .before .before .last-place .ensures) (c .before .before .before .before .before .before .before .before .before .before .before .before .before .smaller .ensures) (c .same .ensures) (t .ensures .0) (t .ensures .1)
+    let t = c .before .before .before .before .before .before .before .take-steps .ensures in
+    carried _ _ _ _ _ _ _ _ _ _ _ _ _ (c .before .before .before .before .before .before .before .before .before .before .before .before .before .before .last-place .ensures) (c .before .before .before .before .before .before .before .before .before .before .before .before .before .smaller .ensures) (c .same .ensures) (t .0) (t .1)
 
 pub carry-out-spec : {M : Type 1} → statement M
 carry-out-spec =

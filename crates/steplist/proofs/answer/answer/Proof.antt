@@ -1,3 +1,4 @@
+-- The bytes written for an input are its output, whatever the input.
 use native.Mathlib.Omega.{arith}
 use mathlib.Core.Path.{_≡_, sym, ap, _∙_}
 use lib.Seq.{length-take-le}

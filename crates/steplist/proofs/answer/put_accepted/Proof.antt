@@ -1,3 +1,4 @@
+-- An accepted input is listed; here the lent parts get their lengths.
 use native.Mathlib.Omega.{arith}
 use mathlib.Core.Path.{sym, _∙_}
 use Prim.Native.Nat.{_+_, _*_, _≤_}

@@ -1,6 +1,8 @@
+-- A list is refused or listed as the output has it, and judged before it is cut to 16 bits.
 use native.Mathlib.Omega.{arith}
 use mathlib.Core.Path.{_≡_, sym, ap, _∙_}
 use borrow.Author.Tests.{not-true, not-false}
+use Rattle.split.specs.Request.{requestOf}
 use Rattle.split.specs.Answer.{SplitAnswer, splitAnswer}
 use Rattle.steplist.specs.inner.Given.{judgedList, judgedSets}
 use Rattle.listing.proofs.PrintLaws.{first-printed}
@@ -12,7 +14,7 @@ use Rattle.steplist.proofs.answer.put_judged.Tie as tie
 
 -- the split call's answer, about the numbers as they were read
 judged : (c : tie.After-split)
-    → (let a = c .before .before .before .before .before .before .before .before .before .before .before .before .before .before .args in record { number = c .split .result; sets = c .split .last .1 .1 .0 } ≡ splitAnswer (a .sizes) (a .entries .now) (a .sets .now))
+    → (let a = c .before .before .before .before .before .before .before .before .before .before .before .before .before .before .args in record { number = c .split .result; sets = c .split .last .1 .1 .0 } ≡ splitAnswer (requestOf (a .sizes) (a .entries .now) (a .sets .now)))
 judged c = rw (c .before .before .before .before .before .put-entries .ensures) at (c .split .ensures)
 
 -- what the areas of the list and of the set bytes hold from here on

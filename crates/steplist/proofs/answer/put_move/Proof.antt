@@ -1,3 +1,4 @@
+-- The numbers of a request are cut into its list and its bytes as its reading says.
 use native.Mathlib.Omega.{arith}
 use mathlib.Core.Path.{sym, _∙_}
 use Prim.Native.Nat.{_≤_}

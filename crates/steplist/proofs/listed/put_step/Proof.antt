@@ -1,8 +1,10 @@
+-- One step is taken as the run takes it, and its line printed.
 use mathlib.Core.Path.{_∙_}
 use native.Mathlib.Omega.{arith}
+use Rattle.split.specs.Request.{requestOf}
 use Rattle.method.specs.Move.{moveOf}
+use Rattle.method.specs.Step.{runningOf}
 use Rattle.method.proofs.basics.AcceptedCalls.{run-taken}
-use Rattle.steplist.specs.inner.Listing.{runningOf}
 use Rattle.steplist.proofs.StepLaws.{OneStep, one-step}
 use borrow.Author.Needs.{needs}
 use Rattle.steplist.proofs.listed.put_step.Statement.{statement}
@@ -15,7 +17,7 @@ told : (c : tie.After-run)
 told c =
     let start = c .before .before .before .before .before .before .before .before .before .before in
     let a = start .args in
-    one-step (moveOf (a .sizes) (a .list .now) (a .sets .now)) (runningOf (a .store .now) (a .marks .now) (a .work .now)) (a .place) (start .pre .0) (start .pre .1 .0) _ _ _ _ (c .run .ensures)
+    one-step (requestOf (a .sizes) (a .list .now) (a .sets .now)) (runningOf (a .store .now) (a .marks .now) (a .work .now)) (a .place) (start .pre .0) (start .pre .1 .0) _ _ _ _ (c .run .ensures)
 
 run-requires : tie.Need-run-requires
 run-requires c κs = search needs
@@ -24,7 +26,7 @@ put-line-requires : tie.Need-put-line-requires
 put-line-requires c κs =
     let start = c .before .before .before .before .before .before .before .before .before .before .before .before .before .before .before .before .before .before in
     let a = start .args in
-    let given = run-taken (moveOf (a .sizes) (a .list .now) (a .sets .now)) _ _ (a .place) (start .pre .0 .taken) .accepted .ranges in
+    let given = run-taken (requestOf (a .sizes) (a .list .now) (a .sets .now)) _ _ (a .place) (start .pre .0 .taken) .accepted .ranges in
     ((given, omega arith), omega (arith, told (c .before .before .before .before .before .before .before .before) .short))
 
 word-requires : tie.Need-word-requires

@@ -1,12 +1,15 @@
+-- The loop over the places shows every step once, and counts them.
 use mathlib.Core.Path.{_≡_, refl}
 use Prim.Native.Nat.{_+_, _-_, _≤_}
 use native.Mathlib.Omega.{arith}
 use lib.ListN.{length}
+use Rattle.split.specs.Request.{requestOf}
 use Rattle.method.specs.Move.{moveOf}
 use Rattle.steplist.proofs.LengthLaws.{few-steps}
 use Rattle.method.specs.Place.{lastPlace}
+use Rattle.method.specs.Step.{runningOf}
 use borrow.Author.Needs.{needs}
-use Rattle.steplist.specs.inner.Listing.{runningOf, Shows}
+use Rattle.steplist.specs.inner.Listing.{Shows}
 use Rattle.steplist.proofs.ListingLaws.{listable-at, few-counted, shows-none, shows-more}
 use Rattle.steplist.proofs.listed.put_steps.Statement.{statement}
 use Rattle.steplist.proofs.listed.put_steps.Tie as tie
@@ -51,7 +54,7 @@ put-step-requires c κs =
     let a = start .args in
     let l = c .before .before .before .before .before .loop in
     let last = few-steps (a .sizes) (start .pre .0 .few-blocks) (start .pre .0 .few-pages) in
-    (listable-at (moveOf (a .sizes) (a .list .now) (a .sets .now)) (runningOf (a .store .now) (a .marks .now) (a .work .now)) (l .place) _ (start .pre .0) (omega (arith, c .before .before .before .before .before .before .last-place .ensures)) (l .inv .0 .left), (omega (arith, c .before .before .before .before .before .before .last-place .ensures), omega (arith, l .inv .0 .at-high)))
+    (listable-at (requestOf (a .sizes) (a .list .now) (a .sets .now)) (runningOf (a .store .now) (a .marks .now) (a .work .now)) (l .place) _ (start .pre .0) (omega (arith, c .before .before .before .before .before .before .last-place .ensures)) (l .inv .0 .left), (omega (arith, c .before .before .before .before .before .before .last-place .ensures), omega (arith, l .inv .0 .at-high)))
 
 add-writes : tie.Need-add-writes Inv-loop μ-loop
 add-writes c = omega (arith, counted (c .before .before .before .before .before .before .before .before .before))

@@ -1,3 +1,4 @@
+-- The marks filled are those at rest.
 use native.Mathlib.Omega.{arith}
 use mathlib.Core.Path.{sym}
 use lib.ListN.{length}
