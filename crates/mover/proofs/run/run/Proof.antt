@@ -67,7 +67,7 @@ carry-out-requires c κs =
     let chip : Chip = record { store = a .store .now; marks = a .marks .now } in
     let none = sym (c .before .before .before .before .before .before .before .if1 .left) ∙ c .before .before .before .before .before .before .before .before .move-refusal .ensures .0 in
     let g = move-accepted R chip (a .work .now) [] (sym none) in
-    (g .0, g .1, in-place R chip (a .work .now) (a .place) (a .budget) none (sym (c .before .before .before .if2 .left) ∙ c .before .before .before .before .is-elsewhere .ensures))
+    (g .0, g .1, in-place R chip (a .work .now) (a .place) none (sym (c .before .before .before .if2 .left) ∙ c .before .before .before .before .is-elsewhere .ensures))
 
 same-length-7 : tie.Need-same-length-7
 same-length-7 c = search needs
