@@ -5,7 +5,7 @@ use Prim.Native.Nat.{ℕ, _+_, _*_, _/_, _%_}
 use lib.Dec.{eqb, ltb}
 use lib.ListN.{length, drop}
 
--- "In the C calls an entry is two bytes, low byte first."
+-- rule 1.13
 unfoldable pub entriesOf : List ℕ → List ℕ
 entriesOf [] = []
 entriesOf (low ∷ []) = low ∷ []

@@ -5,7 +5,7 @@ ghost use Prim.Native.Nat.{_+_, _*_};
 ghost use lib.ListN.{length};
 ghost use Rattle.c_api.specs.Bytes.{entriesWithin, decodedInto};
 
-// "In the C calls an entry is two bytes, low byte first."
+// An entry is two bytes, the low one first.
 fn entry(low: u8, high: u8) -> u16
     ensures { λ r. ⌜ r ≡ low + high * 256 ⌝ }
 {

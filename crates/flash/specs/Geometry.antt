@@ -1,14 +1,14 @@
--- Document 01, "The store": the sizes, where a page lies, and how long each lent part is.
+-- Rules 1.1 to 1.4 and 1.11 to 1.15: the sizes, where a page lies, and how long each lent part is.
 use mathlib.Core.Bool.{Bool, _&&_}
 use Prim.Native.Nat.{ℕ, _+_, _-_, _*_, _/_, _%_, _≤_, _<_}
 use lib.Dec.{leb, ltb}
 use Rattle.flash.specs.declared.sizes.Sizes.{Sizes}
 
--- "A mark is 0, 1 or 2, a letter": a letter is a phase tag, the pass of the move in which a page was written.
+-- Rule 1.4. A letter is a phase tag: it tells in which phase of the move a page was written.
 unfoldable pub isLetter : ℕ → Bool
 isLetter mark = ltb mark 3
 
--- "letters mod 3": the letter that comes i after s
+-- rule 1.4: the letter that comes i after s
 unfoldable pub letter : Sizes → (i : ℕ) → ℕ
 letter Z i = (Z .s + i) % 3
 
@@ -26,11 +26,11 @@ pub record Bounds (Z : Sizes) : Type 0 where
   pub p-high : Z .p ≤ 4096
   pub s-high : Z .s < 3
 
--- "A slot is block × m + page (page 0 to m − 1)."
+-- rule 1.3
 abbrev pub slot : (m block page : ℕ) → ℕ
 slot m block page = block * m + page
 
--- "Original page k, 0 to n × m − 1, is page k mod m of block k div m + 1."
+-- rules 1.11 and 1.12: the block and the page of a page number
 abbrev pub blockOf : (m k : ℕ) → ℕ
 blockOf m k = k / m + 1
 
@@ -50,22 +50,22 @@ originalCount Z = Z .n * Z .m
 abbrev pub slotCount : Sizes → ℕ
 slotCount Z = (Z .n + 1) * Z .m
 
--- "The store is (n + 1) × m × P bytes in slot order."
+-- rule 1.3
 abbrev pub storeLength : Sizes → ℕ
 storeLength Z = slotCount Z * Z .p
 
--- "The marks are (n + 1) × m bytes, one a slot"
+-- rule 1.3
 abbrev pub marksLength : Sizes → ℕ
 marksLength Z = slotCount Z
 
--- "The caller lends the list of destinations, n × m numbers of 16 bits"
+-- rule 1.13
 abbrev pub listLength : Sizes → ℕ
 listLength Z = originalCount Z
 
--- "He lends n × m set bytes,"
+-- rule 1.14
 abbrev pub setsLength : Sizes → ℕ
 setsLength Z = originalCount Z
 
--- "a work page of P bytes"
+-- rule 1.15
 abbrev pub workLength : Sizes → ℕ
 workLength Z = Z .p

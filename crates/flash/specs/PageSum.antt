@@ -1,4 +1,4 @@
--- Document 01: "Sums are bytewise exclusive-or."
+-- Rule 1.10: the sum of pages.
 use mathlib.Core.Bool.{Bool, cond}
 use mathlib.Core.List.{List, [], _∷_}
 use Prim.Native.Nat.{ℕ}

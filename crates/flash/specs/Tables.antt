@@ -13,7 +13,7 @@ unfoldable pub firstFit : {A : Type 0} → List (Row A) → Option A
 firstFit [] = none
 firstFit (row ∷ rows) = cond (row .fits) (some (row .gives)) (firstFit rows)
 
--- Document 01, "Refused calls": a row of the table says when its number is returned. "A call carried out returns 0."
+-- Rule 7.8: a row says when its number is returned. Rule 7.7: where none applies, 0 is.
 unfoldable pub numberOr0 : Option ℕ → ℕ
 numberOr0 none = 0
 numberOr0 (some number) = number
@@ -21,7 +21,7 @@ numberOr0 (some number) = number
 unfoldable pub refusal : List (Row ℕ) → ℕ
 refusal rows = numberOr0 (firstFit rows)
 
--- "The lowest number that applies is returned": a number of the table that applies, and the lowest; 0 exactly where none does.
+-- rule 7.8: a number of the table that applies, and the lowest; 0 exactly where none does
 pub record Lowest (rows : List (Row ℕ)) (number : ℕ) : Type 0 where
   pub applies : 1 ≤ number → (row : Row ℕ) × List·Memᴰ row rows × (row .fits ≡ true) × (row .gives ≡ number)
   pub lowest : (row : Row ℕ) → List·Memᴰ row rows → row .fits ≡ true → (1 ≤ number) × (number ≤ row .gives)

@@ -1,4 +1,4 @@
--- Document 01, "Refused calls": the refusals of run, mend and read, and the whole answer of each.
+-- Rules 7.2 to 7.9: the refusals of run, mend and read, and the whole answer of each.
 use mathlib.Core.Bool.{Bool, cond, _&&_, _||_, not}
 use mathlib.Core.List.{List, [], _∷_}
 use mathlib.Core.Option.{Option, none, some}
@@ -20,7 +20,7 @@ use Rattle.method.specs.Read.{readSlots, readPage}
 use Rattle.method.specs.Step.{steps, nothingDone, tallyOf, operationsFrom}
 use Rattle.method.specs.Mend.{Reading, reading}
 
--- "a lent part not of its exact length": "mend the store and the marks, run and read all five lent parts"
+-- number 2, of mend, and of run and read
 unfoldable pub badChip : Sizes → Chip → Bool
 badChip Z chip = not (eqb (length (chip .store)) (storeLength Z)) || not (eqb (length (chip .marks)) (marksLength Z))
 
@@ -29,7 +29,7 @@ badParts R chip work =
     not (eqb (length (R .list)) (listLength (R .sizes))) || not (eqb (length (R .sets)) (setsLength (R .sizes)))
     || badChip (R .sizes) chip || not (eqb (length work) (workLength (R .sizes)))
 
--- What reading the marks answers, by its cases: the number of the table, and what the marks tell. 6: "marks fit no moment of the move"
+-- what reading the marks answers, by its cases: the number of the table, and what the marks tell
 pub record MarksAnswer : Type 0 where
   pub number : ℕ
   pub told : Option Reading
@@ -41,7 +41,7 @@ marksAnswer (some found) = record { number = 0; told = some found }
 unfoldable pub fitsNone : Option Reading → Bool
 fitsNone told = eqb (marksAnswer told .number) 6
 
--- "place above 2 × n × (m + 1), or marks other than that place has, or a slot marked 255 not blank"
+-- number 5
 unfoldable pub isElsewhere : Sizes → Chip → (place : ℕ) → Bool
 isElsewhere Z chip place =
     ltb (lastPlace Z) place || not (isSame (chip .marks) (marksOf Z place))
@@ -50,13 +50,9 @@ isElsewhere Z chip place =
 -- the rows that run and read share, in the table's order
 unfoldable pub moveRows : Request → Chip → (work : List ℕ) → (rest : List (Row ℕ)) → List (Row ℕ)
 moveRows R chip work rest =
-    -- "n, m, P or s out of its range"
     record { fits = not (inRange (R .sizes)); gives = 1 }
-    -- "a lent part not of its exact length"
     ∷ record { fits = badParts R chip work; gives = 2 }
-    -- "a list entry at or above n × m, or met twice"
     ∷ record { fits = badList (originalCount (R .sizes)) (R .list); gives = 3 }
-    -- "the set bytes aren't a split of the list"
     ∷ record { fits = not (isSplit (R .sizes .n) (R .sizes .m) (R .list) (R .sets)); gives = 4 }
     ∷ rest
 
@@ -74,12 +70,10 @@ unfoldable pub readRows : Request → Chip → (work : List ℕ) → (k : ℕ) �
 readRows R chip work k =
     moveRows R chip work
     (record { fits = fitsNone (reading (R .sizes) (chip .marks)); gives = 6 }
-    -- "original number at or above n × m"
     ∷ record { fits = leb (originalCount (R .sizes)) k; gives = 7 }
     ∷ [])
 
--- "returns the place reached, writes, erases, and 'finished' .., else 'stopped'": 1 for finished, 0 for stopped. The shape that
--- the document's last section names adds the steps.
+-- rule 7.2: what a run returns and leaves
 pub record RunAnswer : Type 0 where
   pub number : ℕ
   pub place : ℕ
@@ -88,7 +82,7 @@ pub record RunAnswer : Type 0 where
   pub chip : Chip
   pub work : List ℕ
 
--- "It does the smaller of budget and steps left"
+-- rule 7.2: as many steps as the budget allows and are left
 unfoldable pub stepsTaken : Sizes → (place budget : ℕ) → ℕ
 stepsTaken Z place budget = min budget (lastPlace Z - place)
 
@@ -100,13 +94,12 @@ runCarriedOut M chip work place budget =
       number = 0;
       place = place + taken;
       tally = tallyOf (operationsFrom (M .sizes) place taken);
-      -- "'finished' if the place is 2 × n × (m + 1)"
       finished = cond (eqb (place + taken) (lastPlace (M .sizes))) 1 0;
       chip = after .chip;
       work = after .work;
     }
 
--- "With a refusal every other number returned is 0 and each lent byte stays."
+-- rule 7.8
 unfoldable pub runRefused : (number : ℕ) → Chip → (work : List ℕ) → RunAnswer
 runRefused number chip work = record {
   number = number;
@@ -122,7 +115,7 @@ runAnswer R chip work place budget =
     let number = refusal (runRows R chip work place) in
     cond (eqb number 0) (runCarriedOut (move R) chip work place budget) (runRefused number chip work)
 
--- "Mend returns the place and the erases, 0 or 1."
+-- rule 7.4: what mend returns and leaves
 pub record MendAnswer : Type 0 where
   pub number : ℕ
   pub place : ℕ
@@ -141,8 +134,7 @@ mendAnswer Z chip =
     let refused : MendAnswer = record { number = number; place = 0; erases = 0; chip = chip } in
     cond (eqb number 0) (elim (reading Z (chip .marks)) [ none ↦ refused | some found ↦ mended Z chip found ]) refused
 
--- "Read puts original k in the work page and returns how many stored pages were summed." "Read answers for every store whose marks
--- fit; the sum is by these rules even if the bytes are nonsense": no row of its table looks at bytes.
+-- Rule 7.5: what read returns and leaves. None of its rows looks at the bytes of a page.
 pub record ReadAnswer : Type 0 where
   pub number : ℕ
   pub count : ℕ

@@ -1,4 +1,4 @@
--- Document 01, "Checked by hand": the cases marked P, the program's case step by step, and source document 002's example.
+-- The worked cases (docs/RULES.md, section 10): P1 to P11, the program's case step by step, and the paper's example of eight blocks.
 -- One list; that each case holds is proved in proofs/examples/Cases.antt by computing the definitions.
 use mathlib.Core.Bool.{Bool, true, false}
 use mathlib.Core.Path.{_≡_}
@@ -36,7 +36,7 @@ listing M (suc count) place run =
     let after = step M place run in
     lineOf place (operationAt (M .sizes) place) after ++ listing M count (suc place) after
 
--- A row of source document 002's Fig. 2, which has one page a block: the block written, the originals that its page is the sum
+-- A row of the paper's Fig. 2, which has one page a block: the block written, the originals that its page is the sum
 -- of, and the blocks that the page is made from.
 pub data Written : Type 0 where
   written : (block : ℕ) → (originals blocks : List ℕ) → Written
@@ -158,7 +158,7 @@ threeBeforeErase = chip (5 ∷ 3 ∷ 2 ∷ 4 ∷ []) (1 ∷ 1 ∷ 0 ∷ 0 ∷ []
 abbrev pub threeTorn : (byte : ℕ) → Chip
 threeTorn byte = chip (5 ∷ 3 ∷ byte ∷ 4 ∷ []) (1 ∷ 1 ∷ 255 ∷ 0 ∷ [])
 
--- Example 3 of source document 002: α = (3, 6, 8, 1, 2, 5, 4, 7). Each original is one bit, so that a byte shows what it sums.
+-- The paper's example 3: α = (3, 6, 8, 1, 2, 5, 4, 7). Each original is one bit, so that a byte shows what it sums.
 abbrev eight : Request
 eight = record { sizes = sizes 8 1; list = 2 ∷ 5 ∷ 7 ∷ 0 ∷ 1 ∷ 4 ∷ 3 ∷ 6 ∷ []; sets = replicate 8 0 }
 
@@ -269,7 +269,7 @@ cases byte =
       chip = threeFinished;
       work = 4 ∷ [];
     })
-    -- source document 002, Fig. 2: each page written, and what it is made from
+    -- the paper's Fig. 2: each page written, and what it is made from
     ∷ draws eight 32
     (written 0 (1 ∷ 4 ∷ []) (1 ∷ 4 ∷ [])
     ∷ written 1 (2 ∷ 5 ∷ []) (2 ∷ 5 ∷ [])

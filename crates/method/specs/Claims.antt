@@ -28,16 +28,16 @@ use Rattle.method.specs.BoundsMet.{BoundsMet}
 use Rattle.method.specs.TwoPages.{TwoPagesHold}
 use Rattle.method.specs.Cases.{CasesHold}
 
--- "There are 2 × n × (m + 1) steps"
+-- rule 4.3: there are as many steps as the last place says
 unfoldable pub StepsCounted : Type 0
 StepsCounted = (Z : Sizes) → length (operations Z) ≡ lastPlace Z
 
--- "A place in the move is its step number": the marks tell it, since no two places have the same.
+-- The marks tell the place, since no two places have the same.
 unfoldable pub PlacesDiffer : Type 0
 PlacesDiffer =
     (Z : Sizes) → inRange Z ≡ true → (p q : ℕ) → p ≤ lastPlace Z → q ≤ lastPlace Z → marksOf Z p ≡ marksOf Z q → p ≡ q
 
--- "the two passes, 2 × n erases": block 0 and block n are erased once, every block between twice. What a run counts is as many
+-- 2 × n erases: block 0 and block n are erased once, every block between twice. What a run counts is as many
 -- steps as it takes, each a write or an erase.
 pub record ErasesCounted : Type 0 where
   pub spare : (Z : Sizes) → inRange Z ≡ true → count (erasesBlock 0) (operations Z) ≡ 1
@@ -49,7 +49,7 @@ pub record ErasesCounted : Type 0 where
   pub run-total : (Z : Sizes) (place taken : ℕ)
       → (let counted = tallyOf (operationsFrom Z place taken) in counted .steps ≡ counted .writes + counted .erases)
 
--- "Pages are written in ascending order and only when blank": of two writes to a block with no erase of it between them, the
+-- Pages are written from the lowest up, and are blank before: of two writes to a block with no erase of it between them, the
 -- later is to the higher page.
 pub record PagesRise : Type 0 where
   pub ascending : (Z : Sizes) (p q : ℕ) (one other : Pass) (b i j : ℕ)
@@ -62,7 +62,7 @@ pub data InCycle (M : Move) (set i : ℕ) : (j : ℕ) → Type 0 where
   start : InCycle M set i i
   next : {j : ℕ} → InCycle M set i j → InCycle M set i (dest M set j)
 
--- "The top of a cycle is its highest block."
+-- rule 3.2: the top is on the cycle, and no block of the cycle is higher
 pub record TopIsHighest : Type 0 where
   pub in-cycle : (M : Move) → AcceptedMove M → (set i : ℕ) → set < M .sizes .m → 1 ≤ i → i ≤ M .sizes .n → InCycle M set i (top M set i)
   pub highest : (M : Move) → AcceptedMove M → (set i j : ℕ) → set < M .sizes .m → 1 ≤ i → i ≤ M .sizes .n → InCycle M set i j → j ≤ top M set i
@@ -80,7 +80,7 @@ pub record SlotsSummed (Z : Sizes) (marks slots : List ℕ) : Type 0 where
 module _ (M : Move) (marks : List ℕ) (k : ℕ) where
   open Sizes (M .sizes) using (n, m)
 
-  -- "Start with v = k's block, in k's set."
+  -- where the rules of reading start
   abbrev v : ℕ
   v = blockOf m k
 
@@ -94,7 +94,7 @@ module _ (M : Move) (marks : List ℕ) (k : ℕ) where
     pub on : fullOf M marks 2 (dest M set v) ≡ false → (fullOf M marks 1 (top M set v - 1) || any (fullOf M marks 0) (range 0 (n + 1))) ≡ false
         → (extra : ℕ) → goOn M marks set (n + extra) v ≡ goOn M marks set n v
 
--- "Read answers for every store whose marks fit"
+-- for all marks that fit a moment
 unfoldable pub WalksEnd : Type 0
 WalksEnd =
     (M : Move) → AcceptedMove M → (marks : List ℕ) (found : Reading) → reading (M .sizes) marks ≡ some found
@@ -117,7 +117,7 @@ ErasesNext =
     (Z : Sizes) → inRange Z ≡ true → (marks : List ℕ) (place block : ℕ)
     → reading Z marks ≡ some (record { place = place; toErase = some block }) → WrittenNext Z place block
 
--- "The lowest number that applies is returned."
+-- rule 7.8: the first row that applies has the lowest number
 pub record LowestReturned : Type 0 where
   pub by-split : (R : Request) → Lowest (splitRows R) (refusal (splitRows R))
   pub by-run : (R : Request) (chip : Chip) (work : List ℕ) (place : ℕ) → Lowest (runRows R chip work place) (refusal (runRows R chip work place))

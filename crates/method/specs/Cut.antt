@@ -1,5 +1,4 @@
--- Document 01, "The cut": "A cut falls between steps or inside one." What a cut inside a step leaves. "Mend is cut likewise, inside
--- its erase." This is the one relation among the definitions, since marks and
+-- Rule 5.1: what a cut inside a step may leave, in a run or in the erase of a mend. This is the one relation among the definitions, since marks and
 -- bytes that a cut leaves are all that the document leaves open. A cut between steps leaves what the steps left.
 use mathlib.Core.Bool.{Bool, true, false}
 use mathlib.Core.Path.{_≡_}
@@ -25,23 +24,22 @@ module _ (Z : Sizes) where
   touches (erase block) t = eqb (t / m) block
   touches done t = false
 
-  -- the page "is as it was"
+  -- the page is untouched
   pub record Kept (before after : Chip) (t : ℕ) : Type 0 where
     pub mark : markAt (after .marks) t ≡ markAt (before .marks) t
     pub page : pageAt P after t ≡ pageAt P before t
 
-  -- the page "has mark 255 and unknown bytes"
+  -- the page has lost its mark; its bytes are unknown
   pub record Torn (after : Chip) (t : ℕ) : Type 0 where
     pub mark : isTornMark (markAt (after .marks) t) ≡ true
 
-  -- "Inside a write: that page has mark 255 and unknown bytes. Inside an erase: each page of that block is as it was, or has
-  -- mark 255 and unknown bytes."
+  -- what may be left of a page that the operation writes or erases
   abbrev pub Touched : Operation → (before after : Chip) → (t : ℕ) → Type 0
   Touched (write pass block page) before after t = Torn after t
   Touched (erase block) before after t = Kept before after t ⊎ Torn after t
   Touched done before after t = Kept before after t
 
-  -- a cut inside the operation, on the chip `before`, may leave the chip `after`; "Nothing else changes."
+  -- a cut inside the operation, on the chip `before`, may leave the chip `after`
   pub record CutInside (operation : Operation) (before after : Chip) : Type 0 where
     pub store-length : length (after .store) ≡ storeLength Z
     pub marks-length : length (after .marks) ≡ marksLength Z

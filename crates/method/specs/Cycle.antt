@@ -1,4 +1,4 @@
--- Document 01, "Two passes": the blocks of a set, their cycles and the coded pages. Blocks are numbered from 1, as there.
+-- Rules 3.1 to 3.3: the blocks of a set, their cycles and the coded pages. Data blocks are numbered from 1.
 use mathlib.Core.Bool.{Bool, cond}
 use mathlib.Core.List.{List, [], _∷_}
 use Prim.Native.Nat.{ℕ, _-_, _*_, max}
@@ -18,15 +18,15 @@ highest x (y ∷ ys) = highest (max x y) ys
 module _ (M : Move) where
   open Sizes (M .sizes) using (n, m)
 
-  -- "Within a set, .. D(i) is the original from block i": its number
+  -- rule 3.1: the number of the original of a set that comes from block i
   unfoldable pub D : (set i : ℕ) → ℕ
   D set i = first (λ k. eqb (setOf (M .sets) k) set) (range ((i - 1) * m) m) 0
 
-  -- the block where D(i) goes: "the destination block of v"
+  -- the block where D(i) goes
   unfoldable pub dest : (set i : ℕ) → ℕ
   dest set i = destBlock m (M .list) (D set i)
 
-  -- "pred(i) is the block whose page goes to block i"
+  -- rule 3.1
   unfoldable pub pred : (set i : ℕ) → ℕ
   pred set i = first (λ j. eqb (dest set j) i) (range 1 n) 0
 
@@ -34,17 +34,17 @@ module _ (M : Move) where
   unfoldable pub cycle : (set i : ℕ) → List ℕ
   cycle set i = iterates (dest set) n i
 
-  -- "The top of a cycle is its highest block." The source document 002 calls it the tail of a semi-cycle.
+  -- Rule 3.2. The paper calls it the tail of a semi-cycle.
   unfoldable pub top : (set i : ℕ) → ℕ
   top set i = highest i (cycle set i)
 
   unfoldable pub isTop : (set i : ℕ) → Bool
   isTop set i = eqb (top set i) i
 
-  -- "The coded page c(i) is D(i) if i is the top of its cycle, else the sum of D(i) and D(pred(i))": the originals summed
+  -- rule 3.3: the originals that c(i) is the sum of
   unfoldable pub coded : (set i : ℕ) → List ℕ
   coded set i = cond (isTop set i) (D set i ∷ []) (D set i ∷ D set (pred set i) ∷ [])
 
-  -- "the original that the list sends there", to a page number
+  -- the original that the list sends to a page number
   unfoldable pub sentTo : (number : ℕ) → ℕ
   sentTo number = first (λ k. eqb (getD (M .list) k 0) number) (range 0 (originalCount (M .sizes))) 0

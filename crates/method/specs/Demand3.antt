@@ -21,13 +21,13 @@ use Rattle.method.specs.Answers.{runRows, runAnswer, mendAnswer, readAns
 use Rattle.method.specs.Events.{Call, run, mend, read, CutPoint, uncut, between, inside, Event, History, sizesGiven, numberOf, stepsOf, chipAfter, starting, after, moments}
 
 -- ---- the premises, a line for each sentence; the first is `Start` of Runs.antt
--- "All calls not refused share the sizes, s, an accepted list .. and a correct split of it"
+-- rule 8.2
 abbrev pub Shares : Request → Call → Type 0
 Shares R (run N work place budget) = N ≡ R
 Shares R (mend Z) = Z ≡ R .sizes
 Shares R (read N work k) = N ≡ R
 
--- "with a mend between each cut and the next run"
+-- rule 8.4
 abbrev pub Mended : Call → History → Type 0
 Mended (run R work place budget) h = h .unmended ≡ false
 Mended (mend Z) h = Unit {0}
@@ -41,7 +41,7 @@ CutObeys call (inside finished left) chip =
     (finished < length (stepsOf call chip)) × CutInside (sizesGiven call) (getD (stepsOf call chip) finished done) (chipAfter call chip finished) left
 
 pub record Allowed (R : Request) (event : Event) (h : History) : Type 0 where
-  -- "a refused one may have any others"
+  -- asked only of calls that are not refused
   pub shares : numberOf (event .call) (h .chip) ≡ 0 → Shares R (event .call)
   pub mended : numberOf (event .call) (h .chip) ≡ 0 → Mended (event .call) h
   pub cut-obeys : CutObeys (event .call) (event .cut) (h .chip)
@@ -52,8 +52,7 @@ pub data AllAllowed (R : Request) : List Event → History → Type 0 where
   goes : {event : Event} {events : List Event} {h : History} → Allowed R event h → AllAllowed R events (after event h) → AllAllowed R (event ∷ events) h
 
 -- ---- the claim
--- "each original page stays the sum of at most n whole stored pages, a read gives exactly it": of one original, whose bytes are
--- `page`, at a moment
+-- Of one original, whose bytes are `page`, at a moment: it is the sum of at most n whole pages, and a read gives it.
 pub record Stays (R : Request) (chip : Chip) (k : ℕ) (page : List ℕ) : Type 0 where
   pub few : length (readSlots (move R) (chip .marks) k) ≤ R .sizes .n
   pub stored : (i : ℕ) → i < length (readSlots (move R) (chip .marks) k) → getD (readSlots (move R) (chip .marks) k) i 0 < slotCount (R .sizes)
@@ -62,14 +61,14 @@ pub record Stays (R : Request) (chip : Chip) (k : ℕ) (page : List ℕ) : Type 
   pub read-gives : (work : List ℕ) → length work ≡ workLength (R .sizes)
       → readAnswer R chip work k ≡ record { number = 0; count = length (readSlots (move R) (chip .marks) k); work = page }
 
--- what holds at every moment; `chip₀` is the store at rest, "whose pages are the originals"
+-- what holds at every moment; the pages of `chip₀`, the store at rest, are the originals
 pub record Keeps (R : Request) (chip₀ : Chip) (h : History) : Type 0 where
   pub stays : (k : ℕ) → k < originalCount (R .sizes) → Stays R (h .chip) k (pageAt (R .sizes .p) chip₀ (slotOf (R .sizes .m) k))
-  -- "erases are at most 2 × n plus one for each recovery call"
+  -- at most 2 × n erases, and one more for each recovery call
   pub erases : count isErase (h .begun) ≤ 2 * R .sizes .n + h .mends
-  -- "with no cut and no recovery no block is erased more than twice"
+  -- where there was neither cut nor recovery, no block is erased three times
   pub block-erases : h .cuts ≡ 0 → h .mends ≡ 0 → (b : ℕ) → count (erasesBlock b) (h .begun) ≤ 2
-  -- "the finish is final": "from then on, cuts included, the slot that the list gives for original k holds its bytes"
+  -- once finished, every page stays where the list sends it
   pub final : h .finished ≡ true → (k : ℕ) → k < originalCount (R .sizes)
       → pageAt (R .sizes .p) (h .chip) (slotOf (R .sizes .m) (getD (move R .list) k 0)) ≡ pageAt (R .sizes .p) chip₀ (slotOf (R .sizes .m) k)
   -- whenever a run is not refused, store and marks are those of its place (demand 2 along the list)

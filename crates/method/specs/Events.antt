@@ -1,5 +1,4 @@
--- Document 01, "What demand 3 speaks of": lists of calls with cuts, and what they leave. "The list has runs, mends and reads in any
--- order, refused ones included". Answers are those of Answers.antt and no others.
+-- Rules 8.1 to 8.6: lists of calls with cuts, and what they leave. Answers are those of Answers.antt and no others.
 use mathlib.Core.Bool.{Bool, true, false, cond, _||_}
 use mathlib.Core.List.{List, [], _∷_, _++_, map}
 use mathlib.Core.Option.{Option, none, some}
@@ -15,14 +14,13 @@ use Rattle.method.specs.Step.{operationsFrom}
 use Rattle.method.specs.Mend.{Reading, reading}
 use Rattle.method.specs.Answers.{stepsTaken, runAnswer, mendAnswer, readAnswer}
 
--- A call with all that it is given but store and marks: "Each call gets store and marks as the call or cut before it left them."
--- "A run has any budget and any place".
+-- A call with all that it is given but store and marks, which it finds as the event before it left them.
 pub data Call : Type 0 where
   run : Request → (work : List ℕ) → (place budget : ℕ) → Call
   mend : Sizes → Call
   read : Request → (work : List ℕ) → (k : ℕ) → Call
 
--- "Any call may be cut. A cut point is the call, how many of its steps are finished, and whether the next is begun." What a cut
+-- Rule 8.3: how many steps of the call are finished, and whether the next is begun. What a cut
 -- inside a step leaves is part of the event, since it is open.
 pub data CutPoint : Type 0 where
   uncut : CutPoint
@@ -70,7 +68,7 @@ chipReturned (run R work place budget) chip = runAnswer R chip work place budget
 chipReturned (mend Z) chip = mendAnswer Z chip .chip
 chipReturned (read R work k) chip = chip
 
--- "The finish is a run that returns 'finished'"
+-- rule 8.6
 unfoldable pub returnsFinished : Call → Chip → Bool
 returnsFinished (run R work place budget) chip = eqb (runAnswer R chip work place budget .finished) 1
 returnsFinished (mend Z) chip = false
@@ -84,14 +82,14 @@ isMend (read R work k) = false
 -- what has happened up to a moment
 pub record History : Type 0 where
   pub chip : Chip
-  -- the operations begun: "An erase is begun once its step is, by run or mend, finished or cut inside."
+  -- rule 8.5: the operations begun
   pub begun : List Operation
   -- the recovery calls, refused and cut ones included
   pub mends : ℕ
   pub cuts : ℕ
   -- a cut has come, and no mend since that was not itself cut
   pub unmended : Bool
-  -- a run has returned "finished"
+  -- a run has returned 1 for finished
   pub finished : Bool
 
 unfoldable pub starting : Chip → History
@@ -120,7 +118,7 @@ module _ (h : History) where
     finished = h .finished || returnsFinished call (h .chip);
   }
 
-  -- once the call is cut: "A cut call returns nothing." `left` is what the cut leaves, `begun` how many steps were begun.
+  -- Once the call is cut: it returns nothing. `left` is what the cut leaves, `begun` how many steps were begun.
   unfoldable pub cutShort : Call → (begun : ℕ) → (left : Chip) → History
   cutShort call begun left = record {
     chip = left;
@@ -131,7 +129,7 @@ module _ (h : History) where
     finished = h .finished;
   }
 
-  -- "A cut with the next step not begun leaves the store and marks as the finished steps left them."
+  -- rule 8.3: between two steps the finished ones are all that is left
   unfoldable pub afterCall : Call → CutPoint → History
   afterCall call uncut = returned call
   afterCall call (between finished) = cutShort call finished (chipAfter call (h .chip) finished)

@@ -13,9 +13,9 @@ use Rattle.split.specs.Request.{Request}
 
 pub record Move : Type 0 where
   pub sizes : Sizes
-  -- "entry k is the page number where original k goes"
+  -- rule 1.13
   pub list : List ℕ
-  -- "Entry k of the set bytes is the set of original k"
+  -- rule 1.14
   pub sets : List ℕ
 
 abbrev pub moveOf : Sizes → (list sets : List ℕ) → Move

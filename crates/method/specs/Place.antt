@@ -1,4 +1,4 @@
--- Document 01, "Two passes": the steps, their order, and the marks at each place. They depend on the sizes and s alone.
+-- Rules 4.1 to 4.6: the steps, their order, and the marks at each place. They depend on the sizes and s alone.
 use mathlib.Core.Bool.{cond}
 use mathlib.Core.List.{List, [], _∷_, _++_, map}
 use Prim.Native.Nat.{ℕ, _+_, _-_, _*_, _/_, _%_}
@@ -13,7 +13,7 @@ pub data Pass : Type 0 where
   forward : Pass
   backward : Pass
 
--- "A write or an erase is one step."
+-- rule 4.3
 pub data Operation : Type 0 where
   -- the pass, the block and the page that is written
   write : Pass → (block page : ℕ) → Operation
@@ -24,31 +24,31 @@ pub data Operation : Type 0 where
 module _ (Z : Sizes) where
   open Sizes Z using (n, m)
 
-  -- "with mark (s + 1) mod 3", "with mark (s + 2) mod 3"
+  -- the letter that a pass writes
   unfoldable pub markOf : Pass → ℕ
   markOf forward = letter Z 1
   markOf backward = letter Z 2
 
-  -- "write pages 0 to m − 1", "Pages are written in ascending order"
+  -- the pages of a block are written from page 0 up
   unfoldable pub writes : Pass → (block : ℕ) → List Operation
   writes pass block = map (write pass block) (range 0 m)
 
-  -- "Forward, for i = 1 to n: write pages 0 to m − 1 of block i − 1 ..; then erase block i."
+  -- rule 4.1
   unfoldable pub forwardTurn : (i : ℕ) → List Operation
   forwardTurn i = writes forward (i - 1) ++ (erase i ∷ [])
 
-  -- "Backward, for b = n down to 1: write pages 0 to m − 1 of block b, ..; then erase block b − 1."
+  -- rule 4.2
   unfoldable pub backwardTurn : (b : ℕ) → List Operation
   backwardTurn b = writes backward b ++ (erase (b - 1) ∷ [])
 
   unfoldable pub operations : List Operation
   operations = concatMap forwardTurn (range 1 n) ++ concatMap backwardTurn (downFrom n)
 
-  -- "There are 2 × n × (m + 1) steps, numbered from 0." The last place is the one after them all.
+  -- Rule 4.3. The last place is the one after all steps.
   unfoldable pub lastPlace : ℕ
   lastPlace = 2 * n * (m + 1)
 
-  -- "A place in the move is its step number": an index into the steps.
+  -- rule 4.3: a place is an index into the steps
   unfoldable pub operationAt : (place : ℕ) → Operation
   operationAt place = getD operations place done
 
@@ -91,6 +91,6 @@ module _ (Z : Sizes) where
   heldMark code = letter Z 1
   heldMark final = letter Z 2
 
-  -- "marks other than that place has": the marks of a place, in slot order
+  -- rule 4.5: the marks of a place, in slot order
   unfoldable pub marksOf : (place : ℕ) → List ℕ
   marksOf place = map (λ t. heldMark (heldAt place (t / Z .m) (t % Z .m))) (range 0 (slotCount Z))

@@ -27,14 +27,14 @@ joined one two = record {
   work = two .work;
 }
 
--- as many runs of budget 1 as `count` says, "each from the place before it", together; the last has budget 0
+-- as many runs of budget 1 as `count` says together, each from where the one before it stopped; the last has budget 0
 unfoldable pub runsOfOne : Request → Chip → (work : List ℕ) → (place count : ℕ) → RunAnswer
 runsOfOne R chip work place zero = runAnswer R chip work place 0
 runsOfOne R chip work place (suc count) =
     let one = runAnswer R chip work place 1 in
     joined one (runsOfOne R (one .chip) (one .work) (one .place) count)
 
--- "a run carried out leaves and returns what as many runs of budget 1, each from the place before it, leave and return together"
+-- rule 7.3
 pub record RunsAddUp : Type 0 where
   pub in-two : (R : Request) (chip : Chip) (work : List ℕ) (place a b : ℕ) → refusal (runRows R chip work place) ≡ 0
       → (let one = runAnswer R chip work place a in runAnswer R chip work place (a + b) ≡ joined one (runAnswer R (one .chip) (one .work) (one .place) b))
@@ -43,13 +43,12 @@ pub record RunsAddUp : Type 0 where
   -- a run that goes on where the last one stopped is not refused
   pub goes-on : (R : Request) (chip : Chip) (work : List ℕ) (place budget : ℕ) → refusal (runRows R chip work place) ≡ 0
       → (let one = runAnswer R chip work place budget in refusal (runRows R (one .chip) (one .work) (one .place)) ≡ 0)
-  -- "only when blank", whatever bytes are stored: the page that a step writes was blank before it
+  -- whatever bytes are stored, the page that a step writes was blank before it
   pub only-blank : (R : Request) (chip : Chip) (work : List ℕ) (place finished : ℕ) (pass : Pass) (block page : ℕ) → refusal (runRows R chip work place) ≡ 0
       → operationAt (R .sizes) (place + finished) ≡ write pass block page
       → isBlank (R .sizes .p) (runAnswer R chip work place finished .chip) (slot (R .sizes .m) block page) ≡ true
 
--- "It starts from a store at rest, whose pages are the originals", with "an accepted list (one that split doesn't refuse) and a
--- correct split of it", and lent parts of their lengths
+-- Rules 8.1 and 8.2: a store at rest, a list that split does not refuse, a split of it, and lent parts of their lengths.
 pub record Start (R : Request) (chip : Chip) : Type 0 where
   pub store-length : length (chip .store) ≡ storeLength (R .sizes)
   pub marks-length : length (chip .marks) ≡ marksLength (R .sizes)
@@ -58,7 +57,7 @@ pub record Start (R : Request) (chip : Chip) : Type 0 where
   pub split-correct : isSplit (R .sizes .n) (R .sizes .m) (R .list) (R .sets) ≡ true
 
 -- Demand 2: from rest, after t steps, store and marks are the state of place t: the coded pages, originals, final pages and blanks
--- that document 01 sets out. At the end every page is where the list sends it.
+-- of rule 4.5. At the end every page is where the list sends it.
 pub record StatesReached : Type 0 where
   pub after-steps : (R : Request) (chip : Chip) → Start R chip → (work : List ℕ) → length work ≡ workLength (R .sizes) → (t : ℕ) → t ≤ lastPlace (R .sizes)
       → (runAnswer R chip work 0 t .number ≡ 0) × (runAnswer R chip work 0 t .place ≡ t)

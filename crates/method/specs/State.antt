@@ -1,4 +1,4 @@
--- Document 01: the store at rest, and the store and marks that each place of a move from rest has.
+-- Rules 1.16 and 4.5: the store at rest, and the store and marks that each place of a move from rest has.
 use mathlib.Core.Bool.{Bool, _&&_}
 use mathlib.Core.List.{List, [], _∷_, _++_}
 use Prim.Native.Nat.{ℕ, _+_, _*_, _/_, _%_}
@@ -12,7 +12,7 @@ use Rattle.method.specs.Move.{Move}
 use Rattle.method.specs.Cycle.{coded, sentTo}
 use Rattle.method.specs.Place.{Held, blank, plain, code, final, heldAt, marksOf}
 
--- "At rest, blocks 1 to n are full of s and block 0 is blank."
+-- rule 1.16
 unfoldable pub isAtRest : Sizes → Chip → Bool
 isAtRest Z chip =
     all (λ block. isFull (Z .m) (chip .marks) block (Z .s)) (range 1 (Z .n))

@@ -1,4 +1,4 @@
--- Document 01, "Two passes": one step, and run as that step repeated.
+-- Rules 4.1 to 4.4 and 7.2: one step, and run as that step repeated.
 use mathlib.Core.Bool.{Bool, true, false}
 use mathlib.Core.List.{List, [], _∷_}
 use Prim.Native.Nat.{ℕ, zero, suc, _+_}
@@ -24,18 +24,18 @@ abbrev pub runningOf : (store marks work : List ℕ) → Running
 runningOf store marks work = record { chip = record { store = store; marks = marks }; work = work }
 
 module _ (M : Move) where
-  -- the originals whose sum is written: "page q being c(i) of set q", "the original that the list sends there"
+  -- rules 4.1 and 4.2: the originals whose sum is written
   unfoldable pub originalsOf : Pass → (block page : ℕ) → List ℕ
   originalsOf pass block page = heldOriginals M (written pass) block page
 
-  -- "A page no longer stored plain is rebuilt by read's rules": the slots that are summed for a write
+  -- rule 4.4: the slots that are summed for a write
   unfoldable pub writeSlots : Pass → (block page : ℕ) → (marks : List ℕ) → List ℕ
   writeSlots pass block page marks = concatMap (readSlots M marks) (originalsOf pass block page)
 
   unfoldable pub writtenPage : Pass → (block page : ℕ) → Chip → List ℕ
   writtenPage pass block page chip = sum (pageAt (M .sizes .p) chip) (writeSlots pass block page (chip .marks))
 
-  -- "The work page holds the last page written, unchanged if none."
+  -- rule 7.2: a write leaves its page in the work page
   unfoldable pub perform : Operation → Running → Running
   perform (write pass block page) run =
       let new = writtenPage pass block page (run .chip) in
@@ -50,7 +50,7 @@ module _ (M : Move) where
   unfoldable pub step : (place : ℕ) → Running → Running
   step place run = perform (operationAt (M .sizes) place) run
 
-  -- "taking a step gives the next place": as many steps as `count` says
+  -- as many steps as `count` says, each from the next place
   unfoldable pub steps : (count place : ℕ) → Running → Running
   steps zero place run = run
   steps (suc count) place run = steps count (suc place) (step place run)

@@ -1,4 +1,4 @@
-// The move as document 01 sets it out: definitions in specs/, theorems about them in proofs/.
+// The move: definitions of its rules (docs/RULES.md) in specs/, theorems about them in proofs/.
 ghost use Rattle.method.specs.Claims.{Claims};
 
 pub mod tally;

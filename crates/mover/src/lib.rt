@@ -1,4 +1,4 @@
-// The mover: run and read of document 01 as code, each proved equal to its definition in crate `method`.
+// The mover: run and read, each proved equal to its definition in crate `method`.
 
 pub mod read;
 mod refusals;

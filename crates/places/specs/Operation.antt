@@ -1,4 +1,4 @@
--- The step at a place, as numbers. This call is ours and not the document's; its refusals are numbers of the document's table.
+-- Rule 7.6: the step at a place, as numbers.
 use mathlib.Core.Bool.{cond, not}
 use Prim.Native.Nat.{ℕ}
 use lib.Dec.{ltb}
@@ -13,7 +13,7 @@ toldOf Z (write pass block page) = record { number = 0; kind = 0; block = block;
 toldOf Z (erase block) = record { number = 0; kind = 1; block = block; page = 0; mark = 0 }
 toldOf Z done = record { number = 0; kind = 2; block = 0; page = 0; mark = 0 }
 
--- "n, m, P or s out of its range", "place above 2 × n × (m + 1)"
+-- rule 7.6: refused as 1 or 5, else the step
 unfoldable pub operationAnswer : Sizes → (place : ℕ) → OperationResult
 operationAnswer Z place =
     let refused : ℕ → OperationResult = λ number. record { number = number; kind = 0; block = 0; page = 0; mark = 0 } in

@@ -1,4 +1,4 @@
--- What each case of the code's enum stands for: document 01's number and values.
+-- What each case of the code's enum stands for: the table's number, and the place and block of rules 5.3 to 5.6.
 use mathlib.Core.Bool.{Bool, cond}
 use mathlib.Core.Option.{Option, none, some}
 use Prim.Native.Nat.{ℕ, _+_, _-_, _*_}

@@ -45,7 +45,7 @@ fn pages_known(marks: &[u8], m: usize, block: usize, letter: u8) -> usize
     0
 }
 
-// What the search has gathered tells: the four lines of document 01, "The cut".
+// What the search has gathered tells: rules 5.3 to 5.6.
 fn moment(n: usize, backward: bool, unfinished: usize, torn: usize, change: usize) -> MarksRead
     requires { ⌜ (n ≤ 64) × (torn ≤ n) ⌝ }
     ensures { λ r. ⌜ r ≡ momentOf n backward unfinished torn change ⌝ }

@@ -11,7 +11,7 @@ use Rattle.split.specs.Rule.{source, destination, blockAt, lowestUnused,
 use Rattle.split.specs.Request.{Request}
 use Rattle.split.specs.Answer.{splitAnswer}
 
--- "Every one-to-one list ends in a split."
+-- the rule splits every accepted list
 abbrev pub SplitEnds : Type 0
 SplitEnds =
     (n m : ℕ) (list : List ℕ) → length list ≡ n * m → isOneToOne (n * m) list ≡ true → isSplit n m list (splitByRule n m list) ≡ true

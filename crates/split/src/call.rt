@@ -29,7 +29,7 @@ fn refusal(sizes: Sizes, list: &[u16], sets: &[u8]) -> u32
     0
 }
 
-// Fills the set bytes by document 01's rule, or refuses and leaves them.
+// Fills the set bytes by the rule, or refuses and leaves them.
 pub fn split(sizes: Sizes, list: &[u16], sets: &mut [u8]) -> u32
     ensures { λ r. ⌜ record { number = r; sets = now (sets .exit) }
         ≡ splitAnswer (requestOf sizes (now (list .entry)) (now (sets .entry))) ⌝ }

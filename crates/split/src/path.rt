@@ -1,4 +1,4 @@
-// The exchange of two sets along a walk, by document 01's rule.
+// The exchange of two sets along an alternating path.
 ghost use mathlib.Core.Path.{_≡_};
 ghost use mathlib.Core.Bool.{cond};
 ghost use Prim.Native.Nat.{_≤_, _<_};

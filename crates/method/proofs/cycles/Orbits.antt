@@ -9,7 +9,7 @@ use Rattle.flash.specs.Lists.{iterates}
 use Rattle.flash.proofs.Comparisons.{lt-cases}
 use Rattle.split.proofs.Pigeon.{pigeon}
 
--- "n data blocks, .. numbered 1 to n"
+-- rule 1.2
 pub record DataBlock (n b : ℕ) : Type 0 where
   pub low : 1 ≤ b
   pub high : b ≤ n

@@ -32,7 +32,7 @@ module _ (M : Move) (A : AcceptedMove M) where
   block-in k h = let b = block-range n m k h in record { low = b .0; high = b .1 }
 
   module _ (set : ℕ) (set-ok : set < m) where
-    -- ---- "D(i) is the original from block i"
+    -- ---- D(i), rule 3.1
     pub D-page : (i : ℕ) → DataBlock n i → PageOf (originalCount (M .sizes)) sets (sourceBlock m) set i (D M set i)
     unfolding D sourceBlock
     D-page i b =
@@ -52,7 +52,7 @@ module _ (M : Move) (A : AcceptedMove M) where
           at-block = omega arith;
         }
 
-    -- ---- "the block where D(i) goes"
+    -- ---- the block where D(i) goes
     pub dest-in : (i : ℕ) → DataBlock n i → DataBlock n (dest M set i)
     unfolding dest destBlock
     dest-in i b = block-in (getD list (D M set i) 0) (entry-in (D M set i) (D-page i b .inside))
@@ -81,7 +81,7 @@ module _ (M : Move) (A : AcceptedMove M) where
     dest-is = ap (destBlock m list) D-is
 
   module _ (set : ℕ) (set-ok : set < m) where
-    -- ---- "pred(i) is the block whose page goes to block i"
+    -- ---- pred(i), rule 3.1
     pred-found : (i : ℕ) → DataBlock n i → First (λ j. eqb (dest M set j) i) 1 n (pred M set i)
     unfolding pred
     pred-found i b =
@@ -103,7 +103,7 @@ module _ (M : Move) (A : AcceptedMove M) where
         let to = dest-in set set-ok i b in
         dest-same set set-ok (pred M set (dest M set i)) i (pred-in (dest M set i) to) b (dest-pred (dest M set i) to)
 
-  -- ---- "the original that the list sends there"
+  -- ---- the original that the list sends to a page number
   sent-found : (t : ℕ) → t < originalCount (M .sizes) → First (λ k. eqb (getD list k 0) t) 0 (originalCount (M .sizes)) (sentTo M t)
   unfolding sentTo
   sent-found t h =

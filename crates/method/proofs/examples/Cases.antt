@@ -1,4 +1,4 @@
--- Document 01's cases hold: each by computing the definitions.
+-- The worked cases hold: each by computing the definitions.
 use mathlib.Core.Path.{refl}
 use Prim.Native.Nat.{ℕ}
 use Rattle.method.specs.Place.{erase}
@@ -32,7 +32,7 @@ cases-hold byte =
     then refl then refl then refl then refl then refl then refl then refl then refl then refl
     -- the program's case
     then refl then refl
-    -- source document 002
+    -- the paper's example of eight blocks
     then refl then refl then refl
     -- the states of the places
     then refl then refl then refl

@@ -41,7 +41,7 @@ tally-more ops op = tally-append ops (op ∷ []) ∙ last op
     last (erase b) = same-tally refl (omega arith) refl
     last done = same-tally (omega arith) (omega arith) (omega arith)
 
--- "A write or an erase is one step."
+-- rule 4.3: a step is a write or an erase
 pub tally-total : (xs : List Operation) → tallyOf xs .steps ≡ tallyOf xs .writes + tallyOf xs .erases
 unfolding tallyOf tallied
 tally-total [] = omega arith

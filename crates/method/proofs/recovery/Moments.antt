@@ -32,7 +32,7 @@ module _ (Z : Sizes) where
     unfinished : filled Z place ≡ 0 → (q : ℕ) → q < m → markAt marks (slot m (filling Z place) q) ≡ erased → Block marks place
     whole : filled Z place ≡ m → ((q : ℕ) → q < m → markAt marks (slot m (filling Z place) q) ≡ heldMark Z (heldAt Z place (filling Z place) q)) → Block marks place
 
-  -- "at most one block is unfinished": all others are as the place has them
+  -- all blocks but one are as the place has them
   pub record Moment (marks : List ℕ) (place : ℕ) : Type 0 where
     pub in-move : place ≤ lastPlace Z
     pub marks-length : length marks ≡ marksLength Z

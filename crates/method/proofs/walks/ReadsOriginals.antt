@@ -44,7 +44,7 @@ module _ (M : Move) (A : AcceptedMove M) (marks : List ℕ) (low high i : ℕ) (
       (λ (l : high ≤ b). g l (full-same m marks b (letter (M .sizes) i) (letter (M .sizes) j) (A .ranges .m-low) (S .above b l h) e))
       (full-clear M marks low high A i S j b e))
 
--- "Start with v = k's block, in k's set."
+-- where the rules of reading start: v is the block that k came from
 module _ (M : Move) (A : AcceptedMove M) (marks : List ℕ) (low high : ℕ) (k : ℕ) (k-in : k < originalCount (M .sizes)) where
   open Sizes (M .sizes) using (n, m)
 
@@ -172,7 +172,7 @@ module _ (M : Move) (A : AcceptedMove M) (marks : List ℕ) (low high : ℕ) (k 
       on-bound M A marks set set-ok v v-in (top-final (rw e at S) gone) not-there extra)
       which
 
--- "Read puts original k in the work page"
+-- what is summed is original k
 pub reads-original : (M : Move) (A : AcceptedMove M) (low high i k : ℕ) (originals : List ℕ) (chip : Chip) → (i ≡ 0) ⊎ (i ≡ 2) → Shape (M .sizes) (chip .marks) low high i
     → length originals ≡ originalCount (M .sizes) * M .sizes .p → Holding M originals chip → k < originalCount (M .sizes) → readPage M chip k ≡ part (M .sizes .p) k originals
 unfolding readPage

@@ -14,7 +14,7 @@ use Rattle.recovery.specs.declared.marks.MarksRead.the-variants.{NoMomen
 unfoldable pub pagesKnown : (m : ℕ) → (marks : List ℕ) → (block letter : ℕ) → ℕ
 pagesKnown m marks block letter = cond (isLetter letter && isFull m marks block letter) m 0
 
--- what `moment` makes of the gathered numbers: the four lines of document 01, "The cut"
+-- what `moment` makes of the gathered numbers: rules 5.3 to 5.6
 unfoldable pub momentOf : (n : ℕ) (isBackward : Bool) (unfinished torn change : ℕ) → MarksRead
 momentOf n isBackward unfinished torn change =
     cond (eqb unfinished 0)

@@ -1,4 +1,4 @@
--- What the calls know of a list once they have passed document 01's numbers 1 to 3.
+-- What the calls know of a list that is not refused as 1, 2 or 3.
 use mathlib.Core.Path.{_≡_}
 use mathlib.Core.Bool.{true}
 use mathlib.Core.List.{List}
