@@ -86,9 +86,9 @@ pub record RunAnswer : Type 0 where
 unfoldable pub stepsTaken : Sizes → (place budget : ℕ) → ℕ
 stepsTaken Z place budget = min budget (lastPlace Z - place)
 
-unfoldable pub runCarriedOut : Move → Chip → (work : List ℕ) → (place budget : ℕ) → RunAnswer
-runCarriedOut M chip work place budget =
-    let taken = stepsTaken (M .sizes) place budget in
+-- a run that takes so many steps
+unfoldable pub runCarriedOut : Move → Chip → (work : List ℕ) → (place taken : ℕ) → RunAnswer
+runCarriedOut M chip work place taken =
     let after = steps M taken place (record { chip = chip; work = work }) in
     record {
       number = 0;
@@ -113,7 +113,7 @@ runRefused number chip work = record {
 unfoldable pub runAnswer : Request → Chip → (work : List ℕ) → (place budget : ℕ) → RunAnswer
 runAnswer R chip work place budget =
     let number = refusal (runRows R chip work place) in
-    cond (eqb number 0) (runCarriedOut (move R) chip work place budget) (runRefused number chip work)
+    cond (eqb number 0) (runCarriedOut (move R) chip work place (stepsTaken (R .sizes) place budget)) (runRefused number chip work)
 
 -- rule 7.4: what mend returns and leaves
 pub record MendAnswer : Type 0 where

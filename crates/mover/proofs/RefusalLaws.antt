@@ -17,7 +17,7 @@ use Rattle.split.specs.Request.{Request}
 use Rattle.method.specs.Move.{move}
 use Rattle.method.specs.Place.{lastPlace}
 use Rattle.method.specs.Step.{nothingDone}
-use Rattle.method.specs.Answers.{badParts, isElsewhere, moveRows, runRows, RunAnswer, runCarriedOut, runRefused, runAnswer}
+use Rattle.method.specs.Answers.{badParts, isElsewhere, moveRows, runRows, RunAnswer, stepsTaken, runCarriedOut, runRefused, runAnswer}
 use Rattle.method.proofs.basics.AcceptedCalls.{parts-ok, run-taken}
 use Rattle.mover.specs.Answers.{ranAs}
 use Rattle.mover.specs.declared.run.RunResult.{RunResult}
@@ -108,6 +108,6 @@ module _ (R : Request) (chip : Chip) (work : List ℕ) (place : ℕ) where
     refused-by-place e f = refused-answer 5 (λ z. absurd (omega arith)) (by-place true e f)
 
     pub not-refused : 0 ≡ refusal (moveRows R chip work []) → false ≡ isElsewhere (R .sizes) chip place
-        → (answer : RunAnswer) → answer ≡ runCarriedOut (move R) chip work place budget → answer ≡ runAnswer R chip work place budget
+        → (answer : RunAnswer) → answer ≡ runCarriedOut (move R) chip work place (stepsTaken (R .sizes) place budget) → answer ≡ runAnswer R chip work place budget
     unfolding runAnswer
     not-refused e f answer A = rw (by-place false e f) A

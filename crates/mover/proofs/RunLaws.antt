@@ -51,7 +51,7 @@ pub carried : (M : Move) (store marks work : List ℕ) (place budget last taken 
     → last ≡ lastPlace (M .sizes) → taken ≡ min budget (last - place) → finished ≡ cond (eqb (place + taken) last) 1 0
     → runningOf store′ marks′ work′ ≡ steps M taken place (runningOf store marks work) → tally ≡ tallyOf (operationsFrom (M .sizes) place taken)
     → ranAs (record { number = 0; place = place + taken; tally = tally; finished = finished }) store′ marks′ work′
-    ≡ runCarriedOut M (record { store = store; marks = marks }) work place budget
+    ≡ runCarriedOut M (record { store = store; marks = marks }) work place (stepsTaken (M .sizes) place budget)
 unfolding runCarriedOut stepsTaken
 carried M store marks work place budget last taken store′ marks′ work′ tally finished e f g L C =
     let t : taken ≡ min budget (lastPlace (M .sizes) - place) = rw e at f in

@@ -8,7 +8,7 @@ ghost use Rattle.method.specs.Move.{moveOf, AcceptedMove, Lent};
 ghost use Rattle.method.specs.Place.{lastPlace};
 ghost use Rattle.method.specs.Step as method;
 ghost use Rattle.method.specs.Step.{runningOf, nothingDone, tallyOf, operationsFrom};
-ghost use Rattle.method.specs.Answers.{runCarriedOut, runAnswer};
+ghost use Rattle.method.specs.Answers.{stepsTaken, runCarriedOut, runAnswer};
 ghost use Rattle.walk.specs.inner.Moving.{Tables};
 ghost use Rattle.mover.specs.Answers.{ranAs};
 use crate::refusals::move_refusal;
@@ -99,7 +99,7 @@ fn carry_out(
         × (place ≤ lastPlace sizes) ⌝ }
     ensures { λ r. ⌜ ranAs r (now (store .exit)) (now (marks .exit)) (now (work .exit))
         ≡ runCarriedOut (moveOf sizes (now (list .entry)) (now (sets .entry))) (record { store = now (store .entry); marks = now (marks .entry) })
-        (now (work .entry)) place budget ⌝ }
+        (now (work .entry)) place (stepsTaken sizes place budget) ⌝ }
 {
     let mut pages = [0u8; 4096];
     let mut from = [0u8; 4096];

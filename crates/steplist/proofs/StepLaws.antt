@@ -8,9 +8,9 @@ use Rattle.split.specs.Request.{Request}
 use Rattle.method.specs.Move.{Move, move}
 use Rattle.method.specs.Place.{operationAt, lastPlace}
 use Rattle.method.specs.Step.{runningOf, Running, step, steps, tallyOf, operationsFrom}
-use Rattle.method.specs.Answers.{stepsTaken, RunAnswer, runAnswer}
+use Rattle.method.specs.Answers.{runCarriedOut, stepsTaken, RunAnswer, runAnswer}
 use Rattle.method.proofs.basics.AcceptedCalls.{run-taken}
-use Rattle.method.proofs.states.RunsAddUp.{answerOf, run-answer, still-taken}
+use Rattle.method.proofs.states.RunsAddUp.{run-answer, still-taken}
 use Rattle.mover.specs.declared.run.RunResult.{RunResult}
 use Rattle.mover.specs.Answers.{ranAs}
 use Rattle.steplist.specs.Output.{stepLine}
@@ -30,9 +30,9 @@ module _ (R : Request) (run : Running) (place : ℕ) (L : Listable R run place) 
   one-left = omega arith
 
   pub one-step : (ran : RunResult) (store marks work : List ℕ) → ranAs ran store marks work ≡ runAnswer R (run .chip) (run .work) place 1 → OneStep (move R) run place ran store marks work
-  unfolding answerOf steps
+  unfolding runCarriedOut steps
   one-step ran store marks work A =
-      let e = run-answer R (run .chip) (run .work) place 1 (L .taken) ∙ ap (answerOf (move R) (run .chip) (run .work) place) one-left in
+      let e = run-answer R (run .chip) (run .work) place 1 (L .taken) ∙ ap (runCarriedOut (move R) (run .chip) (run .work) place) one-left in
       let B = A ∙ e in
       let after = still-taken R (run .chip) (run .work) place 1 (omega arith) (run-taken R (run .chip) (run .work) place (L .taken)) in
       let size : length work ≡ R .sizes .p = ap (λ (a : RunAnswer). length (a .work)) B ∙ after .lent .work-length in

@@ -24,13 +24,13 @@ use Rattle.method.specs.Step.{operationsFrom}
 use Rattle.method.specs.State.{originalsIn}
 use Rattle.method.specs.Mend.{Reading, reading}
 use Rattle.method.specs.Read.{readSlots, readPage}
-use Rattle.method.specs.Answers.{RunAnswer, runRows, stepsTaken, runRefused, runAnswer, mendRows, mended, mendAnswer, readRows, readAnswer}
+use Rattle.method.specs.Answers.{RunAnswer, runRows, runCarriedOut, stepsTaken, runRefused, runAnswer, mendRows, mended, mendAnswer, readRows, readAnswer}
 use Rattle.method.specs.Runs.{Start}
 use Rattle.method.specs.Events.{Call, run, mend, read, CutPoint, Event, History, numberOf, mendSteps, stepsOf, chipAfter, chipReturned, returnsFinished, starting, during, after, stepsFinished, moments}
 use Rattle.method.specs.Demand3.{CutObeys, Allowed, AllAllowed, goes, Keeps, AtEach, none, more, Demand3}
 use Rattle.method.proofs.basics.AcceptedCalls.{StandsAt}
 use Rattle.method.proofs.states.AtRest.{rest-stands, rest-holds, rest-length}
-use Rattle.method.proofs.states.RunsAddUp.{answerOf, run-answer, start-accepted}
+use Rattle.method.proofs.states.RunsAddUp.{run-answer, start-accepted}
 use Rattle.method.proofs.places.Turns.{resumes-begun}
 use Rattle.method.proofs.recovery.Moments.{Moment, stands-moment}
 use Rattle.method.proofs.demand.KeptByHistories.{within, Kept, keeps}
@@ -83,7 +83,7 @@ module _ (R : Request) (chip₀ : Chip) (S : Start R chip₀) where
   module _ (h : History) (K : Kept M originals h) where
     run-idle : (N : Request) (work : List ℕ) (place budget : ℕ) → numberOf (run N work place budget) (h .chip) ≢ 0
         → (cut : CutPoint) → CutObeys (run N work place budget) cut (h .chip) → EventKept M originals h (run N work place budget) cut
-    unfolding numberOf stepsOf chipAfter chipReturned returnsFinished runRefused answerOf
+    unfolding numberOf stepsOf chipAfter chipReturned returnsFinished runRefused runCarriedOut
     run-idle N work place budget ne =
         let refused : refusal (runRows N (h .chip) work place) ≢ 0 = λ e. ne (ap (λ (a : RunAnswer). a .number) (run-answer N (h .chip) work place budget e)) in
         let no-steps : List Operation = operationsFrom (N .sizes) place (stepsTaken (N .sizes) place budget) in

@@ -20,7 +20,7 @@ use Rattle.method.specs.Place.{operations, lastPlace, filled}
 use Rattle.method.specs.Read.{readPage}
 use Rattle.method.specs.State.{originalsIn}
 use Rattle.method.specs.Step.{isErase, erasesBlock}
-use Rattle.method.specs.Answers.{readRows, stepsTaken, mendAnswer, readAnswer, runAnswer}
+use Rattle.method.specs.Answers.{readRows, runCarriedOut, stepsTaken, mendAnswer, readAnswer, runAnswer}
 use Rattle.method.specs.Runs.{Start}
 use Rattle.method.specs.Events.{History}
 use Rattle.method.specs.Demand3.{Stays, Keeps}
@@ -32,7 +32,7 @@ use Rattle.method.proofs.cycles.SetCycles.{block-in, entry-in}
 use Rattle.method.proofs.walks.ReadsOriginals.{reads}
 use Rattle.method.proofs.states.StatesOfPlaces.{is-state}
 use Rattle.method.proofs.states.AtRest.{rest-page, rest-length}
-use Rattle.method.proofs.states.RunsAddUp.{answerOf, run-answer, start-accepted}
+use Rattle.method.proofs.states.RunsAddUp.{run-answer, start-accepted}
 use Rattle.method.proofs.places.Turns.{turn, turn-high, turn-erases}
 use Rattle.method.proofs.recovery.Moments.{Moment, moment-shape, finished-marks}
 use Rattle.method.proofs.recovery.MendFinds.{moment-fits}
@@ -146,7 +146,7 @@ module _ (R : Request) (chip₀ : Chip) (S : Start R chip₀) where
 
     goes-on : (work : List ℕ) → length work ≡ workLength W → (budget : ℕ) → lastPlace W ≤ budget
         → runAnswer R (mendAnswer W chip .chip) work (mendAnswer W chip .place) budget .finished ≡ 1
-    unfolding answerOf stepsTaken
+    unfolding runCarriedOut stepsTaken
     goes-on work l budget enough =
         let C = recovers W (A .ranges) chip (K .store-length) (K .place) (K .moment) in
         let T : RunTaken R (mendAnswer W chip .chip) work (K .place) = record {

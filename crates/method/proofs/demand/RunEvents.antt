@@ -23,7 +23,7 @@ use Rattle.method.specs.Move.{Move, move, AcceptedMove}
 use Rattle.method.specs.Place.{Operation, write, erase, done, operations, operationAt, lastPlace, filled}
 use Rattle.method.specs.Step.{Running, steps, isErase, tallied, tallyOf, operationsFrom}
 use Rattle.method.specs.Cut.{CutInside}
-use Rattle.method.specs.Answers.{RunAnswer, runRows, stepsTaken, runRefused, runAnswer}
+use Rattle.method.specs.Answers.{RunAnswer, runRows, runCarriedOut, stepsTaken, runRefused, runAnswer}
 use Rattle.method.specs.Events.{Call, run, CutPoint, uncut, between, inside, History, numberOf, stepsOf, chipAfter, chipReturned, returnsFinished, isMend, during, returned, cutShort, afterCall, stepsFinished, sizesGiven}
 use Rattle.method.specs.Demand3.{CutObeys}
 use Rattle.method.specs.Claims.{StepsCounted, PlacesDiffer}
@@ -34,7 +34,7 @@ use Rattle.method.proofs.places.StepsAtPlaces.{last-stands}
 use Rattle.method.proofs.places.PlacesDiffer.{places-differ}
 use Rattle.method.proofs.places.Tallies.{erases-tallied}
 use Rattle.method.proofs.states.StepsKeepPages.{steps-hold}
-use Rattle.method.proofs.states.RunsAddUp.{answerOf, run-answer, still-taken}
+use Rattle.method.proofs.states.RunsAddUp.{run-answer, still-taken}
 use Rattle.method.proofs.places.Turns.{turn, turn-last, turn-writes, turn-erases, turn-resumes, resumesAt, resumes-there, resumes-begun}
 use Rattle.method.proofs.recovery.Moments.{Moment, stands-moment}
 use Rattle.method.proofs.recovery.MendFinds.{moment-unique}
@@ -86,12 +86,12 @@ module _ (R : Request) (A : AcceptedMove (move R)) (originals : List ℕ) (full 
 
   -- ---- the steps
   steps-are : stepsOf call (h .chip) ≡ operationsFrom Z place total
-  unfolding stepsOf numberOf answerOf
+  unfolding stepsOf numberOf runCarriedOut
   steps-are =
       ap (λ (a : RunAnswer). cond (eqb (a .number) 0) (operationsFrom Z place total) []) (run-answer R (h .chip) work place budget ok)
 
   chip-after : (i : ℕ) → i ≤ total → chipAfter call (h .chip) i ≡ steps M i place start .chip
-  unfolding chipAfter answerOf stepsTaken
+  unfolding chipAfter runCarriedOut stepsTaken
   chip-after i l =
       let all : min i (lastPlace Z - place) ≡ i = omega (arith, total-in) in
       ap (λ (a : RunAnswer). a .chip) (run-answer R (h .chip) work place i ok) ∙ ap (λ (x : ℕ). steps M x place start .chip) all
@@ -186,7 +186,7 @@ module _ (R : Request) (A : AcceptedMove (move R)) (originals : List ℕ) (full 
   during-kept i l = kept-at i l (during h call i) (chip-after i l) (begun-to i l) refl (λ e. e) (still-over i l)
 
   returned-kept : Kept M originals (returned h call)
-  unfolding returned isMend chipReturned returnsFinished answerOf
+  unfolding returned isMend chipReturned returnsFinished runCarriedOut
   returned-kept =
       kept-at total (omega arith) (returned h call)
       (ap (λ (a : RunAnswer). a .chip) (run-answer R (h .chip) work place budget ok))

@@ -18,7 +18,7 @@ use Rattle.split.proofs.Answers.{accept, passed}
 use Rattle.method.specs.Move.{Move, move, AcceptedMove}
 use Rattle.method.specs.Place.{Pass, write, operationAt, above, heldMark, marksOf, lastPlace}
 use Rattle.method.specs.State.{originalsIn, stateOf}
-use Rattle.method.specs.Step.{Running, steps, tallyOf, operationsFrom}
+use Rattle.method.specs.Step.{Running, steps}
 use Rattle.method.specs.Answers.{RunAnswer, runRows, stepsTaken, runCarriedOut, runAnswer}
 use Rattle.method.specs.Runs.{joined, runsOfOne, RunsAddUp, Start, StatesReached}
 use Rattle.method.proofs.basics.MoveShape.{Holding}
@@ -34,20 +34,9 @@ use Rattle.method.proofs.states.StepsKeepPages.{steps-hold}
 use Rattle.method.proofs.states.StatesOfPlaces.{is-state}
 use Rattle.method.proofs.states.AtRest.{rest-stands, rest-holds, rest-page, rest-length}
 
--- what a run that takes some steps answers
-unfoldable pub answerOf : Move → Chip → List ℕ → (place taken : ℕ) → RunAnswer
-answerOf M chip work place taken = record {
-  number = 0;
-  place = place + taken;
-  tally = tallyOf (operationsFrom (M .sizes) place taken);
-  finished = cond (eqb (place + taken) (lastPlace (M .sizes))) 1 0;
-  chip = steps M taken place (record { chip = chip; work = work }) .chip;
-  work = steps M taken place (record { chip = chip; work = work }) .work;
-}
-
 pub run-answer : (R : Request) (chip : Chip) (work : List ℕ) (place budget : ℕ) → refusal (runRows R chip work place) ≡ 0
-    → runAnswer R chip work place budget ≡ answerOf (move R) chip work place (stepsTaken (R .sizes) place budget)
-unfolding runAnswer runCarriedOut answerOf
+    → runAnswer R chip work place budget ≡ runCarriedOut (move R) chip work place (stepsTaken (R .sizes) place budget)
+unfolding runAnswer
 run-answer R chip work place budget e = rw e
 
 taken-in : (Z : Sizes) (place budget : ℕ) → place ≤ lastPlace Z → place + stepsTaken Z place budget ≤ lastPlace Z
@@ -62,8 +51,8 @@ still-taken R chip work place taken h T =
     record { accepted = T .accepted; lent = S .lent; stands = S .stands }
 
 answers-join : (M : Move) (chip : Chip) (work : List ℕ) (place a b : ℕ)
-    → answerOf M chip work place (a + b) ≡ joined (answerOf M chip work place a) (answerOf M (answerOf M chip work place a .chip) (answerOf M chip work place a .work) (place + a) b)
-unfolding answerOf joined
+    → runCarriedOut M chip work place (a + b) ≡ joined (runCarriedOut M chip work place a) (runCarriedOut M (runCarriedOut M chip work place a .chip) (runCarriedOut M chip work place a .work) (place + a) b)
+unfolding runCarriedOut joined
 answers-join M chip work place a b =
     let start : Running = record { chip = chip; work = work } in
     let c = tally-split (M .sizes) place a b in
@@ -89,27 +78,27 @@ module _ (R : Request) (chip : Chip) (work : List ℕ) (place : ℕ) (ok : refus
   abbrev one : ℕ → RunAnswer
   one budget = runAnswer R chip work place budget
 
-  one-is : (budget : ℕ) → one budget ≡ answerOf (move R) chip work place (stepsTaken Z place budget)
+  one-is : (budget : ℕ) → one budget ≡ runCarriedOut (move R) chip work place (stepsTaken Z place budget)
   one-is budget = run-answer R chip work place budget ok
 
   goes-on : (budget : ℕ) → refusal (runRows R (one budget .chip) (one budget .work) (one budget .place)) ≡ 0
-  unfolding answerOf
+  unfolding runCarriedOut
   goes-on budget =
       rw (one-is budget)
       (taken-run R _ _ _ (still-taken R chip work place (stepsTaken Z place budget) (taken-in Z place budget (T .stands .inside)) T))
 
   in-two : (a b : ℕ) → one (a + b) ≡ joined (one a) (runAnswer R (one a .chip) (one a .work) (one a .place) b)
-  unfolding answerOf
+  unfolding runCarriedOut
   in-two a b =
       let ta = stepsTaken Z place a in
       let tb = stepsTaken Z (place + ta) b in
       let second = run-answer R (one a .chip) (one a .work) (one a .place) b (goes-on a) in
-      one-is (a + b) ∙ ap (answerOf (move R) chip work place) (taken-add Z place a b) ∙ answers-join (move R) chip work place ta tb
+      one-is (a + b) ∙ ap (runCarriedOut (move R) chip work place) (taken-add Z place a b) ∙ answers-join (move R) chip work place ta tb
       ∙ ap₂ joined (sym (one-is a)) (rw (one-is a) (sym (rw (one-is a) at second)))
 
   only-blank : (finished : ℕ) (pass : Pass) (block page : ℕ) → operationAt Z (place + finished) ≡ write pass block page
       → isBlank (Z .p) (one finished .chip) (slot (Z .m) block page) ≡ true
-  unfolding answerOf stepsTaken heldMark
+  unfolding runCarriedOut stepsTaken heldMark
   only-blank finished pass block page op =
       let at = place + finished in
       let W = write-at Z at pass block page op in
@@ -174,11 +163,11 @@ module _ (R : Request) (chip : Chip) (S : Start R chip) where
       stands = rest-stands (move R) start-accepted chip (S .store-length) (S .marks-length) (S .at-rest);
     }
 
-    started : (t : ℕ) → t ≤ lastPlace W → runAnswer R chip work 0 t ≡ answerOf (move R) chip work 0 t
+    started : (t : ℕ) → t ≤ lastPlace W → runAnswer R chip work 0 t ≡ runCarriedOut (move R) chip work 0 t
     unfolding stepsTaken
     started t h =
         let all : stepsTaken W 0 t ≡ t = omega arith in
-        run-answer R chip work 0 t (taken-run R chip work 0 start-taken) ∙ ap (answerOf (move R) chip work 0) all
+        run-answer R chip work 0 t (taken-run R chip work 0 start-taken) ∙ ap (runCarriedOut (move R) chip work 0) all
 
     first-holds : Holding (move R) (originalsIn W chip) chip
     first-holds = rest-holds (move R) start-accepted chip (S .store-length) (S .marks-length) (S .at-rest)
@@ -196,7 +185,7 @@ module _ (R : Request) (chip : Chip) (S : Start R chip) where
           (record { chip = chip; work = work }) (omega arith) (record { lent = start-taken .lent; stands = start-taken .stands }) first-holds
 
       after-steps : (runAnswer R chip work 0 t .number ≡ 0) × (runAnswer R chip work 0 t .place ≡ t) × (runAnswer R chip work 0 t .chip ≡ stateOf (move R) (originalsIn W chip) t)
-      unfolding answerOf
+      unfolding runCarriedOut
       after-steps =
           let zero-first : 0 + t ≡ t = zero-add t in (
             rw (started t h),
@@ -208,7 +197,7 @@ module _ (R : Request) (chip : Chip) (S : Start R chip) where
 
     at-end : (k : ℕ) → k < originalCount W
         → pageAt (W .p) (runAnswer R chip work 0 (lastPlace W) .chip) (slotOf (W .m) (getD (move R .list) k 0)) ≡ pageAt (W .p) chip (slotOf (W .m) k)
-    unfolding answerOf
+    unfolding runCarriedOut
     at-end k h =
         let last = lastPlace W in
         let to = getD (move R .list) k 0 in
