@@ -46,14 +46,14 @@ pub fn sum_to_page(store: &[u8], p: usize, slots: &[usize], count: usize, page: 
 {
     let mut i = 0;
     while i < count {
-        let four = four_from(slots, count, i);
+        let pass = four_from(slots, count, i);
         sum_from(
             store,
             p,
-            four.a,
-            four.b,
-            four.c,
-            four.d,
+            pass.a,
+            pass.b,
+            pass.c,
+            pass.d,
             count - i,
             page,
             0 < i,
