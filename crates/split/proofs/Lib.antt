@@ -5,12 +5,11 @@ pub mod Walk
 pub mod Exchange
 pub mod RuleLaws
 pub mod Turns
-pub mod PathLaws
 pub mod Answers
 pub mod Claimed
 pub mod MaskLaws
 pub mod CheckLaws
-pub mod MaskedLaws
-pub mod Walking
-pub mod Filling
 pub mod RowsLaws
+pub mod CellsLaws
+pub mod PathLaws
+pub mod Filling

@@ -2,7 +2,7 @@
 use mathlib.Core.Path.{_≡_, refl, sym, ap, _∙_, subst}
 use mathlib.Core.Logic.{_≢_, ⊎-elim}
 use mathlib.Core.Bool.{Bool, true, false, cond, _||_, or-false, or-true}
-use mathlib.Core.List.{List, [], _∷_, _++_}
+use mathlib.Core.List.{List, [], _∷_}
 use Prim.Native.Nat.{ℕ, suc, _+_, _≤_, _<_}
 use native.Mathlib.Omega.{arith}
 use lib.Dec.{eqb}
@@ -12,20 +12,17 @@ use borrow.Author.Tests.{eqb-true, eq-eqb, ne-eqb}
 use Rattle.flash.specs.Lists.{any}
 use Rattle.split.specs.Split.{setOf}
 use Rattle.split.specs.Rule.{End, source, destination, otherEnd, swapped, blockAt, exchange}
-use Rattle.split.specs.inner.Work.{Found}
 use Rattle.flash.proofs.Bools.{bool-cases, fails}
 use Rattle.flash.proofs.Comparisons.{lt-cases, eq-cases}
-use Rattle.flash.proofs.Searches.{any-find}
+use Rattle.flash.proofs.Searches.{any-append, any-find}
 use Rattle.split.proofs.Walk.{Coloured, PageAt, metAs, metAs-same, metAs-two, other-twice, path, path-head, path-chain, path-inside, path-closed, path-first, path-distinct}
 use Rattle.split.proofs.Exchange.{exchange-length, exchange-at, swapped-met, in-at, two}
 
-any-append : (test : ℕ → Bool) (xs ys : List ℕ) → any test (xs ++ ys) ≡ (any test xs || any test ys)
-unfolding any
-any-append test [] ys = refl
-any-append test (x ∷ xs) ys = ⊎-elim
-    (λ (q : test x ≡ true). rw q)
-    (λ (q : test x ≡ false). rw q (any-append test xs ys))
-    (bool-cases (test x))
+-- r is a page of the set at the block, among the first k; or k, where there is none
+pub record Found (m : ℕ) (list sets : List ℕ) (k : ℕ) (end : End) (block set r : ℕ) : Type 0 where
+  pub within : r ≤ k
+  pub hit : r < k → (blockAt m list end r ≡ block) × (setOf sets r ≡ set)
+  pub none : r ≡ k → (x : ℕ) → x < k → blockAt m list end x ≡ block → setOf sets x ≢ set
 
 module _ (m : ℕ) (list given : List ℕ) (C : Coloured m list given) (a b : ℕ) (differ : a ≢ b) (block : ℕ)
     (unused : (k : ℕ) → PageAt m list given destination block b k → ⊥) where
