@@ -2,17 +2,17 @@
 use mathlib.Core.Path.{_≡_, refl, sym, ap, _∙_, subst}
 use mathlib.Core.Logic.{_⊎_, inl, inr, _≢_, ⊎-elim}
 use mathlib.Core.List.{List}
-use Prim.Native.Nat.{ℕ, _+_, _-_, _*_, _/_, _%_, _≤_, _<_}
+use Prim.Native.Nat.{ℕ, _+_, _-_, _*_, _≤_, _<_}
 use native.Mathlib.Nat.{not-suc-le-zero}
 use native.Mathlib.Omega.{arith}
 use lib.ListN.{length, getD, replicate, set as put, length-set}
 use lib.Seq.{getD-set-same, getD-set-other}
-use borrow.Author.Tests.{eq-eqb, ne-eqb}
+use borrow.Author.Tests.{ne-eqb}
 use Rattle.split.specs.Split.{setOf}
 use Rattle.split.specs.Rule.{End, swapped}
 use Rattle.split.specs.inner.Mask.{bitAt, FlippedAt, FlippedBoth}
 use Rattle.split.specs.inner.Cells.{rowOf, noteOf, IsPage, Cell, Exact, swappedAt}
-use Rattle.flash.proofs.Comparisons.{lt-cases, eq-cases}
+use Rattle.flash.proofs.Comparisons.{eq-cases}
 use Rattle.split.proofs.MaskLaws.{zeros-at, no-bits, bit-lt}
 use Rattle.split.proofs.Exchange.{swapped-a, swapped-b}
 

@@ -15,7 +15,7 @@ use Rattle.split.specs.Split.{setOf}
 use Rattle.split.specs.Rule.{End, source, destination, blockAt, isUsed, lowestUnused, pagesMet, exchange, giveNext, setsGiven, splitByRule}
 use Rattle.split.specs.inner.Mask.{bitAt, lowestZero, FlippedAt}
 use Rattle.split.specs.inner.Accepted.{Accepted}
-use Rattle.split.specs.inner.Cells.{rowOf, noteOf, IsPage, Exact}
+use Rattle.split.specs.inner.Cells.{rowOf, noteOf, Exact}
 use Rattle.split.specs.inner.Work.{Working, Blocked}
 use Rattle.flash.proofs.Bools.{bool-cases}
 use Rattle.flash.proofs.Ranges.{First, first-is}

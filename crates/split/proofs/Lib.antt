@@ -1,3 +1,4 @@
+-- The files of laws.
 pub mod Pigeon
 pub mod OneToOneLaws
 pub mod SplitLaws

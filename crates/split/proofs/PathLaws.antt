@@ -1,26 +1,25 @@
 -- The loop of the exchange: the tables lead along the path, and are exact again at its end.
 use mathlib.Core.Path.{_≡_, refl, sym, ap, ap₂, _∙_, subst}
-use mathlib.Core.Logic.{_⊎_, inl, inr, _≢_, ⊎-elim}
+use mathlib.Core.Logic.{_⊎_, inl, _≢_, ⊎-elim}
 use mathlib.Core.Bool.{Bool, true, false}
-use mathlib.Core.List.{List, [], _∷_, _++_}
+use mathlib.Core.List.{List}
 use Prim.Native.Nat.{ℕ, zero, suc, _+_, _-_, _*_, _/_, _%_, _≤_, _<_}
 use native.Mathlib.Nat.{div-add-mod'}
 use native.Mathlib.Omega.{arith}
 use lib.Dec.{eqb}
 use lib.ListN.{length, getD, take, set as put, length-set}
-use lib.Seq.{getD-take, getD-set-same, getD-set-other}
+use lib.Seq.{getD-set-same, getD-set-other}
 use borrow.Author.Tests.{eqb-true, eq-eqb, ne-eqb}
 use Rattle.flash.specs.Lists.{range, count}
 use Rattle.split.specs.Split.{sourceBlock, setOf}
-use Rattle.split.specs.Rule.{End, source, destination, otherEnd, blockAt, lowestUnused, pagesMet, exchange, setsGiven}
+use Rattle.split.specs.Rule.{End, source, destination, otherEnd, blockAt, pagesMet, exchange, setsGiven}
 use Rattle.split.specs.inner.Mask.{bitAt, FlippedBoth}
 use Rattle.split.specs.inner.Cells.{rowOf, noteOf, IsPage, Exact, swappedAt}
-use Rattle.split.specs.inner.Work.{Working, Blocked}
 use Rattle.flash.proofs.Bools.{bool-cases}
 use Rattle.flash.proofs.Comparisons.{eq-cases}
-use Rattle.split.proofs.RuleLaws.{at-place, given, used-page, lowest-none, lowest-lt}
+use Rattle.split.proofs.RuleLaws.{at-place}
 use Rattle.split.proofs.Walk.{Coloured, PageAt, metAs}
-use Rattle.split.proofs.Turns.{Found, Turn, first-turn, page-now, page-as, next-turn, turns-done}
+use Rattle.split.proofs.Turns.{Found, Turn, page-now, page-as, next-turn, turns-done}
 use Rattle.split.proofs.CellsLaws.{page-note, row-exchanged, bits-stay, bits-flip, pair-here, alone-here}
 
 -- blocks are counted from 1, rows from 0

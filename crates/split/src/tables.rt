@@ -16,7 +16,7 @@ pub const SETS: usize = 64;
 pub const CELLS: usize = BLOCKS * SETS;
 
 // A byte, with its bound.
-fn wide(note: u8) -> usize
+fn bounded(note: u8) -> usize
     ensures { λ r. ⌜ (r ≡ note) × (r < 256) ⌝ }
 {
     note as usize
@@ -26,7 +26,7 @@ pub fn noted(table: &[u8; CELLS], block: usize, set: usize) -> usize
     requires { ⌜ (block < 64) × (set < 64) ⌝ }
     ensures { λ r. ⌜ (r ≡ getD (now (table .entry)) (block * 64 + set) 0) × (r < 256) ⌝ }
 {
-    wide(table[block * SETS + set])
+    bounded(table[block * SETS + set])
 }
 
 // The page of a set at a source block.

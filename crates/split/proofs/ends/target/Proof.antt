@@ -1,7 +1,7 @@
 -- `target` gives the destination block of a page, from 0.
 use native.Mathlib.Omega.{arith}
 use borrow.Author.Needs.{needs}
-use mathlib.Core.Path.{sym, ap, _∙_}
+use mathlib.Core.Path.{ap, _∙_}
 use Prim.Native.Nat.{ℕ, _/_}
 use Rattle.split.specs.Split.{destBlock}
 use Rattle.split.specs.Rule.{blockAt}

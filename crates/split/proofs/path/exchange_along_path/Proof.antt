@@ -1,16 +1,14 @@
 -- `exchange_along_path` exchanges the two sets along the path and leaves the tables exact.
-use mathlib.Core.Path.{_≡_, refl, sym, ap, _∙_, subst}
-use mathlib.Core.Logic.{_≢_}
-use Prim.Native.Nat.{ℕ, _+_, _*_, _≤_, _<_}
+use mathlib.Core.Path.{_≡_, refl, sym, ap, _∙_}
+use Prim.Native.Nat.{ℕ, _+_, _≤_, _<_}
 use native.Mathlib.Omega.{arith}
-use borrow.Author.Needs.{needs}
 use borrow.Author.Tests.{eqb-true, eqb-false, not-true, not-false}
 use lib.ListN.{length, getD, length-set}
 use Rattle.flash.specs.inner.Reciprocal.{reciprocal}
 use Rattle.split.specs.Rule.{source, destination, setsGiven}
-use Rattle.split.specs.inner.Mask.{bitAt, FlippedBoth}
+use Rattle.split.specs.inner.Mask.{bitAt}
 use Rattle.split.specs.inner.Cells.{rowOf}
-use Rattle.split.proofs.PathLaws.{length-swapped, Ready, Walking, unchanged, path-over, home-is, x-met, y-lt, turn-ends, turn-less, turn-goes}
+use Rattle.split.proofs.PathLaws.{length-swapped, Walking, unchanged, path-over, home-is, x-met, y-lt, turn-ends, turn-less, turn-goes}
 use Rattle.split.proofs.Filling.{row-lt, ready, path-starts, path-done}
 use Rattle.split.proofs.path.exchange_along_path.Statement.{statement}
 use Rattle.split.proofs.path.exchange_along_path.Tie as tie
