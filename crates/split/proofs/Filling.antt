@@ -1,186 +1,362 @@
--- The rule page by page: the masks give the sets that the definition gives.
+-- The rule page by page: the tables give the sets that the definition gives.
 use mathlib.Core.Path.{_≡_, refl, sym, ap, ap₂, _∙_, subst}
 use mathlib.Core.Logic.{_≢_, ⊎-elim}
 use mathlib.Core.Bool.{true, false, cond, not}
 use mathlib.Core.List.{List, [], _∷_, _++_}
-use Prim.Native.Nat.{ℕ, suc, _+_, _*_, _%_, _≤_, _<_}
+use Prim.Native.Nat.{ℕ, suc, _+_, _-_, _*_, _/_, _%_, _≤_, _<_}
+use native.Mathlib.Nat.{div-add-mod', mod-lt}
 use native.Mathlib.Numerals.{add-one}
 use native.Mathlib.Omega.{arith}
 use lib.Dec.{eqb}
-use lib.ListN.{length, getD, take, set, replicate, length-set}
-use lib.Seq.{getD-take, take-suc-set, take-all}
+use lib.ListN.{length, getD, take, replicate, set as put, length-set}
+use lib.Seq.{getD-take, take-suc, take-suc-set, take-set-le, take-all}
 use borrow.Author.Tests.{eqb-true, eqb-false, eq-eqb, ne-eqb, not-true, not-false}
-use Rattle.flash.specs.Lists.{range, count}
 use Rattle.split.specs.Split.{setOf}
-use Rattle.split.specs.Rule.{End, source, destination, blockAt, isPageOf, isUsed, lowestUnused, pagesMet, exchange, giveNext, setsGiven, splitByRule}
-use Rattle.split.specs.Claims.{walkOf}
+use Rattle.split.specs.Rule.{End, source, destination, blockAt, isUsed, lowestUnused, pagesMet, exchange, giveNext, setsGiven, splitByRule}
 use Rattle.split.specs.inner.Mask.{bitAt, lowestZero, FlippedAt}
 use Rattle.split.specs.inner.Accepted.{Accepted}
-use Rattle.split.specs.inner.Ends.{Masks}
-use Rattle.split.specs.inner.Work.{Working, Blocked, Exchanged}
+use Rattle.split.specs.inner.Cells.{rowOf, noteOf, Exact}
+use Rattle.split.specs.inner.Work.{Working, Blocked}
 use Rattle.flash.proofs.Bools.{bool-cases}
 use Rattle.flash.proofs.Ranges.{First, first-is}
-use Rattle.split.proofs.SplitLaws.{Proper}
-use Rattle.split.proofs.RuleLaws.{given, Given, used-page, unused-none, lowest}
+use Rattle.split.proofs.RuleLaws.{given, Given, blocks, used-page, unused-none, lowest}
+use Rattle.split.proofs.Walk.{PageAt}
+use Rattle.split.proofs.Turns.{first-turn}
 use Rattle.split.proofs.MaskLaws.{bit-lt}
-use Rattle.split.proofs.MaskedLaws.{is-page, page-is, no-masks, mask-more, bit-page, page-bit, count-same, set-here, page-else}
+use Rattle.split.proofs.CellsLaws.{no-pages, one-noted}
+use Rattle.split.proofs.PathLaws.{same-block, home-note, set-here, set-else, Ready, Walking}
 
--- ---- page k
-module _ (m : ℕ) (list : List ℕ) (k : ℕ) (sets sources destinations : List ℕ)
-    (W : Working m list k sets sources destinations) where
-  abbrev sofar : List ℕ
-  sofar = setsGiven m list k
+module _ (n m : ℕ) (list : List ℕ) (A : Accepted n m list) where
+  pub row-lt : (end : End) (k : ℕ) → k < n * m → rowOf m list end k < 64
+  row-lt end k h = let b = blocks n m list (A .listed) (A .one-to-one) end k h in let f = A .n-fits in omega arith
 
-  abbrev n : ℕ
-  n = W .blocks
+  module _ (k : ℕ) (more : k < n * m) where
+    abbrev sofar : List ℕ
+    sofar = setsGiven m list k
 
-  so-far : Given n m list (W .accepted .listed) (W .accepted .one-to-one) k
-  so-far = given n m list (W .accepted .listed) (W .accepted .one-to-one) k (W .within)
+    so-far : Given n m list (A .listed) (A .one-to-one) k
+    so-far = given n m list (A .listed) (A .one-to-one) k (omega arith)
 
-  same-set : (x : ℕ) → x < k → setOf sets x ≡ setOf sofar x
-  unfolding setOf
-  same-set x h = sym (getD-take k sets x 0 h) ∙ ap (λ (xs : List ℕ). getD xs x 0) (W .given)
-
-  proper : (end : End) → Proper k sets (blockAt m list end)
-  proper end x y h l v c =
-      so-far .coloured .proper end x y (rw (so-far .counted) h) (rw (so-far .counted) l) v (sym (same-set x h) ∙ c ∙ same-set y l)
-
-  -- the bit of a set tells whether it is used
-  used-bit : (end : End) (masks : List ℕ) → Masks m list sets k end masks → (block s : ℕ)
-      → eqb (bitAt (getD masks block 0) s) 1 ≡ isUsed m list sofar end block s
-  used-bit end masks M block s = ⊎-elim
-      (λ (u : isUsed m list sofar end block s ≡ true).
-      let p = used-page m list sofar end block s u in
-      let h : p .0 < k = rw (so-far .counted) at (p .1 .inside) in
-      eq-eqb _ 1 (page-bit m list sets end k masks M (proper end) block s (p .0) h
-      (is-page m list sets end block s (p .0) (p .1 .at-block) (same-set (p .0) h ∙ p .1 .in-set))) ∙ sym u)
-      (λ (u : isUsed m list sofar end block s ≡ false).
-      ne-eqb _ 1 (λ e.
-      let r = bit-page m list sets end k masks M block s e in
-      let p = page-is m list sets end block s (r .0) (r .2) in
-      unused-none m list sofar end block s u (r .0)
-      (record { inside = rw (so-far .counted) (r .1); in-set = sym (same-set (r .0) (r .1)) ∙ p .1; at-block = p .0 })) ∙ sym u)
-      (bool-cases (isUsed m list sofar end block s))
-
-  module _ (more : k < n * m) where
     abbrev low : End → ℕ
     low end = lowestUnused m list sofar end (blockAt m list end k)
 
     lowest-hit : (end : End) → First (λ s. not (isUsed m list sofar end (blockAt m list end k) s)) 0 m (low end)
     lowest-hit end = subst (λ (x : ℕ). First (λ s. not (isUsed m list sofar end (blockAt m list end x) s)) 0 m
         (lowestUnused m list sofar end (blockAt m list end x))) (so-far .counted)
-        (lowest n m list (W .accepted .listed) (W .accepted .one-to-one) sofar (so-far .coloured) (omega (arith, so-far .counted)) end)
+        (lowest n m list (A .listed) (A .one-to-one) sofar (so-far .coloured) (omega (arith, so-far .counted)) end)
 
-    -- the lowest zero of a block's mask is the lowest set unused there
-    pub lowest-free : (end : End) (masks : List ℕ) → Masks m list sets k end masks → (block : ℕ) → block ≡ blockAt m list end k
-        → lowestZero (getD masks block 0) ≡ low end
-    unfolding lowestZero
-    lowest-free end masks M block e = rw e (
-        let h = lowest-hit end in
-        let fits = W .accepted .m-fits in
-        let high = h .high in
-        let mask = getD masks (blockAt m list end k) 0 in
-        first-is (λ bit. eqb (bitAt mask bit) 0) 0 64 64 (low end) (record {
-          low = omega arith;
-          high = omega arith;
-          passes = eq-eqb _ 0 (zero-bit (low end) (used-bit end masks M (blockAt m list end k) (low end) ∙ not-true _ (h .passes)));
-          before = λ s a b. ne-eqb _ 0 (one-bit s (used-bit end masks M (blockAt m list end k) s ∙ not-false _ (h .before s a b)));
-        }))
-      where
-        zero-bit : (s : ℕ) → eqb (bitAt (getD masks (blockAt m list end k) 0) s) 1 ≡ false
-            → bitAt (getD masks (blockAt m list end k) 0) s ≡ 0
-        zero-bit s q = let f : bitAt (getD masks (blockAt m list end k) 0) s ≢ 1 = eqb-false _ 1 q in let l = bit-lt
-            (getD masks (blockAt m list end k) 0) s in omega arith
+    pub low-lt : (end : End) → low end < 64
+    low-lt end = let h = lowest-hit end .high in let fits = A .m-fits in omega arith
 
-        one-bit : (s : ℕ) → eqb (bitAt (getD masks (blockAt m list end k) 0) s) 1 ≡ true
-            → bitAt (getD masks (blockAt m list end k) 0) s ≢ 0
-        one-bit s q z = let f : bitAt (getD masks (blockAt m list end k) 0) s ≡ 1 = eqb-true _ 1 q in omega arith
+    -- the next sets, by the two ways of the rule
+    next-sets : (a b j : ℕ) → List ℕ
+    next-sets a b j =
+        cond (isUsed m list sofar destination (blockAt m list destination j) a)
+        (exchange m list sofar a b (pagesMet m list sofar j destination (blockAt m list destination j) a b) ++ (a ∷ []))
+        (sofar ++ (a ∷ []))
 
-    pub lowest-fits : (end : End) → low end < 64
-    lowest-fits end = let h = lowest-hit end .high in let fits = W .accepted .m-fits in omega arith
+    next-is : (a b : ℕ) → a ≡ low source → b ≡ low destination → next-sets a b k ≡ setsGiven m list (suc k)
+    unfolding next-sets setsGiven giveNext
+    next-is a b a-is b-is =
+        ap₂ (λ (x y : ℕ). next-sets x y k) a-is b-is
+        ∙ ap (λ (j : ℕ). next-sets (lowestUnused m list sofar source (blockAt m list source j))
+        (lowestUnused m list sofar destination (blockAt m list destination j)) j) (sym (so-far .counted))
 
-    -- whether a is used at the destination
-    pub blocked : (block a : ℕ) → block ≡ blockAt m list destination k
-        → eqb (bitAt (getD destinations block 0) a) 1 ≡ isUsed m list sofar destination (blockAt m list destination k) a
-    blocked block a e = ap (λ (at : ℕ). eqb (bitAt (getD destinations at 0) a) 1) e
-        ∙ used-bit destination destinations (W .destination-masks) (blockAt m list destination k) a
+    gives-plain : (a : ℕ) → a ≡ low source → isUsed m list sofar destination (blockAt m list destination k) a ≡ false
+        → sofar ++ (a ∷ []) ≡ setsGiven m list (suc k)
+    unfolding next-sets
+    gives-plain a a-is u =
+        let e : next-sets a (low destination) k ≡ sofar ++ (a ∷ []) = rw u in
+        sym e ∙ next-is a _ a-is refl
 
-    -- page k gets its set
-    pub given-more : (a : ℕ) (sets′ sources′ destinations′ sources″ destinations″ : List ℕ) → length sets′ ≡ length sets
-        → take k sets′ ++ (a ∷ []) ≡ setsGiven m list (suc k) → Masks m list sets′ k source sources′
-        → Masks m list sets′ k destination destinations′
-        → FlippedAt sources′ (blockAt m list source k) a sources″
-        → FlippedAt destinations′ (blockAt m list destination k) a destinations″
-        → Working m list (k + 1) (set sets′ k a) sources″ destinations″
-    given-more a sets′ sources′ destinations′ sources″ destinations″ len g S D s d = record {
-      blocks = n;
-      accepted = W .accepted;
-      within = omega arith;
-      sized = length-set sets′ k a ∙ len ∙ W .sized;
-      given = ap (λ (j : ℕ). take j (set sets′ k a)) (add-one k) ∙ take-suc-set sets′ k a inside ∙ g
-          ∙ ap (setsGiven m list) (sym (add-one k));
-      source-masks = masks source sources′ sources″ S s;
-      destination-masks = masks destination destinations′ destinations″ D d;
-    }
-      where
-        inside : k < length sets′
-        inside = let z = W .sized in omega arith
+    gives-exchanged : (a b : ℕ) → a ≡ low source → b ≡ low destination
+        → isUsed m list sofar destination (blockAt m list destination k) a ≡ true
+        → exchange m list sofar a b (pagesMet m list sofar k destination (blockAt m list destination k) a b) ++ (a ∷ []) ≡ setsGiven m list (suc k)
+    unfolding next-sets
+    gives-exchanged a b a-is b-is u =
+        let e : next-sets a b k ≡ exchange m list sofar a b
+        (pagesMet m list sofar k destination (blockAt m list destination k) a b) ++ (a ∷ []) = rw u in
+        sym e ∙ next-is a b a-is b-is
 
-        its-set : setOf (set sets′ k a) k ≡ a
-        its-set = set-here sets′ k a inside
+    -- ---- the first k pages have their sets
+    module _ (sets : List ℕ) (is : take k sets ≡ sofar) where
+      same-set : (x : ℕ) → x < k → setOf sets x ≡ setOf sofar x
+      unfolding setOf
+      same-set x h = sym (getD-take k sets x 0 h) ∙ ap (λ (xs : List ℕ). getD xs x 0) is
 
-        masks : (end : End) (old new : List ℕ) → Masks m list sets′ k end old → FlippedAt old (blockAt m list end k) a new
-            → Masks m list (set sets′ k a) (k + 1) end new
-        masks end old new M f = mask-more m list (set sets′ k a) end k old new
-            (λ block x. M block x ∙ ap (λ (c : ℕ). c % 2) (count-below end block x))
-            (subst (λ (x : ℕ). FlippedAt old (blockAt m list end k) x new) (sym its-set) f)
-          where
-            count-below : (end : End) (block x : ℕ) → count (isPageOf m list sets′ end block x) (range 0 k) ≡ count
-                (isPageOf m list (set sets′ k a) end block x) (range 0 k)
-            count-below end block x = count-same _ _ 0 k (λ y _ h. page-else m list sets′ end k a block x y (λ e. absurd (omega arith)))
+      -- the bit of a set tells whether it is used
+      used-bit : (end : End) (table masks : List ℕ) → Exact m list end k sets table masks → (set : ℕ) → set < 64
+          → eqb (bitAt (getD masks (rowOf m list end k) 0) set) 1 ≡ isUsed m list sofar end (blockAt m list end k) set
+      used-bit end table masks X set small = ⊎-elim
+          (λ (u : isUsed m list sofar end (blockAt m list end k) set ≡ true).
+          let p = used-page m list sofar end (blockAt m list end k) set u in
+          let h : p .0 < k = rw (so-far .counted) at (p .1 .inside) in
+          eq-eqb _ 1 (X (rowOf m list end k) set small .marked (p .0)
+          (record { inside = h; at-row = ap (λ (x : ℕ). x - 1) (p .1 .at-block); in-set = same-set (p .0) h ∙ p .1 .in-set })) ∙ sym u)
+          (λ (u : isUsed m list sofar end (blockAt m list end k) set ≡ false).
+          ne-eqb _ 1 (λ e.
+          let r = X (rowOf m list end k) set small .page e in
+          let p = r .1 in
+          unused-none m list sofar end (blockAt m list end k) set u (r .0) (record {
+            inside = rw (so-far .counted) (p .inside);
+            in-set = sym (same-set (r .0) (p .inside)) ∙ p .in-set;
+            at-block = same-block m list end (r .0) k (p .at-row);
+          })) ∙ sym u)
+          (bool-cases (isUsed m list sofar end (blockAt m list end k) set))
 
-  -- the next sets, by the two ways of the rule
-  next-sets : (a b j : ℕ) → List ℕ
-  next-sets a b j =
-      cond (isUsed m list sofar destination (blockAt m list destination j) a)
-      (exchange m list sofar a b (pagesMet m list sofar j destination (blockAt m list destination j) a b) ++ (a ∷ []))
-      (sofar ++ (a ∷ []))
+      -- the lowest zero of a block's mask is the lowest set unused there
+      pub lowest-free : (end : End) (table masks : List ℕ) → Exact m list end k sets table masks
+          → lowestZero (getD masks (rowOf m list end k) 0) ≡ low end
+      unfolding lowestZero
+      lowest-free end table masks X =
+          let h = lowest-hit end in
+          let fits = A .m-fits in
+          let high = h .high in
+          let mask = getD masks (rowOf m list end k) 0 in
+          first-is (λ bit. eqb (bitAt mask bit) 0) 0 64 64 (low end) (record {
+            low = omega arith;
+            high = omega arith;
+            passes = eq-eqb _ 0 (zero-bit mask (low end) (used-bit end table masks X (low end) (omega arith) ∙ not-true _ (h .passes)));
+            before = λ s a b. ne-eqb _ 0 (one-bit mask s (used-bit end table masks X s (omega arith) ∙ not-false _ (h .before s a b)));
+          })
+        where
+          zero-bit : (mask s : ℕ) → eqb (bitAt mask s) 1 ≡ false → bitAt mask s ≡ 0
+          zero-bit mask s q = let f : bitAt mask s ≢ 1 = eqb-false _ 1 q in let l = bit-lt mask s in omega arith
 
-  next-is : (a b : ℕ) → a ≡ lowestUnused m list sofar source (blockAt m list source k)
-      → b ≡ lowestUnused m list sofar destination (blockAt m list destination k)
-      → next-sets a b k ≡ setsGiven m list (suc k)
-  unfolding next-sets setsGiven giveNext
-  next-is a b a-is b-is =
-      ap₂ (λ (x y : ℕ). next-sets x y k) a-is b-is
-      ∙ ap (λ (j : ℕ). next-sets (lowestUnused m list sofar source (blockAt m list source j))
-      (lowestUnused m list sofar destination (blockAt m list destination j)) j) (sym (so-far .counted))
+          one-bit : (mask s : ℕ) → eqb (bitAt mask s) 1 ≡ true → bitAt mask s ≢ 0
+          one-bit mask s q z = let f : bitAt mask s ≡ 1 = eqb-true _ 1 q in omega arith
 
-  pub gives-plain : (a : ℕ) → a ≡ lowestUnused m list sofar source (blockAt m list source k)
-      → isUsed m list sofar destination (blockAt m list destination k) a ≡ false → take k sets ++ (a ∷ []) ≡ setsGiven m list (suc k)
-  unfolding next-sets
-  gives-plain a a-is u =
-      let e : next-sets a (lowestUnused m list sofar destination (blockAt m list destination k)) k ≡ sofar ++ (a ∷ []) = rw u in
-      ap (λ (xs : List ℕ). xs ++ (a ∷ [])) (W .given) ∙ sym e ∙ next-is a _ a-is refl
+      -- which is free there
+      low-free : (end : End) (table masks : List ℕ) → Exact m list end k sets table masks → (set : ℕ) → set ≡ low end
+          → bitAt (getD masks (rowOf m list end k) 0) set ≢ 1
+      low-free end table masks X set e =
+          rw e (eqb-false _ 1 (used-bit end table masks X (low end) (low-lt end) ∙ not-true _ (lowest-hit end .passes)))
 
-  pub gives-exchanged : (a b : ℕ) (sets′ sources′ destinations′ : List ℕ) → Blocked m list k a b
-      → Exchanged m list k a b sets′ sources′ destinations′ → take k sets′ ++ (a ∷ []) ≡ setsGiven m list (suc k)
-  unfolding next-sets walkOf
-  gives-exchanged a b sets′ sources′ destinations′ B E =
-      let walk = ap₂ (pagesMet m list sofar k destination (blockAt m list destination k)) (B .a-is) (B .b-is) in
-      let e : next-sets a b k ≡ exchange m list sofar a b
-      (pagesMet m list sofar k destination (blockAt m list destination k) a b) ++ (a ∷ []) = rw (B .used) in
-      ap (λ (xs : List ℕ). xs ++ (a ∷ [])) (E .exchanged ∙ ap (exchange m list sofar a b) (sym walk)) ∙ sym e
-      ∙ next-is a b (B .a-is) (B .b-is)
+      -- page k is noted under a set that its block has not
+      note-more : (end : End) (table masks masks′ sets′ : List ℕ) (set : ℕ) → Exact m list end k sets table masks → length table ≡ 4096 → set < 64
+          → bitAt (getD masks (rowOf m list end k) 0) set ≢ 1 → setOf sets′ k ≡ set → ((x : ℕ) → x ≢ k → setOf sets′ x ≡ setOf sets x)
+          → FlippedAt masks (rowOf m list end k) set masks′
+          → Exact m list end (k + 1) sets′ (put table (rowOf m list end k * 64 + set) (noteOf m end k)) masks′
+      note-more end table masks masks′ sets′ set X sized small free its else flip =
+          one-noted m list end k sets sets′ table masks masks′ X set small free its (λ x h. else x (λ e. absurd (omega arith)))
+          (omega (arith, row-lt end k more)) flip
 
--- page k's set a is free at both of its blocks: the exchange is done, or there was none to do
-pub record Fresh (m : ℕ) (list : List ℕ) (k a : ℕ) (before sets sources destinations : List ℕ) : Type 0 where
-  pub sized : length sets ≡ length before
-  pub gives : take k sets ++ (a ∷ []) ≡ setsGiven m list (suc k)
-  pub source-masks : Masks m list sets k source sources
-  pub destination-masks : Masks m list sets k destination destinations
+-- ---- page k gets its set
+module _ (m : ℕ) (list : List ℕ) (k a : ℕ) (sets numbers sources homes destinations : List ℕ)
+    (W : Working m list k sets numbers sources homes destinations) (more : k < W .blocks * m)
+    (a-is : a ≡ lowestUnused m list (setsGiven m list k) source (blockAt m list source k))
+    (sources′ destinations′ : List ℕ)
+    (flip-source : FlippedAt sources (rowOf m list source k) a sources′) where
+  abbrev A : Accepted (W .blocks) m list
+  A = W .accepted
+
+  inside : k < length sets
+  inside = omega (arith, W .sized)
+
+  abbrev numbers′ : List ℕ
+  numbers′ = put numbers (rowOf m list source k * 64 + a) (noteOf m source k)
+
+  a-lt : a < 64
+  a-lt = rw a-is (low-lt (W .blocks) m list A k more source)
+
+  noted-source : Exact m list source (k + 1) (put sets k a) numbers′ sources′
+  noted-source =
+      note-more (W .blocks) m list A k more sets (W .given) source numbers sources sources′ (put sets k a) a (W .at-sources) (W .numbers-sized) a-lt
+      (low-free (W .blocks) m list A k more sets (W .given) source numbers sources (W .at-sources) a a-is)
+      (set-here sets k a inside) (set-else sets k a) flip-source
+
+  pub given-plain : isUsed m list (setsGiven m list k) destination (blockAt m list destination k) a ≡ false
+      → FlippedAt destinations (rowOf m list destination k) a destinations′
+      → Working m list (k + 1) (put sets k a) numbers′ sources′
+      (put homes (rowOf m list destination k * 64 + a) (noteOf m destination k)) destinations′
+  given-plain u flip = record {
+    blocks = W .blocks;
+    accepted = A;
+    within = omega arith;
+    sized = length-set sets k a ∙ W .sized;
+    given = ap (λ (j : ℕ). take j (put sets k a)) (add-one k) ∙ take-suc-set sets k a inside ∙ ap (λ (xs : List ℕ). xs ++ (a ∷ [])) (W .given)
+        ∙ gives-plain (W .blocks) m list A k more a a-is u ∙ ap (setsGiven m list) (sym (add-one k));
+    numbers-sized = length-set numbers _ _ ∙ W .numbers-sized;
+    homes-sized = length-set homes _ _ ∙ W .homes-sized;
+    at-sources = noted-source;
+    at-destinations = note-more (W .blocks) m list A k more sets (W .given) destination homes destinations destinations′ (put sets k a) a
+        (W .at-destinations) (W .homes-sized) a-lt
+        (eqb-false _ 1 (used-bit (W .blocks) m list A k more sets (W .given) destination homes destinations (W .at-destinations) a a-lt ∙ u))
+        (set-here sets k a inside) (set-else sets k a) flip;
+  }
+
+  pub given-blocked : (b : ℕ) → b ≡ lowestUnused m list (setsGiven m list k) destination (blockAt m list destination k)
+      → isUsed m list (setsGiven m list k) destination (blockAt m list destination k) a ≡ true
+      → FlippedAt destinations (rowOf m list destination k) b destinations′
+      → Blocked m list k a b (put sets k a) numbers′ sources′
+      (put homes (rowOf m list destination k * 64 + b) (noteOf m destination k)) destinations′
+  given-blocked b b-is u flip = record {
+    blocks = W .blocks;
+    accepted = A;
+    inside = more;
+    sized = length-set sets k a ∙ W .sized;
+    given = take-set-le k sets k a (omega arith) ∙ W .given;
+    a-is = a-is;
+    b-is = b-is;
+    used = u;
+    its-set = set-here sets k a inside;
+    numbers-sized = length-set numbers _ _ ∙ W .numbers-sized;
+    homes-sized = length-set homes _ _ ∙ W .homes-sized;
+    at-sources = noted-source;
+    at-destinations = note-more (W .blocks) m list A k more sets (W .given) destination homes destinations destinations′ (put (put sets k a) k b) b
+        (W .at-destinations) (W .homes-sized) (rw b-is (low-lt (W .blocks) m list A k more destination))
+        (low-free (W .blocks) m list A k more sets (W .given) destination homes destinations (W .at-destinations) b b-is)
+        (set-here (put sets k a) k b (rw length-set inside)) (λ x ne. set-else (put sets k a) k b x ne ∙ set-else sets k a x ne) flip;
+  }
+
+-- ---- the same in what the code computes
+module _ (m : ℕ) (list : List ℕ) (k : ℕ) (sets numbers sources homes destinations : List ℕ)
+    (W : Working m list k sets numbers sources homes destinations) (more : k < W .blocks * m) (home block a : ℕ)
+    (home-is : home ≡ k / m) (block-is : block ≡ rowOf m list destination k) (a-is : a ≡ lowestZero (getD sources home 0)) where
+  home-row : home ≡ rowOf m list source k
+  unfolding noteOf
+  home-row = home-is ∙ home-note m list k
+
+  set-is : a ≡ lowestUnused m list (setsGiven m list k) source (blockAt m list source k)
+  set-is = a-is ∙ ap (λ (row : ℕ). lowestZero (getD sources row 0)) home-row
+      ∙ lowest-free (W .blocks) m list (W .accepted) k more sets (W .given) source numbers sources (W .at-sources)
+
+  pub rooms : (home < 64) × (block < 64) × (a < 64)
+  rooms = (
+    omega (arith, home-row, row-lt (W .blocks) m list (W .accepted) source k more),
+    omega (arith, block-is, row-lt (W .blocks) m list (W .accepted) destination k more),
+    omega (arith, set-is, low-lt (W .blocks) m list (W .accepted) k more source),
+  )
+
+  pub number-is : (home * m ≤ k) × (k - home * m < 64) × (k - home * m ≡ noteOf m source k)
+  unfolding noteOf
+  number-is =
+      let e : home * m + k % m ≡ k = ap (λ (x : ℕ). x * m + k % m) home-is ∙ div-add-mod' k m in
+      let l = mod-lt k (W .accepted .some-pages) in
+      let f = W .accepted .m-fits in
+      (omega arith, omega arith, omega arith)
+
+  -- whether a is used at the destination
+  used-is : eqb (bitAt (getD destinations block 0) a) 1 ≡ isUsed m list (setsGiven m list k) destination (blockAt m list destination k) a
+  used-is = ap (λ (row : ℕ). eqb (bitAt (getD destinations row 0) a) 1) block-is
+      ∙ used-bit (W .blocks) m list (W .accepted) k more sets (W .given) destination homes destinations (W .at-destinations) a (rooms .2)
+
+  module _ (numbers′ sources′ homes′ destinations′ : List ℕ) (numbers-are : numbers′ ≡ put numbers (home * 64 + a) (k - home * m))
+      (flip-source : FlippedAt sources home a sources′) where
+    numbers-noted : numbers′ ≡ put numbers (rowOf m list source k * 64 + a) (noteOf m source k)
+    numbers-noted = numbers-are ∙ ap₂ (λ (row note : ℕ). put numbers (row * 64 + a) note) home-row (number-is .2)
+
+    flipped : FlippedAt sources (rowOf m list source k) a sources′
+    flipped = subst (λ (row : ℕ). FlippedAt sources row a sources′) home-row flip-source
+
+    homes-noted : (set : ℕ) → homes′ ≡ put homes (block * 64 + set) home
+        → homes′ ≡ put homes (rowOf m list destination k * 64 + set) (noteOf m destination k)
+    homes-noted set e = e ∙ ap₂ (λ (row note : ℕ). put homes (row * 64 + set) note) block-is (home-row ∙ sym (home-note m list k))
+
+    pub plain : eqb (bitAt (getD destinations block 0) a) 1 ≡ false → homes′ ≡ put homes (block * 64 + a) home
+        → FlippedAt destinations block a destinations′ → Working m list (k + 1) (put sets k a) numbers′ sources′ homes′ destinations′
+    plain u e flip = rw (numbers-noted, homes-noted a e)
+        (given-plain m list k a sets numbers sources homes destinations W more set-is sources′ destinations′ flipped (sym used-is ∙ u)
+        (subst (λ (row : ℕ). FlippedAt destinations row a destinations′) block-is flip))
+
+    module _ (b : ℕ) (b-is : b ≡ lowestZero (getD destinations block 0)) where
+      other-is : b ≡ lowestUnused m list (setsGiven m list k) destination (blockAt m list destination k)
+      other-is = b-is ∙ ap (λ (row : ℕ). lowestZero (getD destinations row 0)) block-is
+          ∙ lowest-free (W .blocks) m list (W .accepted) k more sets (W .given) destination homes destinations (W .at-destinations)
+
+      pub other-lt : b < 64
+      other-lt = omega (arith, other-is, low-lt (W .blocks) m list (W .accepted) k more destination)
+
+      pub blocked : eqb (bitAt (getD destinations block 0) a) 1 ≡ true → homes′ ≡ put homes (block * 64 + b) home
+          → FlippedAt destinations block b destinations′ → Blocked m list k a b (put sets k a) numbers′ sources′ homes′ destinations′
+      blocked u e flip = rw (numbers-noted, homes-noted b e)
+          (given-blocked m list k a sets numbers sources homes destinations W more set-is sources′ destinations′ flipped b other-is (sym used-is ∙ u)
+          (subst (λ (row : ℕ). FlippedAt destinations row b destinations′) block-is flip))
+
+-- ---- the exchange for page k
+module _ (m : ℕ) (list : List ℕ) (k a b : ℕ) (sets numbers sources homes destinations : List ℕ)
+    (B : Blocked m list k a b sets numbers sources homes destinations) where
+  so-given : Given (B .blocks) m list (B .accepted .listed) (B .accepted .one-to-one) k
+  so-given = so-far (B .blocks) m list (B .accepted) k (B .inside)
+
+  pub ready : Ready m list k a b
+  ready =
+      let unused : (x : ℕ) → PageAt m list (setsGiven m list k) destination (blockAt m list destination k) b x → ⊥ =
+      unused-none m list (setsGiven m list k) destination (blockAt m list destination k) b
+      (rw (B .b-is) (not-true _ (lowest-hit (B .blocks) m list (B .accepted) k (B .inside) destination .passes))) in
+      let f = used-page m list (setsGiven m list k) destination (blockAt m list destination k) a (B .used) in
+      record {
+        coloured = so-given .coloured;
+        counted = so-given .counted;
+        a-lt = rw (B .a-is) (low-lt (B .blocks) m list (B .accepted) k (B .inside) source);
+        b-lt = rw (B .b-is) (low-lt (B .blocks) m list (B .accepted) k (B .inside) destination);
+        differ = λ e. unused (f .0) (subst (λ (c : ℕ). PageAt m list (setsGiven m list k) destination (blockAt m list destination k) c (f .0)) e (f .1));
+        unused = unused;
+      }
+
+  -- the tables lead to the first page of the path
+  pub path-starts : Walking m list k a b sets numbers sources homes destinations (rowOf m list destination k)
+  path-starts =
+      let R = ready in
+      let row = rowOf m list destination k in
+      let X = B .at-destinations row a (R .a-lt) in
+      let f = used-page m list (setsGiven m list k) destination (blockAt m list destination k) a (B .used) in
+      let first = f .0 in
+      let l : first < k = rw (so-given .counted) at (f .1 .inside) in
+      let same = same-set (B .blocks) m list (B .accepted) k (B .inside) sets (B .given) in
+      let c = same first l ∙ f .1 .in-set in
+      let bit = X .marked first (record {
+        inside = omega arith;
+        at-row = ap (λ (x : ℕ). x - 1) (f .1 .at-block);
+        in-set = set-else sets k b first (λ e. absurd (omega arith)) ∙ c;
+      }) in
+      record {
+        ready = R;
+        pages = 0;
+        page = first;
+        turn = first-turn m list (setsGiven m list k) (R .coloured) a b (R .differ) (blockAt m list destination k) (R .unused) sets first
+            (λ x h. same x (rw (so-given .counted) at h))
+            (record { within = omega (arith, f .1 .inside); hit = λ _. (f .1 .at-block, c); none = λ e. absurd (omega (arith, f .1 .inside)) });
+        found = λ _. (l, ap (λ (x : ℕ). x - 1) (f .1 .at-block));
+        over = λ ne. absurd (ne bit);
+        hand = k;
+        hand-in = omega arith;
+        hand-row = refl;
+        hand-set = B .its-set;
+        hand-was = λ h. absurd (omega arith);
+        held = put sets k b;
+        held-hand = set-here sets k b (omega (arith, B .inside, B .sized));
+        held-else = set-else sets k b;
+        its-set = B .its-set;
+        room = omega (arith, B .inside, B .sized);
+        numbers-sized = B .numbers-sized;
+        homes-sized = B .homes-sized;
+        at-sources = B .at-sources;
+        at-destinations = B .at-destinations;
+      }
+
+  -- all of the path is exchanged
+  pub path-done : (sets′ numbers′ sources′ homes′ destinations′ : List ℕ) → length sets′ ≡ length sets → length numbers′ ≡ 4096 → length homes′ ≡ 4096
+      → take k sets′ ≡ exchange m list (setsGiven m list k) a b (pagesMet m list (setsGiven m list k) k destination (blockAt m list destination k) a b)
+      → setOf sets′ k ≡ a → Exact m list source (k + 1) sets′ numbers′ sources′ → Exact m list destination (k + 1) sets′ homes′ destinations′
+      → Working m list (k + 1) sets′ numbers′ sources′ homes′ destinations′
+  unfolding setOf
+  path-done sets′ numbers′ sources′ homes′ destinations′ len N H e its S D = record {
+    blocks = B .blocks;
+    accepted = B .accepted;
+    within = omega (arith, B .inside);
+    sized = len ∙ B .sized;
+    given = ap (λ (j : ℕ). take j sets′) (add-one k) ∙ take-suc sets′ k 0 (omega (arith, B .inside, B .sized))
+        ∙ ap₂ (λ (xs : List ℕ) (x : ℕ). xs ++ (x ∷ [])) e its
+        ∙ gives-exchanged (B .blocks) m list (B .accepted) k (B .inside) a b (B .a-is) (B .b-is) (B .used) ∙ ap (setsGiven m list) (sym (add-one k));
+    numbers-sized = N;
+    homes-sized = H;
+    at-sources = S;
+    at-destinations = D;
+  }
 
 pub work-starts : (n m : ℕ) (list sets : List ℕ) → Accepted n m list → length sets ≡ n * m
-    → Working m list 0 sets (replicate 65 0) (replicate 65 0)
+    → Working m list 0 sets (replicate 4096 0) (replicate 64 0) (replicate 4096 0) (replicate 64 0)
 unfolding setsGiven
 work-starts n m list sets A len = record {
   blocks = n;
@@ -188,14 +364,16 @@ work-starts n m list sets A len = record {
   within = omega arith;
   sized = len;
   given = refl;
-  source-masks = no-masks m list sets source 65;
-  destination-masks = no-masks m list sets destination 65;
+  numbers-sized = refl;
+  homes-sized = refl;
+  at-sources = no-pages m list source 64 4096 sets;
+  at-destinations = no-pages m list destination 64 4096 sets;
 }
 
-pub work-done : (n m : ℕ) (list : List ℕ) (k : ℕ) (sets sources destinations : List ℕ) → length list ≡ n * m
-    → Working m list k sets sources destinations → length list ≤ k → sets ≡ splitByRule n m list
+pub work-done : (n m : ℕ) (list : List ℕ) (k : ℕ) (sets numbers sources homes destinations : List ℕ) → length list ≡ n * m
+    → Working m list k sets numbers sources homes destinations → length list ≤ k → sets ≡ splitByRule n m list
 unfolding splitByRule
-work-done n m list k sets sources destinations listed W over =
+work-done n m list k sets numbers sources homes destinations listed W over =
     let same : W .blocks * m ≡ n * m = sym (W .accepted .listed) ∙ listed in
     let e : k ≡ n * m = omega (arith, W .within) in
     sym (take-all k sets (omega (arith, W .sized))) ∙ W .given ∙ ap (setsGiven m list) e

@@ -1,3 +1,4 @@
+-- The files of laws.
 pub mod Pigeon
 pub mod OneToOneLaws
 pub mod SplitLaws
@@ -5,12 +6,11 @@ pub mod Walk
 pub mod Exchange
 pub mod RuleLaws
 pub mod Turns
-pub mod PathLaws
 pub mod Answers
 pub mod Claimed
 pub mod MaskLaws
 pub mod CheckLaws
-pub mod MaskedLaws
-pub mod Walking
-pub mod Filling
 pub mod RowsLaws
+pub mod CellsLaws
+pub mod PathLaws
+pub mod Filling

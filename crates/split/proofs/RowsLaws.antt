@@ -1,7 +1,7 @@
 -- The check of set bytes by rows: what the table by destination and the bits of a row tell, and that rows with each set make a split.
 use mathlib.Core.Path.{_≡_, refl, sym, ap, _∙_, subst}
 use mathlib.Core.Logic.{_⊎_, inl, inr, _≢_, ⊎-elim}
-use mathlib.Core.Bool.{Bool, true, false, _&&_}
+use mathlib.Core.Bool.{true, false, _&&_}
 use mathlib.Core.List.{List, _++_}
 use Prim.Native.Nat.{ℕ, _+_, _-_, _*_, _/_, _%_, _≤_, _<_, min}
 use native.Mathlib.Nat.{not-suc-le-zero, div-lt-iff-lt-mul, div-add-mod', mod-lt}
@@ -10,7 +10,7 @@ use lib.Dec.{eqb, ltb, leb}
 use lib.ListN.{length, getD, set, replicate, length-replicate, getD-replicate, List·getD-append}
 use lib.Seq.{getD-set-same, getD-set-other}
 use borrow.Author.Tests.{eqb-true, eq-eqb, ltb-true, lt-ltb, leb-true, le-leb}
-use Rattle.flash.specs.Lists.{range, all, any, part}
+use Rattle.flash.specs.Lists.{all, any, part}
 use Rattle.flash.specs.Geometry.{blockOf}
 use Rattle.split.specs.OneToOne.{isOneToOne}
 use Rattle.split.specs.Split.{sourceBlock, destBlock, setOf, isSplit}
@@ -18,13 +18,13 @@ use Rattle.split.specs.inner.Mask.{bitAt, lowestZero, WithBit}
 use Rattle.split.specs.inner.Accepted.{Accepted}
 use Rattle.split.specs.inner.Rows.{ByDestination, hasEach, rowsHaveEach}
 use Rattle.flash.proofs.Bools.{fails, bool-eq, and-left, and-right, and-both}
-use Rattle.flash.proofs.Searches.{all-at, all-of, all-fails, any-of, any-find}
-use Rattle.flash.proofs.Ranges.{all-in, all-is, all-not}
+use Rattle.flash.proofs.Searches.{all-at, all-of, any-of, any-find}
+use Rattle.flash.proofs.Ranges.{all-in, all-is}
 use Rattle.flash.proofs.Parts.{part-fits, length-part, part-at}
 use Rattle.flash.proofs.Comparisons.{eq-cases, lt-cases}
 use Rattle.split.proofs.MaskLaws.{no-bits, ones-below, lowest-above}
 use Rattle.split.proofs.Pigeon.{once}
-use Rattle.split.proofs.OneToOneLaws.{Distinct, one-to-one-of, entry-lt, entry-same, entry-onto}
+use Rattle.split.proofs.OneToOneLaws.{one-to-one-of, entry-lt, entry-same, entry-onto}
 use Rattle.split.proofs.SplitLaws.{PageOf, Proper, set-lt, page-from, page-to, split-of}
 use Rattle.split.proofs.RuleLaws.{same-place}
 

@@ -1,9 +1,9 @@
 -- The exchange page by page: what holds after i pages of the walk got their other set, and one turn more.
-use mathlib.Core.Path.{_≡_, refl, sym, ap, _∙_, subst}
+use mathlib.Core.Path.{_≡_, sym, ap, _∙_, subst}
 use mathlib.Core.Logic.{_≢_, ⊎-elim}
 use mathlib.Core.Bool.{Bool, true, false, cond, _||_, or-false, or-true}
-use mathlib.Core.List.{List, [], _∷_, _++_}
-use Prim.Native.Nat.{ℕ, suc, _+_, _≤_, _<_}
+use mathlib.Core.List.{List, [], _∷_}
+use Prim.Native.Nat.{ℕ, suc, _≤_, _<_}
 use native.Mathlib.Omega.{arith}
 use lib.Dec.{eqb}
 use lib.ListN.{length, getD, take, set, length-take}
@@ -12,20 +12,17 @@ use borrow.Author.Tests.{eqb-true, eq-eqb, ne-eqb}
 use Rattle.flash.specs.Lists.{any}
 use Rattle.split.specs.Split.{setOf}
 use Rattle.split.specs.Rule.{End, source, destination, otherEnd, swapped, blockAt, exchange}
-use Rattle.split.specs.inner.Work.{Found}
-use Rattle.flash.proofs.Bools.{bool-cases, fails}
+use Rattle.flash.proofs.Bools.{fails}
 use Rattle.flash.proofs.Comparisons.{lt-cases, eq-cases}
-use Rattle.flash.proofs.Searches.{any-find}
+use Rattle.flash.proofs.Searches.{any-append, any-find}
 use Rattle.split.proofs.Walk.{Coloured, PageAt, metAs, metAs-same, metAs-two, other-twice, path, path-head, path-chain, path-inside, path-closed, path-first, path-distinct}
 use Rattle.split.proofs.Exchange.{exchange-length, exchange-at, swapped-met, in-at, two}
 
-any-append : (test : ℕ → Bool) (xs ys : List ℕ) → any test (xs ++ ys) ≡ (any test xs || any test ys)
-unfolding any
-any-append test [] ys = refl
-any-append test (x ∷ xs) ys = ⊎-elim
-    (λ (q : test x ≡ true). rw q)
-    (λ (q : test x ≡ false). rw q (any-append test xs ys))
-    (bool-cases (test x))
+-- r is a page of the set at the block, among the first k; or k, where there is none
+pub record Found (m : ℕ) (list sets : List ℕ) (k : ℕ) (end : End) (block set r : ℕ) : Type 0 where
+  pub within : r ≤ k
+  pub hit : r < k → (blockAt m list end r ≡ block) × (setOf sets r ≡ set)
+  pub none : r ≡ k → (x : ℕ) → x < k → blockAt m list end x ≡ block → setOf sets x ≢ set
 
 module _ (m : ℕ) (list given : List ℕ) (C : Coloured m list given) (a b : ℕ) (differ : a ≢ b) (block : ℕ)
     (unused : (k : ℕ) → PageAt m list given destination block b k → ⊥) where
@@ -138,16 +135,6 @@ module _ (m : ℕ) (list given : List ℕ) (C : Coloured m list given) (a b : �
         (metAs-two m list given C a b differ (setOf given x) end
         (two m list given C a b differ block unused x
         (subst (λ (y : ℕ). any (eqb y) met ≡ true) (f .3) (in-at m list given C a b differ block unused (f .0) (f .2))))))
-
-    -- so there is at most one
-    pub alone : (x y : ℕ) → x < length given → y < length given
-        → blockAt m list (otherEnd end) x ≡ blockAt m list (otherEnd end) page
-        → blockAt m list (otherEnd end) y ≡ blockAt m list (otherEnd end) page
-        → setOf sets x ≡ at (otherEnd end) → setOf sets y ≡ at (otherEnd end) → x ≡ y
-    alone x y h l v w c d =
-        C .proper (otherEnd end) x y h l (v ∙ sym w)
-        (sym (sets-behind i x sets (T .sets-are x h) (not-front x h v c)) ∙ c ∙ sym d
-        ∙ sets-behind i y sets (T .sets-are y l) (not-front y l w d))
 
     module _ (after : ℕ) (f : Found m list sets (length given) (otherEnd end) (blockAt m list (otherEnd end) page)
         (at (otherEnd end)) after) where

@@ -1,3 +1,4 @@
+-- The files of definitions.
 pub mod OneToOne
 pub mod Split
 pub mod Rule

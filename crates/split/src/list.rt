@@ -5,19 +5,28 @@ ghost use Rattle.split.specs.inner.Window.{differWithin};
 use crate::mask::flip;
 use flash::casts::entry;
 
-// Whether no entry is at or above `originals`, and none of the 4,096 numbers of a window is met twice.
+// The numbers of 16 bits are so many windows of so many numbers, each with a bit.
+const WINDOWS: usize = 16;
+
+const WINDOW: usize = 4096;
+
+const BITS: usize = 64;
+
+const MASKS: usize = WINDOW / BITS;
+
+// Whether no entry is at or above `originals`, and none of the numbers of a window is met twice.
 fn differ_within(list: &[u16], originals: usize, window: usize) -> bool
     ensures { λ r. ⌜ r ≡ differWithin originals window (now (list .entry)) ⌝ }
 {
-    let mut seen = [0u64; 64];
+    let mut seen = [0u64; MASKS];
     let mut k = 0;
     while k < list.len() {
-        let place = entry(list[k]);
-        if originals <= place {
+        let number = entry(list[k]);
+        if originals <= number {
             return false;
         }
-        if place / 4096 == window {
-            if flip(&mut seen, place / 64 % 64, place % 64) {
+        if number / WINDOW == window {
+            if flip(&mut seen, number / BITS % MASKS, number % BITS) {
                 return false;
             }
         }
@@ -31,11 +40,11 @@ fn differ_within(list: &[u16], originals: usize, window: usize) -> bool
 pub fn check(list: &[u16], originals: usize) -> bool
     ensures { λ r. ⌜ r ≡ isOneToOne originals (now (list .entry)) ⌝ }
 {
-    for window in 0..16 {
+    for window in 0..WINDOWS {
         if !differ_within(list, originals, window) {
             return false;
         }
-        if originals <= (window + 1) * 4096 {
+        if originals <= (window + 1) * WINDOW {
             return true;
         }
     }

@@ -6,41 +6,58 @@ ghost use Rattle.split.specs.Rule.{splitByRule};
 ghost use Rattle.split.specs.inner.Accepted.{Accepted};
 ghost use Rattle.flash.specs.inner.Reciprocal.{reciprocalOf};
 ghost use Rattle.split.specs.inner.Work.{Working};
-use crate::ends::block_by;
-use crate::mask::flip;
+use crate::ends::target;
 use crate::mask::has;
 use crate::mask::lowest_free;
-use crate::path::exchange;
+use crate::path::exchange_along_path;
+use crate::tables::BLOCKS;
+use crate::tables::CELLS;
 use crate::tables::note;
+use flash::quotient::quotient;
 use flash::quotient::reciprocal;
 
 // Gives page k its set.
 fn give(
     list: &[u16],
     m: usize,
-    by: usize,
+    reciprocal: usize,
     k: usize,
     sets: &mut [u8],
-    sources: &mut [u64; 65],
-    destinations: &mut [u64; 65],
-    last: &mut [u8; 8192],
+    numbers: &mut [u8; CELLS],
+    sources: &mut [u64; BLOCKS],
+    homes: &mut [u8; CELLS],
+    destinations: &mut [u64; BLOCKS],
 )
-    requires { ⌜ Working m (now list) k (now sets) (now sources) (now destinations) ⌝ }
-    requires { ⌜ (by ≡ reciprocalOf m) × (k < length (now list)) ⌝ }
-    ensures { λ _. ⌜ Working m (now (list .entry)) (k + 1) (now (sets .exit)) (now (sources .exit)) (now (destinations .exit)) ⌝ }
+    requires { ⌜ Working m (now list) k (now sets) (now numbers) (now sources) (now homes) (now destinations) ⌝ }
+    requires { ⌜ (reciprocal ≡ reciprocalOf m) × (k < length (now list)) ⌝ }
+    ensures { λ _. ⌜ Working m (now (list .entry)) (k + 1) (now (sets .exit)) (now (numbers .exit)) (now (sources .exit))
+        (now (homes .exit)) (now (destinations .exit)) ⌝ }
 {
-    let source = block_by(list, m, by, true, k);
-    let destination = block_by(list, m, by, false, k);
-    let a = lowest_free(sources[source]);
-    let used = destinations[destination];
-    let b = lowest_free(used);
-    if has(used, a) {
-        exchange(list, m, by, k, a, b, sets, sources, destinations, last);
-    }
+    let home = quotient(k, m, reciprocal);
+    let block = target(list, m, reciprocal, k);
+    let a = lowest_free(sources[home]);
+    let used = destinations[block];
     sets[k] = a as u8;
-    note(last, m, source, destination, a, k);
-    flip(sources, source, a);
-    flip(destinations, destination, a);
+    note(numbers, sources, home, a, k - home * m);
+    if has(used, a) {
+        let b = lowest_free(used);
+        note(homes, destinations, block, b, home);
+        exchange_along_path(
+            list,
+            m,
+            reciprocal,
+            k,
+            a,
+            b,
+            sets,
+            numbers,
+            sources,
+            homes,
+            destinations,
+        );
+    } else {
+        note(homes, destinations, block, a, home);
+    }
 }
 
 // Fills the set bytes of a list that passed the check.
@@ -48,21 +65,23 @@ pub fn fill(n: usize, m: usize, list: &[u16], sets: &mut [u8])
     requires { ⌜ Accepted n m (now list) × (length (now sets) ≡ n * m) ⌝ }
     ensures { λ _. ⌜ now (sets .exit) ≡ splitByRule n m (now (list .entry)) ⌝ }
 {
-    let by = reciprocal(m);
-    let mut sources = [0u64; 65];
-    let mut destinations = [0u64; 65];
-    let mut last = [0u8; 8192];
+    let reciprocal = reciprocal(m);
+    let mut numbers = [0u8; CELLS];
+    let mut sources = [0u64; BLOCKS];
+    let mut homes = [0u8; CELLS];
+    let mut destinations = [0u64; BLOCKS];
     let mut k = 0;
     while k < list.len() {
         give(
             list,
             m,
-            by,
+            reciprocal,
             k,
             sets,
+            &mut numbers,
             &mut sources,
+            &mut homes,
             &mut destinations,
-            &mut last,
         );
         k += 1;
     }

@@ -1,45 +1,66 @@
-// A table that remembers, for each set, which page had it last at each block: 4096 bytes for the source blocks, then as many for
-// the destination blocks. It holds hints: what it says is tested where it is used, so that callers claim nothing of it.
+// The tables of one end: a mask for each block, whose bits are the sets of its pages there, and a byte for each block and set, the note
+// of the page that has them. At a source block the note is the page's number within the block, at a destination block its source block.
 ghost use mathlib.Core.Path.{_≡_};
-ghost use Prim.Native.Nat.{_-_, _*_, _≤_, _<_};
-ghost use Rattle.split.specs.inner.Hints.{homeOf, hintOf, noted};
-use flash::casts::wide;
+ghost use mathlib.Core.List.{List};
+ghost use Prim.Native.Nat.{_+_, _*_, _≤_, _<_};
+ghost use lib.ListN.{getD, set as put};
+ghost use Rattle.split.specs.inner.Cells.{swappedAt};
+ghost use Rattle.split.specs.inner.Mask.{FlippedAt};
+use crate::mask::flip;
 
-// The source block, from 0, of the page that had the set last at a block.
-fn home(last: &[u8; 8192], source: bool, block: usize, set: usize) -> usize
-    requires { ⌜ (1 ≤ block) × (block ≤ 64) × (set < 64) ⌝ }
-    ensures { λ r. ⌜ (r ≡ homeOf (now (last .entry)) source block set) × (r < 64) ⌝ }
+// The most blocks, and the most sets.
+pub const BLOCKS: usize = 64;
+
+pub const SETS: usize = 64;
+
+pub const CELLS: usize = BLOCKS * SETS;
+
+// A byte, with its bound.
+fn bounded(note: u8) -> usize
+    ensures { λ r. ⌜ (r ≡ note) × (r < 256) ⌝ }
 {
-    if source {
-        block - 1
-    } else {
-        wide(last[4096 + (block - 1) * 64 + set]) % 64
-    }
+    note as usize
 }
 
-// The page that had the set last at a block.
-pub fn hint(last: &[u8; 8192], m: usize, source: bool, block: usize, set: usize) -> usize
-    requires { ⌜ (m ≤ 64) × (1 ≤ block) × (block ≤ 64) × (set < 64) ⌝ }
-    ensures { λ r. ⌜ r ≡ hintOf (now (last .entry)) m source block set ⌝ }
+pub fn noted(table: &[u8; CELLS], block: usize, set: usize) -> usize
+    requires { ⌜ (block < 64) × (set < 64) ⌝ }
+    ensures { λ r. ⌜ (r ≡ getD (now (table .entry)) (block * 64 + set) 0) × (r < 256) ⌝ }
 {
-    let home = home(last, source, block, set);
-    home * m + wide(last[home * 64 + set]) % 64
+    bounded(table[block * SETS + set])
 }
 
-// Notes that a page has a set: its number within the source block, and for the destination block where it is from.
+// The page of a set at a source block.
+pub fn page(numbers: &[u8; CELLS], m: usize, block: usize, set: usize) -> usize
+    requires { ⌜ (m ≤ 64) × (block < 64) × (set < 64) ⌝ }
+    ensures { λ r. ⌜ r ≡ block * m + getD (now (numbers .entry)) (block * 64 + set) 0 ⌝ }
+{
+    block * m + noted(numbers, block, set)
+}
+
+// Notes a page under a set that the block has not.
 pub fn note(
-    last: &mut [u8; 8192],
-    m: usize,
-    source: usize,
-    destination: usize,
+    table: &mut [u8; CELLS],
+    masks: &mut [u64; BLOCKS],
+    block: usize,
     set: usize,
     page: usize,
 )
-    requires { ⌜ (set < 64) × (1 ≤ source) × (source ≤ 64) × (1 ≤ destination) × (destination ≤ 64) ⌝ }
-    requires { ⌜ ((source - 1) * m ≤ page) × (page - (source - 1) * m < 64) ⌝ }
-    ensures { λ _. ⌜ now (last .exit) ≡ noted (now (last .entry)) m source destination set page ⌝ }
+    requires { ⌜ (block < 64) × (set < 64) × (page < 64) ⌝ }
+    ensures { λ _. ⌜ now (table .exit) ≡ put (now (table .entry)) (block * 64 + set) page ⌝ }
+    ensures { λ _. ⌜ FlippedAt (now (masks .entry)) block set (now (masks .exit)) ⌝ }
 {
-    let home = source - 1;
-    last[home * 64 + set] = (page - home * m) as u8;
-    last[4096 + (destination - 1) * 64 + set] = home as u8;
+    table[block * SETS + set] = page as u8;
+    flip(masks, block, set);
+}
+
+// Exchanges the notes of two sets at a block.
+pub fn swap(table: &mut [u8; CELLS], block: usize, a: usize, b: usize)
+    requires { ⌜ (block < 64) × (a < 64) × (b < 64) ⌝ }
+    ensures { λ _. ⌜ now (table .exit) ≡ swappedAt (now (table .entry)) block a b ⌝ }
+{
+    let first = block * SETS + a;
+    let second = block * SETS + b;
+    let note = table[first];
+    table[first] = table[second];
+    table[second] = note;
 }

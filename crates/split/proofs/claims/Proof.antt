@@ -1,3 +1,4 @@
+-- The theorems that are claimed of the split.
 use Rattle.split.proofs.Claimed.{split-ends, walk-ends, walk-is-short, walk-bound-met, filled-fits}
 use Rattle.split.proofs.claims.Statement.{statement}
 use Rattle.split.proofs.claims.Tie as tie

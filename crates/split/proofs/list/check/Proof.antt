@@ -1,3 +1,4 @@
+-- `check` tells whether a list is one-to-one, window by window.
 use mathlib.Core.Path.{_≡_, sym, _∙_}
 use Prim.Native.Nat.{_+_, _-_, _≤_}
 use native.Mathlib.Omega.{arith}

@@ -1,3 +1,4 @@
+-- `differ_within` tells whether the entries of a window differ: the bits tell which were met.
 use mathlib.Core.Path.{_≡_, refl, sym, ap, _∙_, subst}
 use mathlib.Core.Logic.{⊎-elim}
 use Prim.Native.Nat.{ℕ, _-_, _/_, _%_}

@@ -1,3 +1,4 @@
+-- `flip` changes one bit of one mask of a table, and tells what it was.
 use borrow.Author.Needs.{needs}
 use native.Mathlib.Omega.{arith}
 use Rattle.split.proofs.MaskLaws.{flipped-at}

@@ -1,3 +1,4 @@
+-- `flipped` changes one bit.
 use borrow.Author.Needs.{needs}
 use native.Mathlib.Nat.{one-mul}
 use native.Mathlib.Omega.{arith}

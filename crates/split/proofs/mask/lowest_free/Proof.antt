@@ -1,3 +1,4 @@
+-- `lowest_free` gives the lowest bit that is 0.
 use native.Mathlib.Omega.{arith}
 use Prim.Native.Nat.{_-_, _^_}
 use lib.Count.{trailing-le}

@@ -1,6 +1,6 @@
 -- `sets_by_destination` tells whether the list is one-to-one, and then leaves the sets by destination.
 use lib.ListN.{length, take, drop, length-set, length-take, length-drop}
-use Prim.Native.Nat.{_-_, _≤_}
+use Prim.Native.Nat.{_-_}
 use mathlib.Core.Path.{_≡_, refl, sym}
 use mathlib.Core.Bool.{false≢true}
 use borrow.Author.Needs.{needs}

@@ -1,220 +1,155 @@
-use mathlib.Core.Path.{_≡_, refl, sym, _∙_, subst}
-use mathlib.Core.Logic.{⊎-elim}
-use Prim.Native.Nat.{ℕ, _≤_, _<_}
+-- `give` gives page k the set of the rule, and the tables stay exact.
+use mathlib.Core.Path.{refl, sym, _∙_}
+use Prim.Native.Nat.{_-_, _*_, _≤_, _<_}
 use native.Mathlib.Omega.{arith}
-use Rattle.split.specs.Rule.{End, source, destination, blockAt, isUsed, lowestUnused, setsGiven}
-use lib.ListN.{length, length-set}
-use Rattle.split.specs.inner.Mask.{FlippedAt}
-use Rattle.flash.specs.inner.Reciprocal.{reciprocalOf}
-use Rattle.split.specs.inner.Work.{Blocked}
-use Rattle.split.proofs.PathLaws.{pages-fit, block-room, of-block}
-use Rattle.split.proofs.Filling.{lowest-free, lowest-fits, blocked, given-more, gives-plain, gives-exchanged, Fresh}
 use borrow.Author.Needs.{needs}
+use lib.ListN.{length-set}
+use Rattle.flash.proofs.Bounds.{product-le}
+use Rattle.split.proofs.Filling.{rooms, number-is, other-lt, plain, blocked}
 use Rattle.split.proofs.rule.give.Statement.{statement}
 use Rattle.split.proofs.rule.give.Tie as tie
 
-listed : (c : tie.After-slice-known) → (let start = c .before .before in let m = start .args .m in let k = start .args .k in
-    (1 ≤ m) × (m ≤ 64) × (start .args .by ≡ reciprocalOf m) × (k < length (start .args .list .now)) × (k < 65536))
-listed c =
-    let start = c .before .before in
-    let A = start .pre .0 .accepted in
-    let p = start .pre .1 in
-    (A .some-pages, A .m-fits, p .0, p .1, omega (arith, p .1, pages-fit _ _ _ A))
+more : (s : tie.Start) → s .args .k < s .pre .0 .blocks * s .args .m
+more s = omega (arith, s .pre .1 .1, s .pre .0 .accepted .listed)
 
-block-by-requires : tie.Need-block-by-requires
-block-by-requires c κs = listed c
+quotient-requires : tie.Need-quotient-requires
+quotient-requires c κs =
+    let s = c .before .before in
+    let A = s .pre .0 .accepted in
+    (omega (arith, more s, product-le (s .pre .0 .blocks) (s .args .m) {c = 64} {d = 64} (A .n-fits) (A .m-fits)), A .some-pages, A .m-fits, s .pre .1 .0)
 
-block-by-requires-2 : tie.Need-block-by-requires-2
-block-by-requires-2 c κs = listed (c .before)
+target-requires : tie.Need-target-requires
+target-requires c κs = let s = c .before .before .before in (s .pre .0 .accepted .some-pages, s .pre .0 .accepted .m-fits, s .pre .1 .0, s .pre .1 .1)
 
--- the blocks of page k
-fits : (c : tie.After-slice-known) (end : End) (block : ℕ)
-    → (let start = c .before .before in block ≡ blockAt (start .args .m) (start .args .list .now) end (start .args .k)
-    → (1 ≤ block) × (block ≤ 64))
-fits c end block e =
-    let start = c .before .before in
-    let W = start .pre .0 in
-    let r = block-room _ _ _ (W .accepted) end (start .args .k) block (omega (arith, start .pre .1 .1, W .accepted .listed)) e in
-    (r .low, r .high)
+home-lt : (c : tie.After-target) → c .before .quotient .result < 64
+home-lt c =
+    let s = c .before .before .before .before in
+    rooms _ _ _ _ _ _ _ _ (s .pre .0) (more s) _ _ _ (c .before .quotient .ensures) (c .target .ensures) refl .0
 
-rooms : (c : tie.After-block-by2) → (let h = c .before .block-by .result in let t = c .block-by2 .result in
-    ((1 ≤ h) × (h ≤ 64)) × ((1 ≤ t) × (t ≤ 64)))
-rooms c = (fits (c .before .before) source _ (c .before .block-by .ensures), fits (c .before .before) destination _ (c .block-by2 .ensures))
+abbrev start : tie.After-lowest-free → tie.Start
+start c = c .before .before .before .before .before .before
+
+fits : (c : tie.After-lowest-free) → (c .before .before .before .quotient .result < 64) × (c .before .before .target .result < 64) × (c .lowest-free .result < 64)
+fits c =
+    let s = start c in
+    rooms _ _ _ _ _ _ _ _ (s .pre .0) (more s) _ _ _ (c .before .before .before .quotient .ensures) (c .before .before .target .ensures) (c .lowest-free .ensures)
 
 mul-lowest-free : tie.Need-mul-lowest-free
-mul-lowest-free c = record { fits = omega (arith, rooms c) }
+mul-lowest-free c = record { fits = omega (arith, home-lt c) }
 
 element-copy-out-lowest-free : tie.Need-element-copy-out-lowest-free
-element-copy-out-lowest-free c = omega (arith, rooms c)
+element-copy-out-lowest-free c = home-lt c
 
 lowest-free-requires : tie.Need-lowest-free-requires
 lowest-free-requires c κs = search needs
 
 mul-used : tie.Need-mul-used
-mul-used c = record { fits = omega (arith, rooms (c .before .before)) }
+mul-used c = record { fits = omega (arith, fits c) }
 
 element-copy-out-used : tie.Need-element-copy-out-used
-element-copy-out-used c = omega (arith, rooms (c .before .before))
+element-copy-out-used c = fits c .1
 
--- the set found is the rule's a
-a-is : (c : tie.After-lowest-free)
-    → (let start = c .before .before .before .before .before .before in
-    c .lowest-free .result ≡ lowestUnused (start .args .m) (start .args .list .now)
-    (setsGiven (start .args .m) (start .args .list .now) (start .args .k)) source
-    (blockAt (start .args .m) (start .args .list .now) source (start .args .k)))
-a-is c =
-    let start = c .before .before .before .before .before .before in
-    let W = start .pre .0 in
-    c .lowest-free .ensures
-    ∙ lowest-free _ _ _ _ _ _ W (omega (arith, start .pre .1 .1, W .accepted .listed)) source (start .args .sources .now)
-    (W .source-masks) _ (c .before .before .before .block-by .ensures)
+cast-sets : tie.Need-cast-sets
+cast-sets c = record { fits = omega (arith, fits (c .before)) }
 
-a-lt : (c : tie.After-lowest-free) → c .lowest-free .result < 64
-a-lt c =
-    let start = c .before .before .before .before .before .before in
-    let W = start .pre .0 in
-    omega (arith, a-is c, lowest-fits _ _ _ _ _ _ W (omega (arith, start .pre .1 .1, W .accepted .listed)) source)
+slice-write-sets : tie.Need-slice-write-sets
+slice-write-sets c = let s = start (c .before) in omega (arith, more s, s .pre .0 .sized)
+
+-- the number of page k within its source block
+number : (c : tie.After-lowest-free) → (let home = c .before .before .before .quotient .result in let a = start c .args in
+    (home * a .m ≤ a .k) × (a .k - home * a .m < 64))
+number c =
+    let s = start c in
+    let n = number-is _ _ _ _ _ _ _ _ (s .pre .0) (more s) _ _ _ (c .before .before .before .quotient .ensures) (c .before .before .target .ensures) (c .lowest-free .ensures) in
+    (n .0, n .1)
+
+mul-note : tie.Need-mul-note
+mul-note c = record { fits = omega (arith, number (c .before .before .before)) }
+
+sub-note : tie.Need-sub-note
+sub-note c = omega (arith, number (c .before .before .before))
+
+note-requires : tie.Need-note-requires
+note-requires c κs = let l = c .before .before .before in let f = fits l in (f .0, f .2, number l .1)
+
+has-requires : tie.Need-has-requires
+has-requires c κs = fits (c .before .before .before .before) .2
 
 lowest-free-requires-2 : tie.Need-lowest-free-requires-2
 lowest-free-requires-2 c κs = search needs
 
-has-requires : tie.Need-has-requires
-has-requires c κs = a-lt (c .before .before)
+abbrev low-of : tie.After-has → tie.After-lowest-free
+low-of c = c .before .before .before .before .before
 
--- what the test tells
-used-is : (c : tie.After-has)
-    → (let l = c .before .before .before in
-    let start = l .before .before .before .before .before .before in
-    c .has .result ≡ isUsed (start .args .m) (start .args .list .now)
-    (setsGiven (start .args .m) (start .args .list .now) (start .args .k)) destination
-    (blockAt (start .args .m) (start .args .list .now) destination (start .args .k)) (l .lowest-free .result))
-used-is c =
-    let l = c .before .before .before in
-    let start = l .before .before .before .before .before .before in
-    let W = start .pre .0 in
-    c .has .ensures ∙ blocked _ _ _ _ _ _ W (omega (arith, start .pre .1 .1, W .accepted .listed)) _ _
-    (l .before .before .block-by2 .ensures)
+note-requires-2 : tie.Need-note-requires-2
+note-requires-2 c κs =
+    let b = c .before .before in
+    let h = b .before .before in
+    let l = low-of h in
+    let s = start l in
+    let f = fits l in (
+      f .1,
+      other-lt _ _ _ _ _ _ _ _ (s .pre .0) (more s) _ _ _ (l .before .before .before .quotient .ensures) (l .before .before .target .ensures) (l .lowest-free .ensures)
+          _ _ (s .args .homes .now) (s .args .destinations .now) (h .before .note .ensures .0) (h .before .note .ensures .1) _ (b .lowest-free2 .ensures),
+      f .0,
+    )
 
--- and the second the rule's b
-b-is : (c : tie.After-lowest-free2)
-    → (let start = c .before .before .before .before .before .before .before .before in
-    c .lowest-free2 .result ≡ lowestUnused (start .args .m) (start .args .list .now)
-    (setsGiven (start .args .m) (start .args .list .now) (start .args .k)) destination
-    (blockAt (start .args .m) (start .args .list .now) destination (start .args .k)))
-b-is c =
-    let l = c .before .before in
-    let start = l .before .before .before .before .before .before in
-    let W = start .pre .0 in
-    c .lowest-free2 .ensures
-    ∙ lowest-free _ _ _ _ _ _ W (omega (arith, start .pre .1 .1, W .accepted .listed)) destination (start .args .destinations .now)
-    (W .destination-masks) _ (l .before .before .block-by2 .ensures)
+exchange-along-path-requires : tie.Need-exchange-along-path-requires
+exchange-along-path-requires c κs =
+    let n = c .before .before .before .before .before in
+    let b = n .before .before .before in
+    let h = b .before .before in
+    let l = low-of h in
+    let s = start l in (
+      blocked _ _ _ _ _ _ _ _ (s .pre .0) (more s) _ _ _ (l .before .before .before .quotient .ensures) (l .before .before .target .ensures) (l .lowest-free .ensures)
+          _ _ _ _ (h .before .note .ensures .0) (h .before .note .ensures .1) _ (b .lowest-free2 .ensures) (sym (h .has .ensures) ∙ b .before .if1 .taken)
+          (n .note2 .ensures .0) (n .note2 .ensures .1),
+      s .pre .1 .0,
+    )
 
-b-lt : (c : tie.After-lowest-free2) → c .lowest-free2 .result < 64
-b-lt c =
-    let start = c .before .before .before .before .before .before .before .before in
-    let W = start .pre .0 in
-    omega (arith, b-is c, lowest-fits _ _ _ _ _ _ W (omega (arith, start .pre .1 .1, W .accepted .listed)) destination)
-
-is-blocked : (c : tie.Then1)
-    → (let f = c .before .before in
-    let l = f .before .before in
-    let start = l .before .before .before .before .before .before in
-    Blocked (start .args .m) (start .args .list .now) (start .args .k) (l .lowest-free .result) (f .lowest-free2 .result))
-is-blocked c =
-    let f = c .before .before in
-    record { a-is = a-is (f .before .before); b-is = b-is f; used = sym (used-is (c .before)) ∙ c .if1 .taken }
-
-exchange-requires : tie.Need-exchange-requires
-exchange-requires c κs =
-    let t = c .before .before .before .before in
-    let start = t .before .before .before .before .before .before .before .before .before .before in
-    (start .pre .0, (start .pre .1 .0, start .pre .1 .1, is-blocked t))
-
-cast-sets : tie.Need-cast-sets
-cast-sets c =
-    let f = c .before .before in
-    record { fits = omega (arith, a-lt (f .before .before), b-lt f) }
-
--- after the test, on both ways
-fresh : (c : tie.Joined1)
-    → (let l = c .before .before .before .before in
-    let start = l .before .before .before .before .before .before in
-    Fresh (start .args .m) (start .args .list .now) (start .args .k) (l .lowest-free .result) (start .args .sets .now)
-    (c .if1 .sets) (c .if1 .sources) (c .if1 .destinations))
-fresh c =
-    let h = c .before in
-    let l = h .before .before .before in
-    let start = l .before .before .before .before .before .before in
-    let W = start .pre .0 in
-    ⊎-elim
-    (λ w. rw (w .8, w .9, w .10) (record {
-      sized = w .5 .kept .1 .1 .1 .1 .1 .1 .0;
-      gives = gives-exchanged _ _ _ _ _ _ W _ _ _ _ _ (is-blocked (record { before = h; if1 = w .0 })) (w .5 .ensures);
-      source-masks = w .5 .ensures .source-masks;
-      destination-masks = w .5 .ensures .destination-masks;
-    }))
-    (λ w. rw (w .1, w .2, w .3) (record {
-      sized = refl;
-      gives = gives-plain _ _ _ _ _ _ W _ (a-is l) (sym (used-is h) ∙ w .0 .left);
-      source-masks = W .source-masks;
-      destination-masks = W .destination-masks;
-    }))
-    (c .if1 .came)
-
-slice-write-sets : tie.Need-slice-write-sets
-slice-write-sets c =
-    let start = c .before .before .before .before .before .before .before .before .before .before in
-    omega (arith, fresh c .sized, start .pre .0 .sized, start .pre .0 .accepted .listed, start .pre .1 .1)
-
-note-requires : tie.Need-note-requires
-note-requires c κs =
-    let l = c .before .before .before .before .before in
-    let start = l .before .before .before .before .before .before in
-    let A = start .pre .0 .accepted in
-    let r = rooms (l .before .before) in
-    ((a-lt l, r .0 .0, r .0 .1, r .1 .0, r .1 .1), of-block _ _ _ _ (A .some-pages) (A .m-fits) (l .before .before .before .block-by .ensures))
-
-flip-requires : tie.Need-flip-requires
-flip-requires c κs = let l = c .before .before .before .before .before .before .before in (omega (arith, rooms (l .before .before), c .flip-arg .given), a-lt l)
-
-flip-requires-2 : tie.Need-flip-requires-2
-flip-requires-2 c κs = let l = c .before .before .before .before .before .before .before .before .before in (omega (arith, rooms (l .before .before), c .flip-arg2 .given), a-lt l)
+note-requires-3 : tie.Need-note-requires-3
+note-requires-3 c κs = let f = fits (low-of (c .before .before .before)) in (f .1, f .2, f .0)
 
 same-length : tie.Need-same-length
-same-length c = simp length-set (omega (arith, fresh (c .before .before .before .before .before .before) .sized))
+same-length c = c .before .before .exchange-along-path .kept .1 .1 .1 .1 .1 .1 .0 ∙ simp length-set
 
 returns : tie.Need-returns
-returns c =
-    let j = c .before .before .before .before .before .before in
-    let f = fresh j in
-    let l = j .before .before .before .before in
-    let start = l .before .before .before .before .before .before in
-    let W = start .pre .0 in
-    given-more _ _ _ _ _ _ W (omega (arith, start .pre .1 .1, W .accepted .listed)) _ _ _ _ _ _ (f .sized) (f .gives)
-    (f .source-masks) (f .destination-masks)
-    (subst (λ (at : ℕ). FlippedAt (j .if1 .sources) at (l .lowest-free .result) (c .before .before .flip .last .0))
-    (l .before .before .before .block-by .ensures) (c .before .before .flip .ensures .1))
-    (subst (λ (at : ℕ). FlippedAt (j .if1 .destinations) at (l .lowest-free .result) (c .flip2 .last .0))
-    (l .before .before .block-by2 .ensures) (c .flip2 .ensures .1))
+returns c = c .before .before .exchange-along-path .ensures
+
+same-length-2 : tie.Need-same-length-2
+same-length-2 c = search needs
+
+returns-2 : tie.Need-returns-2
+returns-2 c =
+    let e = c .before .before .before in
+    let h = e .before in
+    let l = low-of h in
+    let s = start l in
+    plain _ _ _ _ _ _ _ _ (s .pre .0) (more s) _ _ _ (l .before .before .before .quotient .ensures) (l .before .before .target .ensures) (l .lowest-free .ensures)
+    _ _ _ _ (h .before .note .ensures .0) (h .before .note .ensures .1) (sym (h .has .ensures) ∙ e .if1 .left) (c .note3 .ensures .0) (c .note3 .ensures .1)
 
 pub give-spec : {M : Type 1} → statement M
 give-spec =
     tie.close
     (tie.spec
-    block-by-requires
-    block-by-requires-2
+    quotient-requires
+    target-requires
     mul-lowest-free
     element-copy-out-lowest-free
     lowest-free-requires
     mul-used
     element-copy-out-used
-    lowest-free-requires-2
-    has-requires
-    exchange-requires
     cast-sets
     slice-write-sets
+    mul-note
+    sub-note
     note-requires
-    flip-requires
-    flip-requires-2
+    has-requires
+    lowest-free-requires-2
+    note-requires-2
+    exchange-along-path-requires
+    note-requires-3
     same-length
-    returns)
+    returns
+    same-length-2
+    returns-2)
