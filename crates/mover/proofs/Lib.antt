@@ -4,3 +4,4 @@ pub mod WriteSlots
 pub mod RunLaws
 pub mod RefusalLaws
 pub mod ReadLaws
+pub mod LastPageLaws
