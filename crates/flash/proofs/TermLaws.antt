@@ -6,9 +6,10 @@ use mathlib.Core.List.{List, [], _++_}
 use Prim.Native.Nat.{ℕ, _+_, _*_, _≤_, _<_}
 use native.Mathlib.Nat.{mul-le-mul-right}
 use native.Mathlib.Omega.{arith}
-use lib.Bits.{bitXor}
+use lib.Bits.{bitXor, xor-zero-r}
 use lib.Dec.{ltb}
 use lib.ListN.{length, getD, set, take, drop}
+use borrow.Author.Tests.{lt-ltb, le-ltb}
 use Rattle.flash.specs.Lists.{part, setPart}
 use Rattle.flash.specs.PageSum.{_⊕_, putOrAdd}
 use Rattle.flash.specs.inner.Terms.{byteSum, termsSum}
@@ -16,6 +17,7 @@ use Rattle.flash.proofs.Comparisons.{lt-cases}
 use Rattle.flash.proofs.Loops.{front-below, front-above, front-more, front-old, front-new}
 use Rattle.flash.proofs.Parts.{part-fits, length-part, part-at, length-setPart, setPart-at, setPart-below, setPart-above}
 use Rattle.flash.proofs.Sums.{⊕-at, length-⊕, length-putOrAdd}
+use Rattle.flash.proofs.Xor.{xor-assoc}
 
 when-at : (t : Bool) (page : List ℕ) (i : ℕ) → getD (cond t page []) i 0 ≡ cond t (getD page i 0) 0
 when-at true page i = refl
@@ -24,6 +26,22 @@ when-at false page i = refl
 when-short : (t : Bool) (page : List ℕ) (size : ℕ) → length page ≡ size → length (cond t page []) ≤ size
 when-short true page size e = omega arith
 when-short false page size e = omega arith
+
+-- the sum of bytes by the number of terms
+module _ (terms a b c d : ℕ) where
+  pub one-term : terms < 2 → a ≡ byteSum terms a b c d
+  one-term h = rw (le-ltb 1 terms (omega arith), le-ltb 2 terms (omega arith), le-ltb 3 terms (omega arith)) (sym (xor-zero-r a))
+
+  pub two-terms : 2 ≤ terms → terms < 3 → bitXor a b ≡ byteSum terms a b c d
+  two-terms l h = rw (lt-ltb 1 terms l, le-ltb 2 terms (omega arith), le-ltb 3 terms (omega arith)) (ap (bitXor a) (sym (xor-zero-r b)))
+
+  pub three-terms : 3 ≤ terms → terms < 4 → bitXor (bitXor a b) c ≡ byteSum terms a b c d
+  three-terms l h =
+      rw (lt-ltb 1 terms (omega arith), lt-ltb 2 terms l, le-ltb 3 terms (omega arith)) (xor-assoc a b c ∙ ap (λ (x : ℕ). bitXor a (bitXor b x)) (sym (xor-zero-r c)))
+
+  pub four-terms : 4 ≤ terms → bitXor (bitXor (bitXor a b) c) d ≡ byteSum terms a b c d
+  four-terms l =
+      rw (lt-ltb 1 terms (omega arith), lt-ltb 2 terms (omega arith), lt-ltb 3 terms l) (xor-assoc (bitXor a b) c d ∙ xor-assoc a b (bitXor c d))
 
 module _ (terms : ℕ) (a b c d : List ℕ) where
   pub terms-at : (i : ℕ) → getD (termsSum terms a b c d) i 0 ≡ byteSum terms (getD a i 0) (getD b i 0) (getD c i 0) (getD d i 0)

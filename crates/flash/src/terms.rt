@@ -4,6 +4,7 @@
 ghost use mathlib.Core.Path.{_≡_};
 ghost use mathlib.Core.Bool.{cond};
 ghost use Prim.Native.Nat.{_+_, _*_, _≤_};
+ghost use lib.Bits.{bitXor};
 ghost use lib.ListN.{length};
 ghost use Rattle.flash.specs.Lists.{part, setPart};
 ghost use Rattle.flash.specs.PageSum.{putOrAdd};
@@ -12,21 +13,28 @@ ghost use Rattle.flash.specs.inner.Terms.{byteSum, termsSum};
 // The most pages of one pass.
 pub const MOST_TERMS: usize = 4;
 
-fn when(test: bool, byte: u8) -> u8
-    ensures { λ r. ⌜ r ≡ cond test byte 0 ⌝ }
-{
-    if test { byte } else { 0 }
-}
-
-// The sum of the first `terms` of four bytes. In a loop the tests of `terms` are the same in every turn, so that the compiler makes a loop
-// of vector instructions for each number of terms.
+// The sum of the first `terms` of four bytes. In a loop the tests are the same in every turn, so that the compiler makes a loop of vector
+// instructions for each number of terms.
 fn byte_sum(terms: usize, a: u8, b: u8, c: u8, d: u8) -> u8
     ensures { λ r. ⌜ r ≡ byteSum terms a b c d ⌝ }
 {
-    let second = when(1 < terms, b);
-    let third = when(2 < terms, c);
-    let fourth = when(3 < terms, d);
-    a ^ (second ^ (third ^ fourth))
+    if terms < 2 {
+        return a;
+    }
+    if terms < 3 {
+        return a ^ b;
+    }
+    if terms < 4 {
+        return a ^ b ^ c;
+    }
+    a ^ b ^ c ^ d
+}
+
+// A byte, added to another or not.
+fn added(add: bool, old: u8, byte: u8) -> u8
+    ensures { λ r. ⌜ r ≡ bitXor (cond add old 0) byte ⌝ }
+{
+    if add { old ^ byte } else { byte }
 }
 
 // The sum of up to four pages of the store goes into a page outside it.
@@ -59,7 +67,7 @@ pub fn sum_from(
             store[three + i],
             store[four + i],
         );
-        page[i] = when(add, page[i]) ^ sum;
+        page[i] = added(add, page[i], sum);
         i += 1;
     }
 }
@@ -96,7 +104,7 @@ pub fn sum_within(
             store[three + i],
             store[four + i],
         );
-        store[target + i] = when(add, store[target + i]) ^ sum;
+        store[target + i] = added(add, store[target + i], sum);
         i += 1;
     }
 }

@@ -65,11 +65,11 @@ shared-slice-read-byte-sum-4 c = omega arith
 byte-sum-requires : tie.Need-byte-sum-requires Inv-loop μ-loop
 byte-sum-requires c κs = search needs
 
-slice-read-when : tie.Need-slice-read-when Inv-loop μ-loop
-slice-read-when c = omega arith
+slice-read-added : tie.Need-slice-read-added Inv-loop μ-loop
+slice-read-added c = omega arith
 
-when-requires : tie.Need-when-requires Inv-loop μ-loop
-when-requires c κs = search needs
+added-requires : tie.Need-added-requires Inv-loop μ-loop
+added-requires c κs = search needs
 
 slice-write-page : tie.Need-slice-write-page Inv-loop μ-loop
 slice-write-page c = omega arith
@@ -91,7 +91,7 @@ loop-again c =
     let inside : l .i < a .p = omega arith in
     let old : getD (l .page) (l .i) 0 ≡ getD (a .page .now) (l .i) 0 = rw (l .inv .0) (front-at new (a .page .now) (l .i) size (omega arith)) in
     let byte-is = pageSum-at (a .store .now) (a .p) (a .a) (a .b) (a .c) (a .d) (a .terms) (a .page .now) (a .add) (l .i) inside in (
-      ap (set (l .page) (l .i)) (ap₂ bitXor (c .when .ensures ∙ ap (λ (x : ℕ). cond (a .add) x 0) old) (c .before .before .byte-sum .ensures) ∙ byte-is)
+      ap (set (l .page) (l .i)) (c .added .ensures ∙ ap₂ bitXor (ap (λ (x : ℕ). cond (a .add) x 0) old) (c .before .before .byte-sum .ensures) ∙ byte-is)
           ∙ rw (l .inv .0) (front-more new (a .page .now) (l .i) size (omega arith)),
       omega arith,
       simp length-set (omega arith),
@@ -130,8 +130,8 @@ sum-from-spec =
     add-byte-sum-4
     shared-slice-read-byte-sum-4
     byte-sum-requires
-    slice-read-when
-    when-requires
+    slice-read-added
+    added-requires
     slice-write-page
     add-i
     loop-less

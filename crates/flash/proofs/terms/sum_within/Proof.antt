@@ -71,14 +71,14 @@ slice-read-byte-sum-4 c = omega arith
 byte-sum-requires : tie.Need-byte-sum-requires Inv-loop μ-loop
 byte-sum-requires c κs = search needs
 
-add-when : tie.Need-add-when Inv-loop μ-loop
-add-when c = omega arith
+add-added : tie.Need-add-added Inv-loop μ-loop
+add-added c = omega arith
 
-slice-read-when : tie.Need-slice-read-when Inv-loop μ-loop
-slice-read-when c = omega arith
+slice-read-added : tie.Need-slice-read-added Inv-loop μ-loop
+slice-read-added c = omega arith
 
-when-requires : tie.Need-when-requires Inv-loop μ-loop
-when-requires c κs = search needs
+added-requires : tie.Need-added-requires Inv-loop μ-loop
+added-requires c κs = search needs
 
 add-store : tie.Need-add-store Inv-loop μ-loop
 add-store c = omega arith
@@ -104,7 +104,7 @@ loop-again c =
     let still : (slot : ℕ) → getD (l .store) (slot * a .p + l .i) 0 ≡ getD (part (a .p) slot (a .store .now)) (l .i) 0 =
     λ slot. rw (l .inv .0) (over-at (a .p) (a .to) (a .store .now) page (omega arith) whole slot (l .i) inside) in
     let byte-is = pageSum-now (a .store .now) (a .p) (a .a) (a .b) (a .c) (a .d) (a .terms) (part (a .p) (a .to) (a .store .now)) (a .add) (l .store) (l .i) still in (
-      ap (set (l .store) (a .to * a .p + l .i)) (ap₂ bitXor (c .when .ensures ∙ ap (λ (x : ℕ). cond (a .add) x 0) (still (a .to))) (c .before .before .byte-sum .ensures) ∙ byte-is)
+      ap (set (l .store) (a .to * a .p + l .i)) (c .added .ensures ∙ ap₂ bitXor (ap (λ (x : ℕ). cond (a .add) x 0) (still (a .to))) (c .before .before .byte-sum .ensures) ∙ byte-is)
           ∙ rw (l .inv .0) (over-more (a .p) (a .to) (a .store .now) page (omega arith) whole (l .i) inside),
       omega arith,
       simp length-set (omega arith),
@@ -145,9 +145,9 @@ sum-within-spec =
     add-byte-sum-4
     slice-read-byte-sum-4
     byte-sum-requires
-    add-when
-    slice-read-when
-    when-requires
+    add-added
+    slice-read-added
+    added-requires
     add-store
     slice-write-store
     add-i

@@ -1,0 +1,14 @@
+-- `added` adds a byte to another, or leaves it.
+use mathlib.Core.Path.{sym}
+use lib.Bits.{xor-zero-l}
+use Rattle.flash.proofs.terms.added.Statement.{statement}
+use Rattle.flash.proofs.terms.added.Tie as tie
+
+returns : tie.Need-returns
+returns c = rw (c .if1 .taken)
+
+returns-2 : tie.Need-returns-2
+returns-2 c = rw (c .if1 .left) (sym (xor-zero-l (c .before .args .byte)))
+
+pub added-spec : {M : Type 1} → statement M
+added-spec = tie.close (tie.spec returns returns-2)
