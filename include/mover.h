@@ -31,6 +31,14 @@
  *
  * Before a move the pages of blocks 1 to n have mark s, and those of block 0 have mark 255 and bytes 255 throughout.
  *
+ * WHAT MUST SURVIVE A POWER CUT: the list (or how to make it again), the sizes and s, outside the blocks that move, and a note of your own
+ * that a move is pending. The sets can be made again by mover_split. At start-up, if a move is pending: mover_split, mover_mend, mover_run;
+ * after the finish the note is cleared and s moves on. A wrong s, list or split is not noticed, and gives nonsense. Without a pending move
+ * mover_mend is not called: it would erase the blank spare.
+ *
+ * On a chip a mark must not be a bare byte, which may read as another letter after a cut: keep a code word and a checksum, and give 255 for
+ * whatever is not exact (docs/CHIPS.md).
+ *
  * No two lent parts of a call may overlap, nor may a lent part and a number out, nor two numbers out. A number out is a pointer that
  * must not be NULL. This is all that a caller has to take care of; the rest is tested.
  *
@@ -84,7 +92,7 @@ uint32_t mover_run(uint32_t n, uint32_t m, uint32_t page_bytes, uint32_t s,
 /* Recovery, to be called after every power cut before the next run. Reads the marks and erases the block that is unfinished, if
  * there is one; it may itself be cut, and called again.
  *   *place   where the move goes on; 2 * n * (m + 1) if it is finished
- *   *erases  1 if a block was erased, else 0; it is the block that mover_operation tells of at *place
+ *   *erases  1 if a block was erased, else 0; it is the block that mover_operation tells of at *place, which at the end is 0, the spare
  * Changes only that block's bytes and marks.
  * Returns 0, or 1, 2 or 6. */
 uint32_t mover_mend(uint32_t n, uint32_t m, uint32_t page_bytes, uint32_t s,
