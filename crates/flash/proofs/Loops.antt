@@ -1,61 +1,28 @@
 -- What one turn of a loop over bytes does.
 use mathlib.Core.Path.{_≡_, refl, sym, ap, _∙_, subst}
-use mathlib.Core.Logic.{⊎-elim}
 use mathlib.Core.Bool.{_&&_, and-true}
 use mathlib.Core.List.{List, [], _∷_, _++_}
-use Prim.Native.Nat.{ℕ, zero, suc, _+_, _≤_, _<_}
+use Prim.Native.Nat.{ℕ, zero, suc, _+_, _<_}
 use native.Mathlib.Nat.{not-suc-le-zero, le-of-suc-le-suc}
 use native.Mathlib.Numerals.{add-one}
 use native.Mathlib.Omega.{arith}
 use lib.Bits.{bitOr, bitXor, or-add-and, and-le-l, and-le-r, xor-self}
 use lib.Dec.{eqb}
-use lib.ListN.{length, getD, set, take, drop, length-append, length-take, length-drop}
-use lib.Seq.{take-suc, drop-set-lt, drop-drop, ext-getD}
+use lib.ListN.{length, getD, set, take, drop}
+use lib.Seq.{take-suc, drop-set-lt, drop-drop}
 use borrow.Author.Tests.{eqb-true, eq-eqb}
 use Rattle.flash.specs.Lists.{all}
 use Rattle.flash.proofs.Bools.{and-left, and-right, bool-eq}
-use Rattle.flash.proofs.Comparisons.{lt-cases}
 use Rattle.flash.proofs.Searches.{all-append}
 use Rattle.flash.proofs.Xor.{xor-zero-eq}
 
 -- A loop that makes a list `old` into a list `new` of its length, one element a turn: after i turns it is `take i new ++ drop i old`.
--- before i it is the new list, and from i on the old one
-pub front-below : (new old : List ℕ) (i k : ℕ) → length new ≡ length old → k < i → getD (take i new ++ drop i old) k 0 ≡ getD new k 0
-front-below new old zero k e h = absurd (not-suc-le-zero h)
-front-below [] [] (suc i) k e h = refl
-front-below [] (y ∷ old) (suc i) k e h = absurd (omega arith)
-front-below (x ∷ new) [] (suc i) k e h = absurd (omega arith)
-front-below (x ∷ new) (y ∷ old) (suc i) zero e h = refl
-front-below (x ∷ new) (y ∷ old) (suc i) (suc k) e h = front-below new old i k (omega arith) (le-of-suc-le-suc h)
-
-pub front-above : (new old : List ℕ) (i k : ℕ) → length new ≡ length old → i ≤ k → getD (take i new ++ drop i old) k 0 ≡ getD old k 0
-front-above new old zero k e h = refl
-front-above [] [] (suc i) k e h = refl
-front-above [] (y ∷ old) (suc i) k e h = absurd (omega arith)
-front-above (x ∷ new) [] (suc i) k e h = absurd (omega arith)
-front-above (x ∷ new) (y ∷ old) (suc i) zero e h = absurd (not-suc-le-zero h)
-front-above (x ∷ new) (y ∷ old) (suc i) (suc k) e h = front-above new old i k (omega arith) (le-of-suc-le-suc h)
-
 pub front-at : (new old : List ℕ) (i : ℕ) → length new ≡ length old → i < length old
     → getD (take i new ++ drop i old) i 0 ≡ getD old i 0
-front-at new old i e l = front-above new old i i e (omega arith)
-
--- where the lists agree before i, nothing has changed yet; where they agree from i on, nothing is left to change
-module _ (new old : List ℕ) (i : ℕ) (same : length new ≡ length old) where
-  size : length (take i new ++ drop i old) ≡ length old
-  size = simp (length-append, length-take, length-drop) (omega arith)
-
-  pub front-old : ((k : ℕ) → k < i → getD new k 0 ≡ getD old k 0) → take i new ++ drop i old ≡ old
-  front-old f = ext-getD 0 _ old size (λ k h. ⊎-elim
-      (λ (l : k < i). front-below new old i k same l ∙ f k l)
-      (λ (l : i ≤ k). front-above new old i k same l)
-      (lt-cases k i))
-
-  pub front-new : ((k : ℕ) → i ≤ k → getD new k 0 ≡ getD old k 0) → take i new ++ drop i old ≡ new
-  front-new f = ext-getD 0 _ new (size ∙ sym same) (λ k h. ⊎-elim
-      (λ (l : k < i). front-below new old i k same l)
-      (λ (l : i ≤ k). front-above new old i k same l ∙ sym (f k l))
-      (lt-cases k i))
+front-at new [] i e l = absurd (not-suc-le-zero l)
+front-at [] (y ∷ old) i e l = absurd (omega arith)
+front-at (x ∷ new) (y ∷ old) zero e l = refl
+front-at (x ∷ new) (y ∷ old) (suc i) e l = front-at new old i (omega arith) (le-of-suc-le-suc l)
 
 front-suc : (new old : List ℕ) (i : ℕ) → length new ≡ length old → i < length old
     → set (take i new ++ drop i old) i (getD new i 0) ≡ take (suc i) new ++ drop (suc i) old

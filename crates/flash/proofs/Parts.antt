@@ -1,5 +1,5 @@
 -- Laws of a list cut into parts of one size: of pages of the store, blocks of the store and blocks of the marks alike.
-use mathlib.Core.Path.{_≡_, sym, ap, _∙_, subst}
+use mathlib.Core.Path.{_≡_, sym, ap, _∙_}
 use mathlib.Core.Logic.{⊎-elim}
 use mathlib.Core.Bool.{true, false}
 use mathlib.Core.List.{List, _++_}
@@ -8,11 +8,10 @@ use native.Mathlib.Nat.{suc-mul, add-mul, mul-assoc, mul-zero, mul-le-mul-right,
 use native.Mathlib.Omega.{arith}
 use lib.Dec.{ltb}
 use lib.ListN.{length, getD, take, drop, replicate, length-append, length-take, length-drop, length-replicate, getD-replicate, List·getD-append}
-use lib.Seq.{getD-take, getD-drop, getD-append-add, drop-drop, ext-getD, take-append-seam, drop-append-seam, drop-append-add}
+use lib.Seq.{getD-take, getD-drop, getD-append-add, drop-drop, ext-getD}
 use borrow.Author.Tests.{ltb-true, ltb-false}
 use Rattle.flash.specs.Lists.{part, setPart}
 use Rattle.flash.proofs.Bools.{bool-cases}
-use Rattle.flash.proofs.Comparisons.{lt-cases}
 
 -- the part of a lower number ends where that of a higher one starts, or before
 pub part-fits : (i count size : ℕ) → i < count → i * size + size ≤ count * size
@@ -167,30 +166,3 @@ pub filled-back : (size i value : ℕ) (xs back : List ℕ) → i * size + size 
 filled-back size i value xs back fits e =
     let back-is : back ≡ replicate size value = e ∙ rw (lent-part size i xs, length-part size i xs fits) in
     rw back-is (lent-back size i xs (replicate size value))
-
--- a part written over twice, or with what it has
-module _ (size i : ℕ) (xs : List ℕ) (fits : i * size + size ≤ length xs) where
-  pub setPart-same : setPart size i xs (part size i xs) ≡ xs
-  setPart-same =
-      let whole = length-part size i xs fits in
-      ext-getD 0 (setPart size i xs (part size i xs)) xs (length-setPart size i xs (part size i xs) fits whole) (λ k h. ⊎-elim
-      (λ (l : k < i * size). setPart-below size i xs (part size i xs) fits whole k 0 l)
-      (λ (l : i * size ≤ k).
-      let at : i * size + (k - i * size) ≡ k = omega arith in
-      ⊎-elim
-      (λ (m : k - i * size < size). rw (← at) (setPart-at size i xs (part size i xs) fits whole (k - i * size) 0 m ∙ part-at size i xs (k - i * size) 0 m))
-      (λ (m : size ≤ k - i * size). setPart-above size i xs (part size i xs) fits whole k 0 (omega arith))
-      (lt-cases (k - i * size) size))
-      (lt-cases k (i * size)))
-
-  pub setPart-twice : (one two : List ℕ) → length one ≡ size → setPart size i (setPart size i xs one) two ≡ setPart size i xs two
-  unfolding setPart
-  setPart-twice one two whole =
-      let k : length (take (i * size) xs) ≡ i * size = simp length-take (omega arith) in
-      let front : take (i * size) (take (i * size) xs ++ (one ++ drop (i * size + size) xs)) ≡ take (i * size) xs =
-      subst (λ (n : ℕ). take n (take (i * size) xs ++ (one ++ drop (i * size + size) xs)) ≡ take (i * size) xs) k (take-append-seam (take (i * size) xs) (one ++ drop (i * size + size) xs)) in
-      let back : drop (i * size + size) (take (i * size) xs ++ (one ++ drop (i * size + size) xs)) ≡ drop (i * size + size) xs =
-      subst (λ (n : ℕ). drop (n + size) (take (i * size) xs ++ (one ++ drop (i * size + size) xs)) ≡ drop (i * size + size) xs) k
-      (drop-append-add (take (i * size) xs) (one ++ drop (i * size + size) xs) size
-      ∙ subst (λ (n : ℕ). drop n (one ++ drop (i * size + size) xs) ≡ drop (i * size + size) xs) whole (drop-append-seam one (drop (i * size + size) xs))) in
-      rw (front, back)

@@ -1,23 +1,19 @@
--- A sum taken four pages a pass: what a pass adds, and what it leaves of the store where the sum goes into a slot.
-use mathlib.Core.Path.{_≡_, refl, sym, ap, ap₂, _∙_, subst}
-use mathlib.Core.Logic.{_≢_, ⊎-elim}
-use mathlib.Core.Bool.{Bool, true, false, cond}
+-- A sum taken four pages a pass: what a pass adds.
+use mathlib.Core.Path.{_≡_, refl, sym, ap, _∙_, subst}
+use mathlib.Core.Logic.{⊎-elim}
 use mathlib.Core.List.{List, [], _∷_, _++_}
 use Prim.Native.Nat.{ℕ, zero, suc, _+_, _-_, _*_, _≤_, _<_}
 use native.Mathlib.Nat.{not-suc-le-zero, le-of-suc-le-suc}
 use native.Mathlib.Omega.{arith}
-use lib.Dec.{ltb}
 use lib.ListN.{length, getD, take, drop, length-drop, List·getD-eq-default}
-use lib.Seq.{take-add, take-all, getD-drop, getD-take, length-take-le}
+use lib.Seq.{take-add, getD-drop, getD-take, length-take-le}
 use borrow.Author.Tests.{lt-ltb}
-use Rattle.flash.specs.Lists.{part, setPart}
-use Rattle.flash.specs.PageSum.{_⊕_, sum, putOrAdd}
+use Rattle.flash.specs.PageSum.{_⊕_, sum}
 use Rattle.flash.specs.inner.Terms.{termsSum}
 use Rattle.flash.specs.inner.Passes.{fourFrom}
 use Rattle.flash.specs.declared.slots.Four.{Four}
 use Rattle.flash.proofs.Comparisons.{lt-cases}
-use Rattle.flash.proofs.Parts.{part-setPart, part-setPart-other, setPart-same, setPart-twice, length-setPart}
-use Rattle.flash.proofs.Sums.{⊕-nil, sum-append, putOrAdd-is}
+use Rattle.flash.proofs.Sums.{⊕-nil, sum-append}
 
 -- the first four of a list, or as many as it has
 four : (page : ℕ → List ℕ) (x : ℕ) (xs : List ℕ)
@@ -70,48 +66,3 @@ four-each P slots i h f = (f i h, other (i + 1), other (i + 2), other (i + 3))
   where
     other : (j : ℕ) → P (getD slots j (getD slots i 0))
     other j = ⊎-elim (λ (l : j < length slots). subst P (getD-any slots j 0 (getD slots i 0) l) (f j l)) (λ (l : length slots ≤ j). subst P (sym (List·getD-eq-default slots (getD slots i 0) l)) (f i h)) (lt-cases j (length slots))
-
--- ---- the sum of the first i slots goes into slot `to` of a store that was `old`
-pub record Summing (p to : ℕ) (old slots : List ℕ) (i : ℕ) (now : List ℕ) : Type 0 where
-  -- the other slots are as they were, and so is all around slot `to`
-  pub others : (t : ℕ) → t ≢ to → part p t now ≡ part p t old
-  pub around : (page : List ℕ) → setPart p to now page ≡ setPart p to old page
-  -- before the first pass slot `to` counts for nothing
-  pub so-far : cond (ltb 0 i) (part p to now) [] ≡ sum (λ t. part p t old) (take i slots)
-
-pub summing-none : (p to : ℕ) (old slots : List ℕ) → Summing p to old slots 0 old
-unfolding sum
-summing-none p to old slots = record { others = λ t ne. refl; around = λ page. refl; so-far = refl }
-
-module _ (p to : ℕ) (old slots : List ℕ) (i : ℕ) (now : List ℕ) (S : Summing p to old slots i now) (left : i < length slots)
-    (apart : (j : ℕ) → j < length slots → getD slots j 0 ≢ to) (fits : to * p + p ≤ length now) where
-  abbrev t : Four
-  t = fourFrom slots i
-
-  abbrev page : List ℕ → ℕ → List ℕ
-  page store s = part p s store
-
-  abbrev added : List ℕ → List ℕ
-  added store = termsSum (length slots - i) (page store (t .a)) (page store (t .b)) (page store (t .c)) (page store (t .d))
-
-  pub summing-more : (new : List ℕ) → length new ≡ p → new ≡ putOrAdd (ltb 0 i) (part p to now) (added now)
-      → Summing p to old slots (i + 4) (setPart p to now new)
-  summing-more new whole e =
-      let ne = four-each (λ (s : ℕ). s ≢ to) slots i left apart in
-      let same : added now ≡ added old =
-      rw (S .others (t .a) (ne .0), S .others (t .b) (ne .1), S .others (t .c) (ne .2), S .others (t .d) (ne .3)) in
-      record {
-        others = λ s n. part-setPart-other p to now new fits whole s n ∙ S .others s n;
-        around = λ x. setPart-twice p to now fits new x whole ∙ S .around x;
-        so-far = rw (lt-ltb 0 (i + 4) (omega arith)) (part-setPart p to now new fits whole ∙ e ∙ putOrAdd-is (ltb 0 i) (part p to now) (added now)
-            ∙ ap₂ (λ (x y : List ℕ). x ⊕ y) (S .so-far) same ∙ sym (pass-more (page old) slots i left));
-      }
-
--- all are summed
-pub summing-all : (p to : ℕ) (old slots : List ℕ) (i : ℕ) (now : List ℕ) → Summing p to old slots i now → to * p + p ≤ length now → length slots ≤ i → 1 ≤ i
-    → now ≡ setPart p to old (sum (λ t. part p t old) slots)
-summing-all p to old slots i now S fits end some =
-    sym (setPart-same p to now fits) ∙ S .around (part p to now) ∙ ap (setPart p to old) (total ∙ ap (sum (λ t. part p t old)) (take-all i slots end))
-  where
-    total : part p to now ≡ sum (λ t. part p t old) (take i slots)
-    total = rw (lt-ltb 0 i some) at (S .so-far)

@@ -8,7 +8,7 @@ use native.Mathlib.Nat.{not-suc-le-zero, le-of-suc-le-suc}
 use native.Mathlib.Omega.{arith}
 use lib.ListN.{length, getD}
 use lib.Bits.{bitXor, xor-comm, xor-zero-r}
-use Rattle.flash.specs.PageSum.{_⊕_, sum, oneOrBoth, putOrAdd}
+use Rattle.flash.specs.PageSum.{_⊕_, sum, putOrAdd}
 use Rattle.flash.proofs.Bools.{bool-cases}
 use Rattle.flash.proofs.Xor.{xor-assoc, xor-cancel}
 
@@ -88,23 +88,6 @@ length-sum page size (t ∷ u ∷ ts) f h =
     length-⊕ (page t) (sum page (u ∷ ts))
     ∙ omega (arith, f 0 (omega arith), length-sum page size (u ∷ ts) (λ i l. f (suc i) (omega arith)) (omega arith))
 
-module _ (both : Bool) (one other : List ℕ) where
-  pub length-oneOrBoth : length other ≡ length one → length (oneOrBoth both one other) ≡ length one
-  unfolding oneOrBoth
-  length-oneOrBoth e =
-      ⊎-elim
-      (λ (b : both ≡ true). rw b (omega (arith, length-⊕ one other)))
-      (λ (b : both ≡ false). rw b refl)
-      (bool-cases both)
-
-  pub both-at : (i : ℕ) → both ≡ true → getD (oneOrBoth both one other) i 0 ≡ bitXor (getD one i 0) (getD other i 0)
-  unfolding oneOrBoth
-  both-at i b = rw b (⊕-at one other i)
-
-  pub one-at : (i : ℕ) → both ≡ false → getD (oneOrBoth both one other) i 0 ≡ getD one i 0
-  unfolding oneOrBoth
-  one-at i b = rw b
-
 module _ (add : Bool) (work page : List ℕ) where
   pub length-putOrAdd : length page ≡ length work → length (putOrAdd add work page) ≡ length work
   unfolding putOrAdd
@@ -113,14 +96,6 @@ module _ (add : Bool) (work page : List ℕ) where
       (λ (a : add ≡ true). rw a (omega (arith, length-⊕ work page)))
       (λ (a : add ≡ false). rw a e)
       (bool-cases add)
-
-  pub added-at : (i : ℕ) → add ≡ true → getD (putOrAdd add work page) i 0 ≡ bitXor (getD work i 0) (getD page i 0)
-  unfolding putOrAdd
-  added-at i a = rw a (⊕-at work page i)
-
-  pub put-at : (i : ℕ) → add ≡ false → getD (putOrAdd add work page) i 0 ≡ getD page i 0
-  unfolding putOrAdd
-  put-at i a = rw a
 
   -- what is put is added to nothing
   pub putOrAdd-is : putOrAdd add work page ≡ cond add work [] ⊕ page

@@ -1,21 +1,17 @@
--- The sum of up to four pages byte by byte, and a slot of the store while that sum is written over it.
+-- The sum of up to four pages byte by byte.
 use mathlib.Core.Path.{_≡_, refl, sym, ap, ap₂, _∙_}
-use mathlib.Core.Logic.{⊎-elim}
 use mathlib.Core.Bool.{Bool, true, false, cond}
-use mathlib.Core.List.{List, [], _++_}
+use mathlib.Core.List.{List, []}
 use Prim.Native.Nat.{ℕ, _+_, _*_, _≤_, _<_}
-use native.Mathlib.Nat.{mul-le-mul-right}
 use native.Mathlib.Omega.{arith}
 use lib.Bits.{bitXor, xor-zero-r}
 use lib.Dec.{ltb}
-use lib.ListN.{length, getD, set, take, drop}
+use lib.ListN.{length, getD}
 use borrow.Author.Tests.{lt-ltb, le-ltb}
-use Rattle.flash.specs.Lists.{part, setPart}
+use Rattle.flash.specs.Lists.{part}
 use Rattle.flash.specs.PageSum.{_⊕_, putOrAdd}
 use Rattle.flash.specs.inner.Terms.{byteSum, termsSum}
-use Rattle.flash.proofs.Comparisons.{lt-cases}
-use Rattle.flash.proofs.Loops.{front-below, front-above, front-more, front-old, front-new}
-use Rattle.flash.proofs.Parts.{part-fits, length-part, part-at, length-setPart, setPart-at, setPart-below, setPart-above}
+use Rattle.flash.proofs.Parts.{length-part, part-at}
 use Rattle.flash.proofs.Sums.{⊕-at, length-⊕, length-putOrAdd}
 use Rattle.flash.proofs.Xor.{xor-assoc}
 
@@ -61,40 +57,6 @@ unfolding putOrAdd
 added-byte true work page i = ⊕-at work page i
 added-byte false work page i = refl
 
--- a slot that is written over byte by byte, from its first on
-module _ (p to : ℕ) (old page : List ℕ) (fits : to * p + p ≤ length old) (whole : length page ≡ p) where
-  abbrev new : List ℕ
-  new = setPart p to old page
-
-  same : length new ≡ length old
-  same = length-setPart p to old page fits whole
-
-  abbrev over : ℕ → List ℕ
-  over i = take (to * p + i) new ++ drop (to * p + i) old
-
-  pub over-none : over 0 ≡ old
-  over-none = front-old new old (to * p + 0) same (λ k h. setPart-below p to old page fits whole k 0 (omega arith))
-
-  pub over-whole : over p ≡ setPart p to old page
-  over-whole = front-new new old (to * p + p) same (λ k h. setPart-above p to old page fits whole k 0 h)
-
-  -- what is read in the turn of byte i is still the old byte
-  pub over-at : (slot i : ℕ) → i < p → getD (over i) (slot * p + i) 0 ≡ getD (part p slot old) i 0
-  over-at slot i h =
-      ⊎-elim
-      (λ (l : slot < to). let f = part-fits slot to p l in front-below new old (to * p + i) (slot * p + i) same (omega arith) ∙ setPart-below p to old page fits whole (slot * p + i) 0 (omega arith))
-      (λ (l : to ≤ slot). front-above new old (to * p + i) (slot * p + i) same (higher l))
-      (lt-cases slot to)
-      ∙ sym (part-at p slot old i 0 h)
-    where
-      higher : to ≤ slot → to * p + i ≤ slot * p + i
-      higher l = omega (arith, mul-le-mul-right p l)
-
-  pub over-more : (i : ℕ) → i < p → set (over i) (to * p + i) (getD page i 0) ≡ over (i + 1)
-  over-more i h =
-      let next : to * p + (i + 1) ≡ to * p + i + 1 = omega arith in
-      rw (next, ← setPart-at p to old page fits whole i 0 h) (front-more new old (to * p + i) same (omega arith))
-
 -- the sum of slots' pages, put into a page or added to it
 abbrev pub summed : (store : List ℕ) (p a b c d terms : ℕ) → List ℕ
 summed store p a b c d terms = termsSum terms (part p a store) (part p b store) (part p c store) (part p d store)
@@ -113,12 +75,9 @@ module _ (old : List ℕ) (p a b c d terms : ℕ) (page : List ℕ) (add : Bool)
       (length-terms terms (part p a old) (part p b old) (part p c old) (part p d old) p (length-part p a old (f .0)) (length-part p b old (f .1)) (length-part p c old (g .0)) (length-part p d old (g .1)) ∙ sym (f .2))
 
   -- byte i of it, from the bytes that are read in that turn
-  pub pageSum-now : (now : List ℕ) (i : ℕ) → ((slot : ℕ) → getD now (slot * p + i) 0 ≡ getD (part p slot old) i 0)
-      → bitXor (cond add (getD page i 0) 0) (bytes now i) ≡ getD (pageSum page (summed old p a b c d terms) add) i 0
-  pageSum-now now i f =
-      rw (f a, f b, f c, f d)
+  pub pageSum-at : (i : ℕ) → i < p → bitXor (cond add (getD page i 0) 0) (bytes old i) ≡ getD (pageSum page (summed old p a b c d terms) add) i 0
+  pageSum-at i h =
+      let at : (slot : ℕ) → getD old (slot * p + i) 0 ≡ getD (part p slot old) i 0 = λ slot. sym (part-at p slot old i 0 h) in
+      rw (at a, at b, at c, at d)
       (sym (added-byte add page (summed old p a b c d terms) i
       ∙ ap (bitXor (cond add (getD page i 0) 0)) (terms-at terms (part p a old) (part p b old) (part p c old) (part p d old) i)))
-
-  pub pageSum-at : (i : ℕ) → i < p → bitXor (cond add (getD page i 0) 0) (bytes old i) ≡ getD (pageSum page (summed old p a b c d terms) add) i 0
-  pageSum-at i h = pageSum-now old i (λ slot. sym (part-at p slot old i 0 h))

@@ -16,11 +16,6 @@ unfoldable pub sum : (page : ℕ → List ℕ) → List ℕ → List ℕ
 sum page [] = []
 sum page (t ∷ ts) = page t ⊕ sum page ts
 
--- The two below say how the code sums, of which the document says nothing.
--- One page, or the sum of two.
-unfoldable pub oneOrBoth : (both : Bool) → (one other : List ℕ) → List ℕ
-oneOrBoth both one other = cond both (one ⊕ other) one
-
--- A page is put into the work page, or added to what is there.
+-- What the code sums is put into a page, or added to what is there.
 unfoldable pub putOrAdd : (add : Bool) → (work page : List ℕ) → List ℕ
 putOrAdd add work page = cond add (work ⊕ page) page

@@ -4,7 +4,6 @@ ghost use mathlib.Core.Path.{_≡_};
 ghost use lib.Dec.{eqb};
 ghost use lib.ListN.{length, replicate};
 ghost use Rattle.flash.specs.Lists.{all};
-ghost use Rattle.flash.specs.PageSum.{oneOrBoth, putOrAdd};
 
 // Every byte of the part becomes `value`.
 pub fn fill(part: &mut [u8], value: u8)
@@ -31,16 +30,14 @@ pub fn is_filled(bytes: &[u8], value: u8) -> bool
     different == 0
 }
 
-// The page sum: a page is put into `target`, or added to it by exclusive-or. With `both` it is the sum of two pages, in one pass.
-pub fn put_or_add(target: &mut [u8], one: &[u8], other: &[u8], both: bool, add: bool)
-    requires { ⌜ (length (now one) ≡ length (now target)) × (length (now other) ≡ length (now target)) ⌝ }
-    ensures { λ _. ⌜ now (target .exit) ≡ putOrAdd add (now (target .entry)) (oneOrBoth both (now (one .entry)) (now (other .entry))) ⌝ }
+// The bytes of one part are put into another.
+pub fn copy(target: &mut [u8], source: &[u8])
+    requires { ⌜ length (now source) ≡ length (now target) ⌝ }
+    ensures { λ _. ⌜ now (target .exit) ≡ now (source .entry) ⌝ }
 {
     let mut i = 0;
     while i < target.len() {
-        let page = if both { one[i] ^ other[i] } else { one[i] };
-        let byte = if add { target[i] ^ page } else { page };
-        target[i] = byte;
+        target[i] = source[i];
         i += 1;
     }
 }

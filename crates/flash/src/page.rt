@@ -5,8 +5,8 @@ ghost use Prim.Native.Nat.{_+_, _*_, _≤_, _<_};
 ghost use lib.ListN.{length};
 ghost use Rattle.flash.specs.Chip.{isBlank, writePage};
 use crate::ERASED;
+use crate::bytes::copy;
 use crate::bytes::is_filled;
-use crate::bytes::put_or_add;
 
 // The work page goes into the slot, with its mark.
 pub fn write_page(store: &mut [u8], marks: &mut [u8], p: usize, slot: usize, work: &[u8], mark: u8)
@@ -18,8 +18,7 @@ pub fn write_page(store: &mut [u8], marks: &mut [u8], p: usize, slot: usize, wor
 {
     let to = slot * p;
     let end = to + p;
-    // a plain copy: neither a second page nor what the slot had counts
-    put_or_add(&mut store[to..end], work, work, false, false);
+    copy(&mut store[to..end], work);
     marks[slot] = mark;
 }
 

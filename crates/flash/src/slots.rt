@@ -1,15 +1,13 @@
 // The sum of the pages of slots that stand in an array, four pages a pass.
 
 ghost use mathlib.Core.Path.{_≡_};
-ghost use mathlib.Core.Logic.{_≢_};
 ghost use Prim.Native.Nat.{ℕ, _+_, _*_, _≤_, _<_};
 ghost use lib.ListN.{length, getD, take};
-ghost use Rattle.flash.specs.Lists.{part, setPart};
+ghost use Rattle.flash.specs.Lists.{part};
 ghost use Rattle.flash.specs.PageSum.{sum};
 ghost use Rattle.flash.specs.inner.Passes.{fourFrom};
 use crate::terms::MOST_TERMS;
 use crate::terms::sum_from;
-use crate::terms::sum_within;
 
 // Entry `at` of the first `count`, or another number behind them.
 fn entry_or(slots: &[usize], count: usize, at: usize, otherwise: usize) -> usize
@@ -38,7 +36,7 @@ fn four_from(slots: &[usize], count: usize, i: usize) -> Four
     Four { a, b, c, d }
 }
 
-// The sum goes into a page outside the store.
+// The sum goes into a page.
 pub fn sum_to_page(store: &[u8], p: usize, slots: &[usize], count: usize, page: &mut [u8])
     requires { ⌜ (1 ≤ count) × (count ≤ length (now slots)) × (count ≤ 4096) × (length (now page) ≡ p) ⌝ }
     requires { ⌜ ((j : ℕ) → j < count → getD (now slots) j 0 * p + p ≤ length (now store)) ⌝ }
@@ -56,32 +54,6 @@ pub fn sum_to_page(store: &[u8], p: usize, slots: &[usize], count: usize, page: 
             pass.d,
             count - i,
             page,
-            0 < i,
-        );
-        i += MOST_TERMS;
-    }
-}
-
-// The sum goes into a slot of the store that is none of those summed.
-pub fn sum_to_slot(store: &mut [u8], p: usize, to: usize, slots: &[usize], count: usize)
-    requires { ⌜ (1 ≤ count) × (count ≤ length (now slots)) × (count ≤ 4096) × (to * p + p ≤ length (now store)) ⌝ }
-    requires { ⌜ ((j : ℕ) → j < count → getD (now slots) j 0 * p + p ≤ length (now store)) ⌝ }
-    requires { ⌜ ((j : ℕ) → j < count → getD (now slots) j 0 ≢ to) ⌝ }
-    ensures { λ _. ⌜ now (store .exit)
-        ≡ setPart p to (now (store .entry)) (sum (λ t. part p t (now (store .entry))) (take count (now (slots .entry)))) ⌝ }
-{
-    let mut i = 0;
-    while i < count {
-        let four = four_from(slots, count, i);
-        sum_within(
-            store,
-            p,
-            to,
-            four.a,
-            four.b,
-            four.c,
-            four.d,
-            count - i,
             0 < i,
         );
         i += MOST_TERMS;

@@ -1,12 +1,11 @@
-// The page sum, up to four pages in a pass: put into its target or added to what is there. There is a loop for a page outside the store
-// and one for a slot of it, since a slot cannot be lent beside the store that it is part of.
+// The page sum, up to four pages in a pass: put into its target or added to what is there. It is the only routine that sums.
 
 ghost use mathlib.Core.Path.{_≡_};
 ghost use mathlib.Core.Bool.{cond};
 ghost use Prim.Native.Nat.{_+_, _*_, _≤_};
 ghost use lib.Bits.{bitXor};
 ghost use lib.ListN.{length};
-ghost use Rattle.flash.specs.Lists.{part, setPart};
+ghost use Rattle.flash.specs.Lists.{part};
 ghost use Rattle.flash.specs.PageSum.{putOrAdd};
 ghost use Rattle.flash.specs.inner.Terms.{byteSum, termsSum};
 
@@ -37,7 +36,7 @@ fn added(add: bool, old: u8, byte: u8) -> u8
     if add { old ^ byte } else { byte }
 }
 
-// The sum of up to four pages of the store goes into a page outside it.
+// The sum of up to four pages of the store goes into a page.
 pub fn sum_from(
     store: &[u8],
     p: usize,
@@ -68,43 +67,6 @@ pub fn sum_from(
             store[four + i],
         );
         page[i] = added(add, page[i], sum);
-        i += 1;
-    }
-}
-
-// The sum of up to four pages of the store goes into one of its slots.
-pub fn sum_within(
-    store: &mut [u8],
-    p: usize,
-    to: usize,
-    a: usize,
-    b: usize,
-    c: usize,
-    d: usize,
-    terms: usize,
-    add: bool,
-)
-    requires { ⌜ (to * p + p ≤ length (now store)) × (a * p + p ≤ length (now store)) × (b * p + p ≤ length (now store)) ⌝ }
-    requires { ⌜ (c * p + p ≤ length (now store)) × (d * p + p ≤ length (now store)) ⌝ }
-    ensures { λ _. ⌜ now (store .exit) ≡ setPart p to (now (store .entry)) (putOrAdd add (part p to (now (store .entry)))
-        (termsSum terms (part p a (now (store .entry))) (part p b (now (store .entry))) (part p c (now (store .entry)))
-        (part p d (now (store .entry))))) ⌝ }
-{
-    let target = to * p;
-    let one = a * p;
-    let two = b * p;
-    let three = c * p;
-    let four = d * p;
-    let mut i = 0;
-    while i < p {
-        let sum = byte_sum(
-            terms,
-            store[one + i],
-            store[two + i],
-            store[three + i],
-            store[four + i],
-        );
-        store[target + i] = added(add, store[target + i], sum);
         i += 1;
     }
 }

@@ -4,4 +4,3 @@ pub mod WriteSlots
 pub mod RunLaws
 pub mod RefusalLaws
 pub mod ReadLaws
-pub mod LastPageLaws

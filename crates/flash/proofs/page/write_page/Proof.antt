@@ -3,7 +3,6 @@ use mathlib.Core.Path.{refl, ap, _∙_}
 use native.Mathlib.Omega.{arith}
 use lib.ListN.{length-set}
 use Rattle.flash.specs.Lists.{setPart}
-use Rattle.flash.specs.PageSum.{oneOrBoth, putOrAdd}
 use Rattle.flash.specs.Chip.{writePage}
 use Rattle.flash.proofs.Parts.{lent-back}
 use Rattle.flash.proofs.Chips.{chip-eq}
@@ -16,17 +15,17 @@ mul-to c = omega arith
 add-end : tie.Need-add-end
 add-end c = omega arith
 
-sub-put-or-add : tie.Need-sub-put-or-add
-sub-put-or-add c = omega arith
+sub-copy : tie.Need-sub-copy
+sub-copy c = omega arith
 
-part-put-or-add-start : tie.Need-part-put-or-add-start
-part-put-or-add-start c = omega arith
+part-copy-start : tie.Need-part-copy-start
+part-copy-start c = omega arith
 
-part-put-or-add-end : tie.Need-part-put-or-add-end
-part-put-or-add-end c = omega arith
+part-copy-end : tie.Need-part-copy-end
+part-copy-end c = omega arith
 
-put-or-add-requires : tie.Need-put-or-add-requires
-put-or-add-requires c κs = omega arith
+copy-requires : tie.Need-copy-requires
+copy-requires c κs = omega arith
 
 slice-write-marks : tie.Need-slice-write-marks
 slice-write-marks c = omega arith
@@ -38,10 +37,10 @@ same-length-2 : tie.Need-same-length-2
 same-length-2 c = simp length-set
 
 returns : tie.Need-returns
-unfolding writePage putOrAdd oneOrBoth
+unfolding writePage
 returns c =
     let a = c .before .before .before .before .before .before .before .args in
-    let put = c .before .before .put-or-add in
+    let put = c .before .before .copy in
     chip-eq (lent-back (a .p) (a .slot) (a .store .now) (put .last .0) ∙ ap (setPart (a .p) (a .slot) (a .store .now)) (put .ensures)) refl
 
 pub write-page-spec : {M : Type 1} → statement M
@@ -50,10 +49,10 @@ write-page-spec =
     (tie.spec
     mul-to
     add-end
-    sub-put-or-add
-    part-put-or-add-start
-    part-put-or-add-end
-    put-or-add-requires
+    sub-copy
+    part-copy-start
+    part-copy-end
+    copy-requires
     slice-write-marks
     same-length
     same-length-2

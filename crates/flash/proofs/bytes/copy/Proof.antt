@@ -1,0 +1,52 @@
+-- `copy` leaves in one part the bytes of another: a page that goes into its slot.
+use mathlib.Core.Path.{_≡_, refl, _∙_}
+use mathlib.Core.List.{_++_, append-nil}
+use Prim.Native.Nat.{_-_, _≤_}
+use native.Mathlib.Omega.{arith}
+use lib.ListN.{length, take, drop, length-set}
+use lib.Seq.{drop-length, take-all}
+use Rattle.flash.proofs.Loops.{front-more}
+use Rattle.flash.proofs.bytes.copy.Statement.{statement}
+use Rattle.flash.proofs.bytes.copy.Tie as tie
+
+abbrev Inv-loop : tie.InvT-loop
+Inv-loop target₀ source i₀ target i = (target ≡ take i source ++ drop i target₀) × (i ≤ length target₀) × (length target ≡ length target₀)
+
+abbrev μ-loop : tie.MeasureT-loop
+μ-loop target₀ source i₀ target i = length target₀ - i
+
+loop-holds : tie.Need-loop-holds Inv-loop μ-loop
+loop-holds c = (refl, omega arith, refl)
+
+shared-slice-read-target : tie.Need-shared-slice-read-target Inv-loop μ-loop
+shared-slice-read-target c = omega arith
+
+slice-write-target : tie.Need-slice-write-target Inv-loop μ-loop
+slice-write-target c = omega arith
+
+add-i : tie.Need-add-i Inv-loop μ-loop
+add-i c = omega arith
+
+loop-less : tie.Need-loop-less Inv-loop μ-loop
+loop-less c = omega arith
+
+loop-again : tie.Need-loop-again Inv-loop μ-loop
+loop-again c =
+    let l = c .before .before .loop in
+    let start = c .before .before .before in
+    let a = start .args in
+    (rw (l .inv .0) (front-more (a .source .now) (a .target .now) (l .i) (start .pre) (omega arith)), omega arith, simp length-set (omega arith))
+
+same-length : tie.Need-same-length Inv-loop μ-loop
+same-length c = c .before .loop .inv .2
+
+returns : tie.Need-returns Inv-loop μ-loop
+returns c =
+    let l = c .before .loop in
+    let a = c .before .before .args in
+    let short : length (a .source .now) ≤ length (a .target .now) = omega arith in
+    let end : l .i ≡ length (a .target .now) = omega arith in
+    l .inv .0 ∙ rw (end, drop-length, append-nil, take-all)
+
+pub copy-spec : {M : Type 1} → statement M
+copy-spec = tie.close (tie.spec Inv-loop μ-loop loop-holds shared-slice-read-target slice-write-target add-i loop-less loop-again same-length returns)
