@@ -1,6 +1,6 @@
 -- Laws of the mover's definitions, used by the proofs of its functions.
 pub mod StepLaws
-pub mod WriteSlots
 pub mod RunLaws
 pub mod RefusalLaws
+pub mod ToldLaws
 pub mod ReadLaws

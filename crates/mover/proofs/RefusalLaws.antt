@@ -15,10 +15,9 @@ use Rattle.split.specs.OneToOne.{badList, isOneToOne}
 use Rattle.split.specs.Split.{isSplit}
 use Rattle.split.specs.Request.{Request}
 use Rattle.method.specs.Move.{move}
-use Rattle.method.specs.Place.{lastPlace}
 use Rattle.method.specs.Step.{nothingDone}
 use Rattle.method.specs.Answers.{badParts, isElsewhere, moveRows, runRows, RunAnswer, stepsTaken, runCarriedOut, runRefused, runAnswer}
-use Rattle.method.proofs.basics.AcceptedCalls.{parts-ok, run-taken}
+use Rattle.method.proofs.basics.AcceptedCalls.{parts-ok}
 use Rattle.mover.specs.Answers.{ranAs}
 use Rattle.mover.specs.declared.run.RunResult.{RunResult}
 
@@ -86,9 +85,6 @@ module _ (R : Request) (chip : Chip) (work : List ℕ) (place : ℕ) where
       last : (t : Bool) → refusal (record { fits = t; gives = 5 } ∷ []) ≡ cond t 5 0
       last true = refl
       last false = refl
-
-  pub in-place : 0 ≡ refusal (moveRows R chip work []) → false ≡ isElsewhere (R .sizes) chip place → place ≤ lastPlace (R .sizes)
-  in-place e f = run-taken R chip work place (by-place false e f) .stands .inside
 
   module _ (budget : ℕ) where
     -- what a refused run returns; it leaves all as it was

@@ -1,20 +1,25 @@
 -- A run step by step: what one step more leaves and counts.
-use mathlib.Core.Path.{_≡_, refl}
-use mathlib.Core.Bool.{cond}
+use mathlib.Core.Path.{_≡_, refl, sym, ap, _∙_}
+use mathlib.Core.Bool.{true, false, cond}
 use mathlib.Core.List.{List}
-use Prim.Native.Nat.{ℕ, _+_, _-_, _*_, _≤_, _<_, min}
+use Prim.Native.Nat.{ℕ, _+_, _-_, _*_, _/_, _≤_, _<_, min}
+use native.Mathlib.Nat.{mul-assoc}
 use native.Mathlib.Omega.{arith}
 use lib.Dec.{eqb}
+use borrow.Author.Tests.{lt-ltb, le-ltb}
 use Rattle.flash.specs.declared.sizes.Sizes.{Sizes}
 use Rattle.flash.proofs.Bounds.{product-le}
 use Rattle.method.specs.declared.tally.Tally.{Tally}
 use Rattle.method.specs.Move.{Move, AcceptedMove}
-use Rattle.method.specs.Place.{operationAt, lastPlace}
-use Rattle.method.specs.Step.{runningOf, Running, step, steps, nothingDone, tallied, tallyOf, operationsFrom}
+use Rattle.method.specs.Place.{operationAt, lastPlace, passAt, marksOf}
+use Rattle.method.specs.Step.{runningOf, Running, step, steps, nothingDone, tallied, tallyOf, added, operationsFrom}
 use Rattle.method.specs.Answers.{stepsTaken, runCarriedOut}
+use Rattle.method.proofs.basics.AcceptedCalls.{stands-at, at-stands}
 use Rattle.method.proofs.states.StepsAddUp.{steps-add}
-use Rattle.method.proofs.places.Tallies.{tally-next, few-tallied}
-use Rattle.mover.specs.inner.Steps.{mostSteps, FewCounted}
+use Rattle.method.proofs.states.StepsLeadOn.{Stood, steps-stand}
+use Rattle.method.proofs.places.Tallies.{tally-next, tally-split, few-tallied}
+use Rattle.places.specs.inner.Place.{isBackward}
+use Rattle.mover.specs.inner.Steps.{mostSteps, FewCounted, Standing}
 use Rattle.mover.specs.Answers.{ranAs}
 
 pub none-taken : (M : Move) (place : ℕ) (run : Running) → run ≡ steps M 0 place run
@@ -46,6 +51,31 @@ counts-fit M G place i tally h e =
     let counts = few-tallied (M .sizes) i place h in
     rw e (record { steps = omega arith; writes = omega arith; erases = omega arith })
 
+-- ---- the passes: the forward one is the first half of the places
+half-is : (Z : Sizes) → lastPlace Z / 2 ≡ Z .n * (Z .m + 1)
+unfolding lastPlace
+half-is Z = (let e : 2 * Z .n * (Z .m + 1) ≡ 2 * (Z .n * (Z .m + 1)) = mul-assoc 2 (Z .n) (Z .m + 1) in omega arith)
+
+pub pass-forth : (Z : Sizes) (place : ℕ) → place < lastPlace Z / 2 → isBackward (passAt Z place) ≡ false
+unfolding passAt
+pass-forth Z place h = rw (lt-ltb place (Z .n * (Z .m + 1)) (rw (half-is Z) at h))
+
+pub pass-back : (Z : Sizes) (place : ℕ) → lastPlace Z / 2 ≤ place → isBackward (passAt Z place) ≡ true
+unfolding passAt
+pass-back Z place h = rw (le-ltb place (Z .n * (Z .m + 1)) (rw (half-is Z) at h))
+
+-- the steps of both passes, one after the other
+pub both-taken : (M : Move) (place a taken : ℕ) (start run after : Running) → a ≤ taken → run ≡ steps M a place start → after ≡ steps M (taken - a) (place + a) run → after ≡ steps M taken place start
+both-taken M place a taken start run after h e f =
+    let sum : a + (taken - a) ≡ taken = omega arith in
+    f ∙ rw e (sym (steps-add M a (taken - a) place start)) ∙ ap (λ (x : ℕ). steps M x place start) sum
+
+pub both-counted : (Z : Sizes) (place a taken : ℕ) (one two tally : Tally) → a ≤ taken → one ≡ tallyOf (operationsFrom Z place a) → two ≡ tallyOf (operationsFrom Z (place + a) (taken - a))
+    → tally ≡ added one two → tally ≡ tallyOf (operationsFrom Z place taken)
+both-counted Z place a taken one two tally h e f g =
+    let sum : a + (taken - a) ≡ taken = omega arith in
+    g ∙ rw (e, f) (sym (tally-split Z place a (taken - a))) ∙ ap (λ (x : ℕ). tallyOf (operationsFrom Z place x)) sum
+
 -- ---- the answer of a run that is carried out
 pub carried : (M : Move) (store marks work : List ℕ) (place budget last taken : ℕ) (store′ marks′ work′ : List ℕ) (tally : Tally) (finished : ℕ)
     → last ≡ lastPlace (M .sizes) → taken ≡ min budget (last - place) → finished ≡ cond (eqb (place + taken) last) 1 0
@@ -56,3 +86,16 @@ unfolding runCarriedOut stepsTaken
 carried M store marks work place budget last taken store′ marks′ work′ tally finished e f g L C =
     let t : taken ≡ min budget (lastPlace (M .sizes) - place) = rw e at f in
     rw (← t, ← e, g, C, ← L)
+
+-- ---- a run that goes on: after so many steps it stands at the place that they lead to
+pub marks-here : (M : Move) (run : Running) (place : ℕ) → Standing M run place → run .chip .marks ≡ marksOf (M .sizes) place
+marks-here M run place S = stands-at (M .sizes) (run .chip) place (S .here) .marks
+
+pub goes-on : (M : Move) (run : Running) (place : ℕ) → Standing M run place → (i : ℕ) → place + i ≤ lastPlace (M .sizes) → (after : Running) → after ≡ steps M i place run → Standing M after (place + i)
+goes-on M run place S i h after e =
+    let A = S .given in
+    let stood = steps-stand M A i place run h (record { lent = S .lent; stands = stands-at (M .sizes) (run .chip) place (S .here) }) in
+    rw e (record { given = A; lent = stood .lent; here = at-stands (M .sizes) (steps M i place run .chip) (place + i) (stood .stands) })
+
+pub in-move : (M : Move) (run : Running) (place : ℕ) → Standing M run place → place ≤ lastPlace (M .sizes)
+in-move M run place S = stands-at (M .sizes) (run .chip) place (S .here) .inside

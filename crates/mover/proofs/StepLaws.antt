@@ -1,76 +1,68 @@
--- What a step does: the slots that are summed for a write, and the operation that a place has.
-use mathlib.Core.Path.{_≡_, sym, ap, _∙_, subst}
-use mathlib.Core.Bool.{true, false}
-use mathlib.Core.List.{List, _++_, append-nil}
-use Prim.Native.Nat.{ℕ, _+_, _-_, _*_, _≤_, _<_}
+-- What a step does: what a write sums, and the operation that a place has.
+use mathlib.Core.Path.{_≡_, refl, sym, ap, _∙_, subst}
+use mathlib.Core.Logic.{⊎-elim}
+use mathlib.Core.Bool.{Bool, true, false}
+use mathlib.Core.List.{List}
+use Prim.Native.Nat.{ℕ, suc, _+_, _-_, _*_, _≤_, _<_, min}
+use native.Mathlib.Numerals.{add-one}
 use native.Mathlib.Omega.{arith}
-use lib.ListN.{take, drop}
-use lib.Seq.{drop-drop}
-use Rattle.flash.specs.Lists.{concatMap, part}
+use lib.ListN.{getD, take, drop}
+use Rattle.flash.specs.Lists.{part}
 use Rattle.flash.specs.declared.sizes.Sizes.{Sizes}
 use Rattle.flash.specs.Geometry.{slot, numberAt}
 use Rattle.flash.specs.PageSum.{sum}
 use Rattle.flash.specs.Chip.{Chip, pageAt, writePage, eraseBlock}
+use Rattle.flash.proofs.Comparisons.{lt-cases}
+use Rattle.split.specs.Split.{setOf}
+use Rattle.split.specs.inner.Rows.{ByDestination}
 use Rattle.method.specs.declared.tally.Tally.{Tally}
 use Rattle.method.specs.Move.{Move, AcceptedMove}
-use Rattle.method.specs.Cycle.{D, pred, isTop, coded, sentTo}
-use Rattle.method.specs.Place.{Pass, forward, backward, Operation, write, erase, markOf, operationAt, written}
-use Rattle.method.specs.Read.{readSlots}
-use Rattle.method.specs.State.{heldOriginals}
-use Rattle.method.specs.Step.{runningOf, originalsOf, writeSlots, writtenPage, perform, Running, step, tallied}
-use Rattle.method.proofs.basics.Indexes.{slot-lt}
-use Rattle.method.proofs.cycles.SetCycles.{sent-in}
-use Rattle.walk.specs.inner.Slots.{Appends}
-
--- slots put behind slots
-pub appends-twice : (one two three more others : List ℕ) (a b : ℕ) → Appends one 0 more two a → Appends two a others three b → take b three ≡ more ++ others
-appends-twice one two three more others a b A B = B .slots-are ∙ ap (λ (xs : List ℕ). xs ++ others) (A .slots-are)
-
-pub rest-twice : (one two three more others : List ℕ) (a b : ℕ) → Appends one 0 more two a → Appends two a others three b → drop b three ≡ drop b one
-rest-twice one two three more others a b A B =
-    let e : a + (b - a) ≡ b = omega (arith, B .some) in
-    B .rest-is ∙ subst (λ (k : ℕ). drop k two ≡ drop k one) e (sym (drop-drop (b - a) a two) ∙ ap (drop (b - a)) (A .rest-is) ∙ drop-drop (b - a) a one)
-
-module _ (M : Move) (G : AcceptedMove M) (block page : ℕ) (page-in : page < M .sizes .m) where
-  open Sizes (M .sizes) using (n, m)
-
-  -- a page of a data block has a number
-  number-lt : 1 ≤ block → block ≤ n → numberAt m block page < n * m
-  number-lt low high = slot-lt m (block - 1) page n (omega arith) page-in
-
-  pub sent-lt : (k : ℕ) → 1 ≤ block → block ≤ n → k ≡ sentTo M (numberAt m block page) → k < n * m
-  sent-lt k low high e = rw e (sent-in M G (numberAt m block page) (number-lt low high))
-
-  -- the slots of a write
-  module _ (marks : List ℕ) where
-    pub final-slots : (k : ℕ) → k ≡ sentTo M (numberAt m block page) → writeSlots M backward block page marks ≡ readSlots M marks k
-    unfolding writeSlots originalsOf written heldOriginals concatMap
-    final-slots k e = rw (← e) (append-nil (readSlots M marks k))
-
-    pub top-slots : (k : ℕ) → k ≡ D M page (block + 1) → isTop M page (block + 1) ≡ true → writeSlots M forward block page marks ≡ readSlots M marks k
-    unfolding writeSlots originalsOf written heldOriginals concatMap coded
-    top-slots k e t = rw (t, ← e) (append-nil (readSlots M marks k))
-
-    pub code-slots : (k u j : ℕ) → k ≡ D M page (block + 1) → u ≡ pred M page (block + 1) → j ≡ D M page u → isTop M page (block + 1) ≡ false
-        → writeSlots M forward block page marks ≡ readSlots M marks k ++ readSlots M marks j
-    unfolding writeSlots originalsOf written heldOriginals concatMap coded
-    code-slots k u j e f g t =
-        rw (t, ← e, ← f, ← g) (ap (λ (xs : List ℕ). readSlots M marks k ++ xs) (append-nil (readSlots M marks j)))
+use Rattle.method.specs.Cycle.{sentTo}
+use Rattle.method.specs.Place.{Pass, forward, backward, Operation, write, erase, markOf, lastPlace, operationAt, passAt, filling, filled, marksOf}
+use Rattle.method.specs.Step.{runningOf, writeSlots, writtenPage, perform, Running, step, tallied}
+use Rattle.method.proofs.basics.Indexes.{clash, slot-lt}
+use Rattle.method.proofs.cycles.SetCycles.{set-in, sent-in, entry-sent}
+use Rattle.method.proofs.places.PagesHeld.{Change, by-write, by-erase, change, MarksAt, marksOf-at}
+use Rattle.method.proofs.places.PlaceShape.{letterAbove, shape-filling}
+use Rattle.method.proofs.places.StepsAtPlaces.{operation-done}
+use Rattle.places.specs.inner.Place.{isBackward, passOf}
+use Rattle.walk.specs.inner.Moments.{Tells, momentIn}
+use Rattle.walk.specs.inner.Rows.{rowLength}
+use Rattle.walk.specs.inner.Slots.{SumsAs}
+use Rattle.walk.proofs.MomentLaws.{tells}
 
 -- ---- a write
 module _ (M : Move) (pass : Pass) (block page : ℕ) (store marks work : List ℕ) where
   open Sizes (M .sizes) using (m, p as P)
 
-  pub written-is : (slots new : List ℕ) (count : ℕ) → new ≡ sum (λ t. part P t store) (take count slots) → take count slots ≡ writeSlots M pass block page marks
+  pub written-is : (slots new : List ℕ) (count : ℕ) → new ≡ sum (λ t. part P t store) (take count slots) → SumsAs (take count slots) (writeSlots M pass block page marks)
       → new ≡ writtenPage M pass block page (record { store = store; marks = marks })
   unfolding writtenPage pageAt
-  written-is slots new count e f = e ∙ ap (sum (λ t. part P t store)) f
+  written-is slots new count e S = e ∙ S .sums (λ t. part P t store)
 
   pub wrote : (new store′ marks′ : List ℕ) (mark : ℕ) → new ≡ writtenPage M pass block page (record { store = store; marks = marks }) → mark ≡ markOf (M .sizes) pass
       → _≡_ {A = Chip} (record { store = store′; marks = marks′ }) (writePage P (slot m block page) new mark (record { store = store; marks = marks }))
       → runningOf store′ marks′ new ≡ perform M (write pass block page) (runningOf store marks work)
   unfolding perform
   wrote new store′ marks′ mark e f g = rw (← e, ← f, ← g)
+
+-- the set of the page that goes to a page of a block, and the row of a set in a table
+pub set-sent : (M : Move) → AcceptedMove M → (other : List ℕ) → ByDestination (M .list) (M .sets) other → (b page : ℕ) → 1 ≤ b → b ≤ M .sizes .n → page < M .sizes .m
+    → (getD other (numberAt (M .sizes .m) b page) 0 ≡ setOf (M .sets) (sentTo M (numberAt (M .sizes .m) b page))) × (getD other (numberAt (M .sizes .m) b page) 0 < M .sizes .m)
+unfolding setOf
+set-sent M A other D b page low high page-ok =
+    let m = M .sizes .m in
+    let number : ℕ = numberAt m b page in
+    let number-in = slot-lt m (b - 1) page (M .sizes .n) (omega arith) page-ok in
+    let k : ℕ = sentTo M number in
+    let k-in = sent-in M A number number-in in
+    let set-lt = set-in M A k k-in in
+    let there : getD other number 0 ≡ min (getD (M .sets) k 0) 64 = rw (entry-sent M A number number-in) at (D k (rw (A .list-length) k-in)) in
+    (omega (arith, A .ranges .m-high), omega (arith, A .ranges .m-high))
+
+pub row-is : (table : List ℕ) (row : ℕ) → take (row * rowLength + rowLength - row * rowLength) (drop (row * rowLength) table) ≡ part rowLength row table
+unfolding part
+row-is table row = (let e : row * rowLength + rowLength - row * rowLength ≡ rowLength = omega arith in rw e)
 
 -- ---- the other steps, and the step at a place
 pub erased : (M : Move) (block : ℕ) (store marks work store′ marks′ : List ℕ)
@@ -84,3 +76,34 @@ pub stepped : (M : Move) (at : ℕ) (op : Operation) → operationAt (M .sizes) 
     → (after ≡ step M at run) × (next ≡ tallied (operationAt (M .sizes) at) tally)
 unfolding step
 stepped M at op is run after tally next e f = rw is (e, f)
+
+-- ---- what is known where a page is written: the pass, and what the other blocks are full of
+module _ (M : Move) (A : AcceptedMove M) (at : ℕ) (marks : List ℕ) (is : marks ≡ marksOf (M .sizes) at) where
+  open Sizes (M .sizes) using (n, m)
+
+  pub record WriteKnown (t : Bool) (b : ℕ) : Type 0 where
+    pub pass-is : isBackward (passAt (M .sizes) at) ≡ t
+    pub moment-is : Tells M marks (momentIn t n b (b + 1))
+
+  filling-tells : at ≤ lastPlace (M .sizes) → filled (M .sizes) at < m → (t : Bool) (b : ℕ) → passAt (M .sizes) at ≡ passOf t → filling (M .sizes) at ≡ b → WriteKnown t b
+  filling-tells h room true b p f = record {
+    pass-is = ap isBackward p;
+    moment-is = tells M A marks true b (b + 1) (rw (p, f, ← add-one b) at (shape-filling (M .sizes) at h marks (subst (MarksAt (M .sizes) at) (sym is) (marksOf-at (M .sizes) at)) room));
+  }
+  filling-tells h room false b p f = record {
+    pass-is = ap isBackward p;
+    moment-is = tells M A marks false b (b + 1) (rw (p, f, ← add-one b) at (shape-filling (M .sizes) at h marks (subst (MarksAt (M .sizes) at) (sym is) (marksOf-at (M .sizes) at)) room));
+  }
+
+  by-change : at < lastPlace (M .sizes) → Change (M .sizes) at → (t : Bool) (b q : ℕ) → operationAt (M .sizes) at ≡ write (passOf t) b q → WriteKnown t b
+  by-change h (by-write room op W) t b q e =
+      let p : passAt (M .sizes) at ≡ passOf t = cc in
+      let f : filling (M .sizes) at ≡ b = cc in
+      filling-tells (omega arith) room t b p f
+  by-change h (by-erase full op E) t b q e = let z : _≡_ {A = ℕ} 0 1 = cc in absurd (clash z)
+
+  pub write-known : (t : Bool) (b q : ℕ) → operationAt (M .sizes) at ≡ write (passOf t) b q → WriteKnown t b
+  write-known t b q e = ⊎-elim
+      (λ (h : at < lastPlace (M .sizes)). by-change h (change (M .sizes) at h) t b q e)
+      (λ (h : lastPlace (M .sizes) ≤ at). absurd (clash (let f = operation-done (M .sizes) at h in (cc))))
+      (lt-cases at (lastPlace (M .sizes)))

@@ -1,15 +1,17 @@
 // One step of the move: a page is written or a block is erased.
 ghost use mathlib.Core.Path.{_≡_};
 ghost use mathlib.Core.Bool.{true, false};
-ghost use Prim.Native.Nat.{_+_, _*_, _≤_, _<_};
-ghost use lib.ListN.{length, take, drop};
-ghost use Rattle.method.specs.Move.{moveOf, Lent};
-ghost use Rattle.method.specs.Place.{operationAt, write as writing, markOf};
+ghost use Prim.Native.Nat.{_+_, _≤_, _<_};
+ghost use lib.ListN.{length};
+ghost use Rattle.flash.specs.inner.Reciprocal.{reciprocalOf};
+ghost use Rattle.method.specs.Move.{moveOf, AcceptedMove, Lent};
+ghost use Rattle.method.specs.Place.{passAt, marksOf, operationAt, write as writing, markOf};
 ghost use Rattle.method.specs.Step as method;
-ghost use Rattle.method.specs.Step.{runningOf, writeSlots, perform, tallied};
-ghost use Rattle.walk.specs.inner.Moving.{Tables};
-ghost use Rattle.places.specs.inner.Place.{passOf, placeOf};
-ghost use Rattle.mover.specs.inner.Steps.{FewCounted};
+ghost use Rattle.method.specs.Step.{runningOf, perform, tallied};
+ghost use Rattle.walk.specs.inner.Moments.{Tells, momentIn};
+ghost use Rattle.walk.specs.inner.Slots.{slotsLength};
+ghost use Rattle.places.specs.inner.Place.{isBackward, passOf, placeOf};
+ghost use Rattle.mover.specs.inner.Steps.{PassTables, ForWrite, FewCounted};
 use crate::tally::one_erase;
 use crate::tally::one_write;
 use flash::block::erase_block;
@@ -20,54 +22,57 @@ use flash::slots::sum_to_page;
 use method::tally::Tally;
 use places::place::Op;
 use places::place::Place;
-use walk::cycles::is_top;
-use walk::cycles::page_of;
-use walk::cycles::sent_to;
-use walk::walk::read_slots;
+use walk::rows::ROW;
+use walk::walk::SLOTS;
+use walk::walk::backward_slots;
+use walk::walk::forward_slots;
 
-// The slots whose pages are summed for a write: in the backward pass those of the original that the list sends there, in the
-// forward pass those of D(i), and of D(pred(i)) unless i is the top.
+// The slots whose pages are summed for a write. The block that is being filled tells what the others are full of, so that the
+// marks are not looked at.
 fn write_slots(
     sizes: Sizes,
+    by: usize,
     list: &[u16],
     sets: &[u8],
-    pages: &[u8; 4096],
-    from: &[u8; 4096],
-    marks: &[u8],
+    pages: &[u8],
+    other: &[u8],
     backward: bool,
     block: usize,
     page: usize,
-    slots: &mut [usize],
+    slots: &mut [usize; SLOTS],
 ) -> usize
-    requires { ⌜ Tables (moveOf sizes (now list) (now sets)) (now pages) (now from) × (length (now marks) ≡ (sizes .n + 1) * sizes .m)
-        × (length (now slots) ≡ 130) ⌝ }
+    requires { ⌜ AcceptedMove (moveOf sizes (now list) (now sets)) × PassTables (moveOf sizes (now list) (now sets)) backward (now pages) (now other)
+        × (by ≡ reciprocalOf (sizes .m))
+        × (length (now slots) ≡ slotsLength) ⌝ }
     requires { ⌜ (page < sizes .m) × (block ≤ sizes .n) × (backward ≡ true → 1 ≤ block) × (backward ≡ false → block + 1 ≤ sizes .n) ⌝ }
-    ensures { λ r. ⌜ (take r (now (slots .exit))
-        ≡ writeSlots (moveOf sizes (now (list .entry)) (now (sets .entry))) (passOf backward) block page (now (marks .entry))) × (1 ≤ r)
-        × (r ≤ 130) × (drop r (now (slots .exit)) ≡ drop r (now (slots .entry))) ⌝ }
+    ensures { λ r. ⌜ ForWrite (moveOf sizes (now (list .entry)) (now (sets .entry))) backward block page (now (slots .exit)) r ⌝ }
 {
     if backward {
-        let k = sent_to(sizes, list, sets, pages, from, block, page);
-        return read_slots(sizes, list, sets, pages, from, marks, k, slots, 0);
+        let set = wide(other[(block - 1) * sizes.m + page]);
+        let row = set * ROW;
+        let end = row + ROW;
+        return backward_slots(sizes, by, list, set, &pages[row..end], block, slots);
     }
-    let i = block + 1;
-    let k = page_of(sizes, pages, page, i);
-    let count = read_slots(sizes, list, sets, pages, from, marks, k, slots, 0);
-    if is_top(sizes, from, page, i) {
-        return count;
-    }
-    let u = wide(from[block * sizes.m + page]);
-    let k = page_of(sizes, pages, page, u);
-    read_slots(sizes, list, sets, pages, from, marks, k, slots, count)
+    let row = page * ROW;
+    let end = row + ROW;
+    forward_slots(
+        sizes,
+        page,
+        &pages[row..end],
+        &other[row..end],
+        block + 1,
+        slots,
+    )
 }
 
 // Writes a page with its mark, by way of the work page.
 fn write(
     sizes: Sizes,
+    by: usize,
     list: &[u16],
     sets: &[u8],
-    pages: &[u8; 4096],
-    from: &[u8; 4096],
+    pages: &[u8],
+    other: &[u8],
     store: &mut [u8],
     marks: &mut [u8],
     work: &mut [u8],
@@ -76,22 +81,24 @@ fn write(
     page: usize,
     mark: u8,
 )
-    requires { ⌜ Tables (moveOf sizes (now list) (now sets)) (now pages) (now from)
-        × Lent sizes (record { store = now store; marks = now marks }) (now work) ⌝ }
+    requires { ⌜ AcceptedMove (moveOf sizes (now list) (now sets)) × PassTables (moveOf sizes (now list) (now sets)) backward (now pages) (now other)
+        × (by ≡ reciprocalOf (sizes .m))
+        × Lent sizes (record { store = now store; marks = now marks }) (now work)
+        × Tells (moveOf sizes (now list) (now sets)) (now marks) (momentIn backward (sizes .n) block (block + 1)) ⌝ }
     requires { ⌜ (page < sizes .m) × (block ≤ sizes .n) × (backward ≡ true → 1 ≤ block) × (backward ≡ false → block + 1 ≤ sizes .n)
         × (mark ≡ markOf sizes (passOf backward)) ⌝ }
     ensures { λ _. ⌜ runningOf (now (store .exit)) (now (marks .exit)) (now (work .exit))
         ≡ perform (moveOf sizes (now (list .entry)) (now (sets .entry))) (writing (passOf backward) block page)
         (runningOf (now (store .entry)) (now (marks .entry)) (now (work .entry))) ⌝ }
 {
-    let mut slots = [0usize; 130];
+    let mut slots = [0usize; SLOTS];
     let count = write_slots(
         sizes,
+        by,
         list,
         sets,
         pages,
-        from,
-        marks,
+        other,
         backward,
         block,
         page,
@@ -104,19 +111,22 @@ fn write(
 // Does the step at a place, and counts it.
 pub fn step(
     sizes: Sizes,
+    by: usize,
     list: &[u16],
     sets: &[u8],
-    pages: &[u8; 4096],
-    from: &[u8; 4096],
+    pages: &[u8],
+    other: &[u8],
     store: &mut [u8],
     marks: &mut [u8],
     work: &mut [u8],
     place: Place,
     tally: Tally,
 ) -> Tally
-    requires { ⌜ Tables (moveOf sizes (now list) (now sets)) (now pages) (now from)
-        × Lent sizes (record { store = now store; marks = now marks }) (now work) ⌝ }
-    requires { ⌜ FewCounted tally × (place ≡ placeOf sizes (place .at)) ⌝ }
+    requires { ⌜ AcceptedMove (moveOf sizes (now list) (now sets))
+        × PassTables (moveOf sizes (now list) (now sets)) (isBackward (passAt sizes (place .at))) (now pages) (now other)
+        × (by ≡ reciprocalOf (sizes .m)) ⌝ }
+    requires { ⌜ Lent sizes (record { store = now store; marks = now marks }) (now work) × (now marks ≡ marksOf sizes (place .at))
+        × FewCounted tally × (place ≡ placeOf sizes (place .at)) ⌝ }
     ensures { λ _. ⌜ runningOf (now (store .exit)) (now (marks .exit)) (now (work .exit))
         ≡ method.step (moveOf sizes (now (list .entry)) (now (sets .entry))) (place .at)
         (runningOf (now (store .entry)) (now (marks .entry)) (now (work .entry))) ⌝ }
@@ -131,10 +141,11 @@ pub fn step(
         } => {
             write(
                 sizes,
+                by,
                 list,
                 sets,
                 pages,
-                from,
+                other,
                 store,
                 marks,
                 work,

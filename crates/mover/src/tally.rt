@@ -1,6 +1,6 @@
 // What a run counts, step by step.
 ghost use mathlib.Core.Path.{_≡_};
-ghost use Rattle.method.specs.Step.{nothingDone, oneWrite, oneErase};
+ghost use Rattle.method.specs.Step.{nothingDone, oneWrite, oneErase, added};
 ghost use Rattle.mover.specs.inner.Steps.{FewCounted};
 use method::tally::Tally;
 
@@ -33,5 +33,16 @@ pub fn one_erase(tally: Tally) -> Tally
         steps: tally.steps + 1,
         writes: tally.writes,
         erases: tally.erases + 1,
+    }
+}
+
+pub fn together(one: Tally, two: Tally) -> Tally
+    requires { ⌜ FewCounted one × FewCounted two ⌝ }
+    ensures { λ r. ⌜ r ≡ added one two ⌝ }
+{
+    Tally {
+        steps: one.steps + two.steps,
+        writes: one.writes + two.writes,
+        erases: one.erases + two.erases,
     }
 }

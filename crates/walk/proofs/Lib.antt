@@ -1,4 +1,11 @@
-pub mod CycleLaws
-pub mod TopLaws
-pub mod WalkLaws
-pub mod SlotLaws
+-- The laws behind the proofs of this crate.
+pub mod BackLaws
+pub mod BackwardLaws
+pub mod ForwardLaws
+pub mod GatherLaws
+pub mod MomentLaws
+pub mod OnLaws
+pub mod ReadLaws
+pub mod RoundLaws
+pub mod RowLaws
+pub mod TableLaws

@@ -1,3 +1,6 @@
--- How the code works inside: the tables of the cycles and the slots gathered. Nothing here has to be believed.
-pub mod Moving
+-- How the code works inside: rows and tables of the sets, the walks along them, the moment. Nothing here has to be believed.
+pub mod Moments
+pub mod Rows
 pub mod Slots
+pub mod Tables
+pub mod Walks

@@ -1,5 +1,6 @@
 // The cycles of a set, and the walks along them that rebuild an original from the blocks that are full.
 // A function here may have a `requires`: only the crates above call it, and their proofs show it.
 
-pub mod cycles;
+pub mod moment;
+pub mod rows;
 pub mod walk;

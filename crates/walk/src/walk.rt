@@ -1,193 +1,218 @@
-// Read's rules 1 to 3: the slots whose pages are summed for an original. They follow from the marks; no byte is looked at.
-// A move is handed on whole, as `sizes`, `list` and `sets`, and so are its tables: contracts speak of all of it, also where the code
-// needs a part only.
+// The walks of read's rules 2 and 3 along the rows of a set. A walk gathers slots; no byte and no mark is looked at.
 ghost use mathlib.Core.Path.{_≡_};
-ghost use mathlib.Core.Bool.{cond, _||_};
-ghost use Prim.Native.Nat.{_+_, _-_, _*_, _≤_, _<_};
-ghost use lib.ListN.{length, getD};
-ghost use Rattle.method.specs.Move.{moveOf};
-ghost use Rattle.flash.specs.Lists.{range, any};
-ghost use Rattle.flash.specs.Geometry.{slotOf, letter};
-ghost use Rattle.flash.specs.Chip.{isFull};
-ghost use Rattle.method.specs.Cycle as method;
-ghost use Rattle.method.specs.Read.{goBack, goOn, readSlots};
-ghost use Rattle.walk.specs.inner.Moving.{Tables};
-ghost use Rattle.walk.specs.inner.Slots.{Appends};
-use crate::cycles::goes_to;
-use crate::cycles::page_of;
-use crate::cycles::top_of;
-use flash::block::is_full;
+ghost use mathlib.Core.List.{List};
+ghost use Prim.Native.Nat.{ℕ, _*_, _≤_, _<_};
+ghost use lib.ListN.{length, take};
+ghost use Rattle.flash.specs.inner.Reciprocal.{reciprocalOf};
+ghost use Rattle.method.specs.Move.{moveOf, AcceptedMove};
+ghost use Rattle.method.specs.Read.{readSlots};
+ghost use Rattle.walk.specs.inner.Moments.{Tells};
+ghost use Rattle.walk.specs.inner.Rows.{PagesIn, BlocksIn, ListIn};
+ghost use Rattle.walk.specs.inner.Slots.{slotsLength, Appends};
+ghost use Rattle.walk.specs.inner.Walks.{backBy, onBy, topBy, forwardBy, backwardBy};
+use crate::moment::Moment;
+use crate::rows::ROW;
+use crate::rows::set_rows;
 use flash::casts::entry;
 use flash::casts::wide;
+use flash::quotient::quotient;
+use flash::quotient::reciprocal;
 use flash::sizes::Sizes;
-use flash::sizes::letter_after;
 
-// Whether the block is full of the letter that comes i after s. Its first mark tells most blocks that are not.
-pub fn full_of(sizes: Sizes, marks: &[u8], i: usize, block: usize) -> bool
-    requires { ⌜ (1 ≤ sizes .m) × (sizes .s < 3) × (i < 3) × (block * sizes .m + sizes .m ≤ length (now marks)) ⌝ }
-    ensures { λ r. ⌜ r ≡ isFull (sizes .m) (now (marks .entry)) block (letter sizes i) ⌝ }
-{
-    let m = sizes.m;
-    let letter = letter_after(sizes, i);
-    if marks[block * m] == letter {
-        is_full(marks, m, block, letter)
-    } else {
-        false
-    }
-}
+// A walk meets each block of its cycle once at most, and a write has a page more.
+pub const SLOTS: usize = 65;
 
-// Where original k lies: before the move, or after it.
-fn home(list: &[u16], m: usize, k: usize, after: bool) -> usize
-    requires { ⌜ (1 ≤ m) × (m ≤ 64) × (k < length (now list)) × (length (now list) ≤ 4096) ⌝ }
-    ensures { λ r. ⌜ r ≡ slotOf m (cond after (getD (now (list .entry)) k 0) k) ⌝ }
+// The top of block v's cycle: the highest block that is met on the way back to v.
+pub fn top_of(n: usize, sources: &[u8], v: usize) -> usize
+    requires { ⌜ BlocksIn n (now sources) × (n ≤ 64) × (1 ≤ v) × (v ≤ n) ⌝ }
+    ensures { λ r. ⌜ r ≡ topBy (now (sources .entry)) v n v v ⌝ }
 {
-    if after { entry(list[k]) + m } else { k + m }
-}
-
-// Rule 2's test: c(top) lies in a block full of s + 1, or blocks full of s exist.
-fn goes_back(sizes: Sizes, marks: &[u8], top: usize) -> bool
-    requires { ⌜ (1 ≤ sizes .m) × (sizes .n ≤ 64) × (sizes .s < 3) × (1 ≤ top) × (top ≤ sizes .n) × (length (now marks) ≡ (sizes .n + 1) * sizes .m) ⌝ }
-    ensures { λ r. ⌜ r ≡ (isFull (sizes .m) (now (marks .entry)) (top - 1) (letter sizes 1) || any
-        (λ block. isFull (sizes .m) (now (marks .entry)) block (letter sizes 0)) (range 0 (sizes .n + 1))) ⌝ }
-{
-    if full_of(sizes, marks, 1, top - 1) {
-        return true;
-    }
-    let mut block = 0;
-    while block <= sizes.n {
-        if full_of(sizes, marks, 0, block) {
-            return true;
+    let mut top = v;
+    let mut u = v;
+    let mut left = n;
+    while 0 < left {
+        u = wide(sources[u - 1]);
+        if u == v {
+            return top;
         }
-        block += 1;
+        if top < u {
+            top = u;
+        }
+        left -= 1;
     }
-    false
+    top
 }
 
-// Rule 2, from block v of a set on: goes back until the top, or a block that is full of s.
-fn go_back(
+// Back from block `start` of a set. The slots are put behind the first `at`; how many there are then.
+pub fn go_back(
     sizes: Sizes,
-    list: &[u16],
-    sets: &[u8],
-    pages: &[u8; 4096],
-    from: &[u8; 4096],
-    marks: &[u8],
-    top: usize,
     set: usize,
+    pages: &[u8],
+    sources: &[u8],
+    plain: usize,
+    stop: usize,
     start: usize,
-    slots: &mut [usize],
+    slots: &mut [usize; SLOTS],
     at: usize,
 ) -> usize
-    requires { ⌜ Tables (moveOf sizes (now list) (now sets)) (now pages) (now from) ⌝ }
-    requires { ⌜ (length (now marks) ≡ (sizes .n + 1) * sizes .m) × (set < sizes .m) × (1 ≤ start) × (start ≤ sizes .n) ⌝ }
-    requires { ⌜ (method.top (moveOf sizes (now list) (now sets)) set start ≡ top) × (length (now slots) ≡ 130) × (at ≤ 65) ⌝ }
+    requires { ⌜ PagesIn (sizes .n) (sizes .m) (now pages) × BlocksIn (sizes .n) (now sources) × (1 ≤ start) × (start ≤ sizes .n) ⌝ }
+    requires { ⌜ (sizes .n ≤ 64) × (sizes .m ≤ 64) × (set < sizes .m) × (length (now slots) ≡ slotsLength) × (at ≤ 1) ⌝ }
     ensures { λ r. ⌜ Appends (now (slots .entry)) at
-        (goBack (moveOf sizes (now (list .entry)) (now (sets .entry))) (now (marks .entry)) set (sizes .n) start) (now (slots .exit)) r ⌝ }
+        (backBy (sizes .m) set (now (pages .entry)) (now (sources .entry)) plain stop (sizes .n) start) (now (slots .exit)) r ⌝ }
 {
     let m = sizes.m;
     let mut v = start;
     let mut count = at;
-    let mut turns = 0;
-    while turns < sizes.n {
-        let entry = (v - 1) * m + set;
-        slots[count] = entry;
-        count += 1;
-        if v == top {
-            return count;
-        }
-        v = wide(from[entry]);
-        if full_of(sizes, marks, 0, v) {
-            slots[count] = home(list, m, page_of(sizes, pages, set, v), false);
+    let mut left = sizes.n;
+    while 0 < left {
+        if plain <= v {
+            slots[count] = v * m + wide(pages[v - 1]);
             return count + 1;
         }
-        turns += 1;
-    }
-    count
-}
-
-// Rule 3, from block v of a set on: goes on until the next destination block is full of s + 2.
-fn go_on(
-    sizes: Sizes,
-    list: &[u16],
-    sets: &[u8],
-    pages: &[u8; 4096],
-    from: &[u8; 4096],
-    marks: &[u8],
-    set: usize,
-    start: usize,
-    slots: &mut [usize],
-    at: usize,
-) -> usize
-    requires { ⌜ Tables (moveOf sizes (now list) (now sets)) (now pages) (now from) ⌝ }
-    requires { ⌜ (length (now marks) ≡ (sizes .n + 1) * sizes .m) × (set < sizes .m) × (1 ≤ start) × (start ≤ sizes .n) ⌝ }
-    requires { ⌜ (length (now slots) ≡ 130) × (at ≤ 65) ⌝ }
-    ensures { λ r. ⌜ Appends (now (slots .entry)) at
-        (goOn (moveOf sizes (now (list .entry)) (now (sets .entry))) (now (marks .entry)) set (sizes .n) start) (now (slots .exit)) r ⌝ }
-{
-    let m = sizes.m;
-    let mut v = start;
-    let mut next = goes_to(list, m, page_of(sizes, pages, set, v));
-    let mut count = at;
-    let mut turns = 0;
-    while turns < sizes.n {
-        v = next;
         slots[count] = (v - 1) * m + set;
         count += 1;
-        let k = page_of(sizes, pages, set, v);
-        next = goes_to(list, m, k);
-        if full_of(sizes, marks, 2, next) {
-            slots[count] = home(list, m, k, true);
-            return count + 1;
+        if v == stop {
+            return count;
         }
-        turns += 1;
+        v = wide(sources[v - 1]);
+        left -= 1;
     }
     count
 }
 
-// The slots of original k are put behind the first `at`; how many there are then. "Start with v = k's block, in k's set."
+// On from page number `start`, whose page is the set's. The slots are put behind the first `at`; how many there are then.
+pub fn go_on(
+    sizes: Sizes,
+    by: usize,
+    list: &[u16],
+    set: usize,
+    pages: &[u8],
+    done: usize,
+    stop: usize,
+    start: usize,
+    slots: &mut [usize; SLOTS],
+    at: usize,
+) -> usize
+    requires { ⌜ PagesIn (sizes .n) (sizes .m) (now pages) × ListIn (sizes .n) (sizes .m) (now list) × (start < sizes .n * sizes .m)
+        × (by ≡ reciprocalOf (sizes .m)) ⌝ }
+    requires { ⌜ (sizes .n ≤ 64) × (sizes .m ≤ 64) × (set < sizes .m) × (length (now slots) ≡ slotsLength) × (at ≤ 1) ⌝ }
+    ensures { λ r. ⌜ Appends (now (slots .entry)) at
+        (onBy (sizes .m) (now (list .entry)) set (now (pages .entry)) done stop (sizes .n) start) (now (slots .exit)) r ⌝ }
+{
+    let m = sizes.m;
+    let mut to = start;
+    let mut count = at;
+    let mut left = sizes.n;
+    while 0 < left {
+        let w = quotient(to, m, by) + 1;
+        if done <= w {
+            slots[count] = to + m;
+            return count + 1;
+        }
+        if w == stop {
+            return count;
+        }
+        let first = (w - 1) * m;
+        slots[count] = first + set;
+        count += 1;
+        to = entry(list[first + wide(pages[w - 1])]);
+        left -= 1;
+    }
+    count
+}
+
+// The slots of a write in the forward pass, of c(i). The way back from i ends at the first block that is not below i: at i
+// itself where i is the top, whose coded page is D(i) alone.
+pub fn forward_slots(
+    sizes: Sizes,
+    set: usize,
+    pages: &[u8],
+    sources: &[u8],
+    i: usize,
+    slots: &mut [usize; SLOTS],
+) -> usize
+    requires { ⌜ PagesIn (sizes .n) (sizes .m) (now pages) × BlocksIn (sizes .n) (now sources) × (1 ≤ i) × (i ≤ sizes .n) ⌝ }
+    requires { ⌜ (sizes .n ≤ 64) × (sizes .m ≤ 64) × (set < sizes .m) × (length (now slots) ≡ slotsLength) ⌝ }
+    ensures { λ r. ⌜ (take r (now (slots .exit)) ≡ forwardBy (sizes .m) set (now (pages .entry)) (now (sources .entry)) (sizes .n) i)
+        × (1 ≤ r) × (r ≤ slotsLength) × (length (now (slots .exit)) ≡ slotsLength) ⌝ }
+{
+    let own = i * sizes.m + wide(pages[i - 1]);
+    slots[0] = own;
+    let u = wide(sources[i - 1]);
+    let count = go_back(sizes, set, pages, sources, i, 0, u, slots, 1);
+    if slots[count - 1] == own {
+        return 1;
+    }
+    count
+}
+
+// The slots of a write in the backward pass, to block b: c(b) and on, until b comes again.
+pub fn backward_slots(
+    sizes: Sizes,
+    by: usize,
+    list: &[u16],
+    set: usize,
+    pages: &[u8],
+    b: usize,
+    slots: &mut [usize; SLOTS],
+) -> usize
+    requires { ⌜ PagesIn (sizes .n) (sizes .m) (now pages) × ListIn (sizes .n) (sizes .m) (now list) × (1 ≤ b) × (b ≤ sizes .n)
+        × (by ≡ reciprocalOf (sizes .m)) ⌝ }
+    requires { ⌜ (sizes .n ≤ 64) × (sizes .m ≤ 64) × (set < sizes .m) × (length (now slots) ≡ slotsLength) ⌝ }
+    ensures { λ r. ⌜ (take r (now (slots .exit)) ≡ backwardBy (sizes .m) (now (list .entry)) set (now (pages .entry)) (sizes .n) b)
+        × (1 ≤ r) × (r ≤ slotsLength) × (length (now (slots .exit)) ≡ slotsLength) ⌝ }
+{
+    let first = (b - 1) * sizes.m;
+    slots[0] = first + set;
+    let start = entry(list[first + wide(pages[b - 1])]);
+    go_on(sizes, by, list, set, pages, b + 1, b, start, slots, 1)
+}
+
+// The slots of original k at a moment. "Start with v = k's block, in k's set."
 pub fn read_slots(
     sizes: Sizes,
     list: &[u16],
     sets: &[u8],
-    pages: &[u8; 4096],
-    from: &[u8; 4096],
-    marks: &[u8],
+    moment: Moment,
     k: usize,
-    slots: &mut [usize],
-    at: usize,
+    slots: &mut [usize; SLOTS],
 ) -> usize
-    requires { ⌜ Tables (moveOf sizes (now list) (now sets)) (now pages) (now from) ⌝ }
-    requires { ⌜ (length (now marks) ≡ (sizes .n + 1) * sizes .m) × (k < sizes .n * sizes .m) × (length (now slots) ≡ 130) × (at ≤ 65) ⌝ }
-    ensures { λ r. ⌜ Appends (now (slots .entry)) at (readSlots (moveOf sizes (now (list .entry)) (now (sets .entry))) (now (marks .entry)) k)
-        (now (slots .exit)) r ⌝ }
+    requires { ⌜ AcceptedMove (moveOf sizes (now list) (now sets)) × (k < sizes .n * sizes .m) × (length (now slots) ≡ slotsLength) ⌝ }
+    ensures { λ r. ⌜ ((marks : List ℕ) → Tells (moveOf sizes (now (list .entry)) (now (sets .entry))) marks moment
+        → Appends (now (slots .entry)) 0 (readSlots (moveOf sizes (now (list .entry)) (now (sets .entry))) marks k) (now (slots .exit)) r) ⌝ }
 {
     let m = sizes.m;
+    let plain = moment.plain;
+    let done = moment.done;
     let v = k / m + 1;
+    if plain <= v {
+        slots[0] = k + m;
+        return 1;
+    }
+    let to = entry(list[k]);
+    if done <= to / m + 1 {
+        slots[0] = to + m;
+        return 1;
+    }
     let set = wide(sets[k]);
-    if full_of(sizes, marks, 0, v) {
-        slots[at] = home(list, m, k, false);
-        return at + 1;
-    }
-    let next = goes_to(list, m, k);
-    if full_of(sizes, marks, 2, next) {
-        slots[at] = home(list, m, k, true);
-        return at + 1;
-    }
-    let top = top_of(sizes, from, set, v);
-    if goes_back(sizes, marks, top) {
-        go_back(
-            sizes,
-            list,
-            sets,
-            pages,
-            from,
-            marks,
-            top,
-            set,
-            v,
-            slots,
-            at,
-        )
+    let mut pages = [0u8; ROW];
+    let mut sources = [0u8; ROW];
+    set_rows(sizes, list, sets, set, &mut pages, &mut sources);
+    let top = top_of(sizes.n, &sources, v);
+    if (top - 1 < moment.coded) | (plain <= sizes.n) {
+        go_back(sizes, set, &pages, &sources, plain, top, v, slots, 0)
     } else {
-        go_on(sizes, list, sets, pages, from, marks, set, v, slots, at)
+        go_on(
+            sizes,
+            reciprocal(m),
+            list,
+            set,
+            &pages,
+            done,
+            0,
+            to,
+            slots,
+            0,
+        )
     }
 }

@@ -100,7 +100,7 @@ module _ (Z : Sizes) (chip : Chip) (place : ℕ) where
   abbrev torn : ℕ → Bool
   torn t = eqb (markAt (chip .marks) t) erased && not (isBlank (Z .p) chip t)
 
-  stands-at : isElsewhere Z chip place ≡ false → StandsAt Z chip place
+  pub stands-at : isElsewhere Z chip place ≡ false → StandsAt Z chip place
   unfolding isElsewhere
   stands-at e =
       let far = ltb (lastPlace Z) place in
@@ -115,7 +115,7 @@ module _ (Z : Sizes) (chip : Chip) (place : ℕ) where
             not-false _ (rw (eq-eqb (markAt (chip .marks) t) erased q) at r);
       }
 
-  at-stands : StandsAt Z chip place → isElsewhere Z chip place ≡ false
+  pub at-stands : StandsAt Z chip place → isElsewhere Z chip place ≡ false
   unfolding isElsewhere
   at-stands S =
       let c : any torn (range 0 (slotCount Z)) ≡ false = none-is torn 0 (slotCount Z) (λ t a h. whole t (omega arith) (bool-cases (eqb (markAt (chip .marks) t) erased))) in

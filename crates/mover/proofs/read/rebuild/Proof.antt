@@ -1,51 +1,48 @@
 -- The original rebuilt in the work page is the sum that read's rules name, and the count is theirs.
-use mathlib.Core.Path.{sym, ap, _∙_}
+use mathlib.Core.Path.{_≡_, sym, ap, _∙_}
 use Prim.Native.Nat.{_<_}
 use native.Mathlib.Omega.{arith}
 use borrow.Author.Needs.{needs}
-use lib.ListN.{length}
-use lib.Seq.{length-take-le}
-use Rattle.method.specs.Move.{moveOf}
 use Rattle.flash.specs.Lists.{part}
 use Rattle.flash.specs.Geometry.{slotCount}
 use Rattle.flash.specs.PageSum.{sum}
 use Rattle.flash.specs.Chip.{pageAt}
 use Rattle.flash.proofs.Bounds.{slot-in-store}
+use Rattle.method.specs.Move.{moveOf}
 use Rattle.method.specs.Read.{readPage}
-use Rattle.walk.proofs.SlotLaws.{read-in, among}
+use Rattle.walk.proofs.GatherLaws.{among, count-is}
+use Rattle.mover.proofs.ToldLaws.{Readable, readable}
 use Rattle.mover.proofs.read.rebuild.Statement.{statement}
 use Rattle.mover.proofs.read.rebuild.Tie as tie
 
-slice-aggregate-follow : tie.Need-slice-aggregate-follow
-slice-aggregate-follow c = search needs
+-- what the marks tell
+told : (c : tie.After-slice-known) → (let a = c .before .before .before .before .before .args in Readable (moveOf (a .sizes) (a .list .now) (a .sets .now)) (a .marks .now) (a .k) (a .told))
+told c =
+    let start = c .before .before .before .before .before in
+    let a = start .args in
+    readable (moveOf (a .sizes) (a .list .now) (a .sets .now)) (start .pre .0) (a .marks .now) (a .k) (start .pre .2) (a .told) (start .pre .3) (start .pre .4)
 
-slice-aggregate-follow-2 : tie.Need-slice-aggregate-follow-2
-slice-aggregate-follow-2 c = search needs
-
-follow-requires : tie.Need-follow-requires
-follow-requires c κs = search needs
-
-slice-aggregate-read-slots : tie.Need-slice-aggregate-read-slots
-slice-aggregate-read-slots c = search needs
+moment-of-requires : tie.Need-moment-of-requires
+moment-of-requires c κs =
+    let G = c .before .before .before .before .before .pre .0 .ranges in
+    (G .n-high, λ isBackward block e. omega (arith, told c .torn-low isBackward block e, G .n-high))
 
 read-slots-requires : tie.Need-read-slots-requires
-read-slots-requires c κs =
-    let pre = c .before .before .before .before .before .before .before .before .before .before .before .before .before .pre in
-    let f = c .before .before .before .before .before .follow .ensures in
-    (f, (pre .1 .marks-length, pre .2, omega arith, omega arith))
+read-slots-requires c κs = search needs
 
 slice-aggregate-sum-to-page : tie.Need-slice-aggregate-sum-to-page
-slice-aggregate-sum-to-page c = search needs
+slice-aggregate-sum-to-page c =
+    sym (c .before .read-slots .ensures (c .before .before .before .before .before .before .before .before .before .args .marks .now) (rw (c .before .before .before .moment-of .ensures) (told (c .before .before .before .before) .moment-is)) .room)
 
 sum-to-page-requires : tie.Need-sum-to-page-requires
 sum-to-page-requires c κs =
-    let start = c .before .before .before .before .before .before .before .before .before .before .before .before .before .before .before .before .before in
+    let start = c .before .before .before .before .before .before .before .before .before .before in
     let a = start .args in
-    let pre = start .pre in
-    let M = moveOf (a .sizes) (a .list .now) (a .sets .now) in
-    let r = c .before .before .before .read-slots in
-    let inside = among (λ t. t < slotCount (a .sizes)) _ _ (r .result) (omega (arith, r .ensures .few)) (r .ensures .slots-are) (read-in M (pre .0) (a .marks .now) (a .k) (pre .2)) in
-    ((r .ensures .some, omega (arith, r .ensures .few), omega (arith, r .ensures .few), pre .1 .work-length), (λ j h. rw (pre .1 .store-length) (slot-in-store (a .sizes) _ (inside j h))))
+    let R = told (c .before .before .before .before .before) in
+    let r = c .before .before .read-slots in
+    let G = r .ensures (a .marks .now) (rw (c .before .before .before .before .moment-of .ensures) (R .moment-is)) in
+    let inside = among (λ t. t < slotCount (a .sizes)) _ _ (r .result) (omega (arith, G .few, G .room)) (G .slots-are) (R .stored) in
+    ((omega (arith, R .some, count-is _ _ _ _ G), omega (arith, G .few, G .room), omega (arith, G .few), start .pre .1 .work-length), (λ j h. rw (start .pre .1 .store-length) (slot-in-store (a .sizes) _ (inside j h))))
 
 same-length : tie.Need-same-length
 same-length c = search needs
@@ -53,19 +50,16 @@ same-length c = search needs
 returns : tie.Need-returns
 unfolding readPage pageAt
 returns c =
-    let r = c .before .before .before .before .before .before .read-slots in
-    let s = c .before .before .sum-to-page in
-    let a = c .before .before .before .before .before .before .before .before .before .before .before .before .before .before .before .before .before .before .before .before .args in
-    (((sym (length-take-le (r .result) _ (omega (arith, r .ensures .few))) ∙ ap length (r .ensures .slots-are), omega (arith, r .ensures .few))), s .ensures ∙ ap (sum (λ t. part (a .sizes .p) t (a .store .now))) (r .ensures .slots-are))
+    let a = c .before .before .before .before .before .before .before .before .before .before .before .before .before .args in
+    let r = c .before .before .before .before .before .read-slots in
+    let G = r .ensures (a .marks .now) (rw (c .before .before .before .before .before .before .before .moment-of .ensures) (told (c .before .before .before .before .before .before .before .before) .moment-is)) in
+    ((count-is _ _ _ _ G, omega (arith, G .few)), c .before .before .sum-to-page .ensures ∙ ap (sum (λ t. part (a .sizes .p) t (a .store .now))) (G .slots-are))
 
 pub rebuild-spec : {M : Type 1} → statement M
 rebuild-spec =
     tie.close
     (tie.spec
-    slice-aggregate-follow
-    slice-aggregate-follow-2
-    follow-requires
-    slice-aggregate-read-slots
+    moment-of-requires
     read-slots-requires
     slice-aggregate-sum-to-page
     sum-to-page-requires

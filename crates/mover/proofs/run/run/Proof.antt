@@ -5,7 +5,7 @@ use borrow.Author.Needs.{needs}
 use Rattle.split.specs.Request.{requestOf}
 use Rattle.flash.specs.Chip.{Chip}
 use Rattle.method.proofs.basics.AcceptedCalls.{move-accepted}
-use Rattle.mover.proofs.RefusalLaws.{refused-by-move, refused-by-place, in-place, not-refused}
+use Rattle.mover.proofs.RefusalLaws.{refused-by-move, refused-by-place, not-refused}
 use Rattle.mover.proofs.run.run.Statement.{statement}
 use Rattle.mover.proofs.run.run.Tie as tie
 
@@ -62,12 +62,11 @@ returns-2 c =
 
 carry-out-requires : tie.Need-carry-out-requires
 carry-out-requires c κs =
-    let a = c .before .before .before .before .before .before .before .before .before .before .before .before .before .before .before .before .before .before .args in
+    let a = c .before .before .before .before .before .before .before .before .before .before .before .before .before .before .before .before .before .before .before .args in
     let R = requestOf (a .sizes) (a .list .now) (a .sets .now) in
     let chip : Chip = record { store = a .store .now; marks = a .marks .now } in
-    let none = sym (c .before .before .before .before .before .before .before .if1 .left) ∙ c .before .before .before .before .before .before .before .before .move-refusal .ensures .0 in
-    let g = move-accepted R chip (a .work .now) [] (sym none) in
-    (g .0, g .1, in-place R chip (a .work .now) (a .place) none (sym (c .before .before .before .if2 .left) ∙ c .before .before .before .before .is-elsewhere .ensures))
+    let g = move-accepted R chip (a .work .now) [] (sym (c .before .before .before .before .before .before .before .before .before .move-refusal .ensures .0) ∙ c .before .before .before .before .before .before .before .before .if1 .left) in
+    record { given = g .0; lent = g .1; here = sym (c .before .before .before .before .before .is-elsewhere .ensures) ∙ c .before .before .before .before .if2 .left }
 
 same-length-7 : tie.Need-same-length-7
 same-length-7 c = search needs
@@ -80,11 +79,11 @@ same-length-9 c = search needs
 
 returns-3 : tie.Need-returns-3
 returns-3 c =
-    let a = c .before .before .before .before .before .before .before .before .before .before .before .before .before .before .before .before .before .before .before .before .before .before .before .before .before .args in
+    let a = c .before .before .before .before .before .before .before .before .before .before .before .before .before .before .before .before .before .before .before .before .before .before .before .before .before .before .args in
     let R = requestOf (a .sizes) (a .list .now) (a .sets .now) in
     let chip : Chip = record { store = a .store .now; marks = a .marks .now } in
-    let none = sym (c .before .before .before .before .before .before .before .before .before .before .before .before .before .before .if1 .left) ∙ c .before .before .before .before .before .before .before .before .before .before .before .before .before .before .before .move-refusal .ensures .0 in
-    not-refused R chip (a .work .now) (a .place) (a .budget) none (sym (c .before .before .before .before .before .before .before .before .before .before .if2 .left) ∙ c .before .before .before .before .before .before .before .before .before .before .before .is-elsewhere .ensures) _ (c .before .before .before .before .before .before .carry-out .ensures)
+    let none = sym (c .before .before .before .before .before .before .before .before .before .before .before .before .before .before .before .if1 .left) ∙ c .before .before .before .before .before .before .before .before .before .before .before .before .before .before .before .before .move-refusal .ensures .0 in
+    not-refused R chip (a .work .now) (a .place) (a .budget) none (sym (c .before .before .before .before .before .before .before .before .before .before .before .if2 .left) ∙ c .before .before .before .before .before .before .before .before .before .before .before .before .is-elsewhere .ensures) _ (c .before .before .before .before .before .before .carry-out .ensures)
 
 pub run-spec : {M : Type 1} → statement M
 run-spec =

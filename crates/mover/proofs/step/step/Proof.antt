@@ -7,7 +7,7 @@ use Rattle.method.specs.Place.{write, erase, done, operationAt}
 use Rattle.method.specs.Step.{perform, tallied}
 use Rattle.places.specs.inner.Place.{passOf}
 use Rattle.places.proofs.StepTold.{IsWrite, is-write, IsErase, is-erase, told-done}
-use Rattle.mover.proofs.StepLaws.{erased, stepped}
+use Rattle.mover.proofs.StepLaws.{erased, stepped, write-known}
 use Rattle.mover.proofs.step.step.Statement.{statement}
 use Rattle.mover.proofs.step.step.Tie as tie
 
@@ -19,17 +19,22 @@ enum-known-backward c = search needs
 
 -- the step at the place is this write
 writes : (c : tie.After-write-arg3)
-    → (let a = c .before .before .before .before .before .before .before .before .before .before .before .before .args in
+    → (let a = c .before .before .before .before .before .before .before .before .before .before .before .before .before .before .args in
     let v = c .before .before .before .before .backward .given .0 in
     IsWrite (a .sizes) (a .place .at) (v .0) (v .1 .0) (v .1 .1 .0) (v .1 .1 .1 .0))
 writes c =
-    let a = c .before .before .before .before .before .before .before .before .before .before .before .before .args in
+    let a = c .before .before .before .before .before .before .before .before .before .before .before .before .before .before .args in
     is-write (a .sizes) (a .place .at) _ _ _ _ (sym (c .before .before .before .before .backward .given .1) ∙ c .before .before .before .before .before .before .operation .ensures)
 
 write-requires : tie.Need-write-requires
 write-requires c κs =
+    let start = c .before .before .before .before .before .before .before .before .before .before .before .before .before .before in
+    let a = start .args in
+    let v = c .before .before .before .before .backward .given .0 in
+    let A = start .pre .0 .0 in
     let W = writes c in
-    (c .before .before .before .before .before .before .before .before .before .before .before .before .pre .0, (W .page-in, W .block-in, W .low, W .high, W .mark-is))
+    let K = write-known (moveOf (a .sizes) (a .list .now) (a .sets .now)) A (a .place .at) (a .marks .now) (start .pre .1 .1) (v .0) (v .1 .0) (v .1 .1 .0) (W .is) in
+    ((A, rw (K .pass-is) at (start .pre .0 .1), start .pre .0 .2, start .pre .1 .0, K .moment-is), (W .page-in, W .block-in, W .low, W .high, W .mark-is))
 
 one-write-requires : tie.Need-one-write-requires
 one-write-requires c κs = search needs
@@ -39,18 +44,18 @@ enum-known-block c = search needs
 
 -- the step at the place is this erase
 erases : (c : tie.After-erase-block-arg2)
-    → (let a = c .before .before .before .before .before .before .before .before .before .before .before .args in
+    → (let a = c .before .before .before .before .before .before .before .before .before .before .before .before .before .args in
     IsErase (a .sizes) (a .place .at) (c .before .before .before .block .given .0 .0))
 erases c =
-    let a = c .before .before .before .before .before .before .before .before .before .before .before .args in
+    let a = c .before .before .before .before .before .before .before .before .before .before .before .before .before .args in
     is-erase (a .sizes) (a .place .at) _ (sym (c .before .before .before .block .given .1) ∙ c .before .before .before .before .before .operation .ensures)
 
 erase-block-requires : tie.Need-erase-block-requires
 erase-block-requires c κs =
-    let start = c .before .before .before .before .before .before .before .before .before .before .before in
+    let start = c .before .before .before .before .before .before .before .before .before .before .before .before .before in
     let Z = (start .args .sizes) in
     let E = erases c in
-    (rw (start .pre .0 .1 .store-length) (block-in-store Z (c .before .before .before .block .given .0 .0) (E .block-in)), rw (start .pre .0 .1 .marks-length) (block-in-marks Z (c .before .before .before .block .given .0 .0) (E .block-in)))
+    (rw (start .pre .1 .0 .store-length) (block-in-store Z (c .before .before .before .block .given .0 .0) (E .block-in)), rw (start .pre .1 .0 .marks-length) (block-in-marks Z (c .before .before .before .block .given .0 .0) (E .block-in)))
 
 one-erase-requires : tie.Need-one-erase-requires
 one-erase-requires c κs = search needs
@@ -71,7 +76,7 @@ returns : tie.Need-returns
 unfolding tallied
 returns c =
     let d = c .before in
-    let a = d .before .before .before .before .before .before .before .before .before .before .before .before .before .before .before .before .before .before .before .args in
+    let a = d .before .before .before .before .before .before .before .before .before .before .before .before .before .before .before .before .before .before .before .before .before .args in
     let v = d .before .before .before .before .before .before .before .before .before .before .before .backward .given .0 in
     stepped (moveOf (a .sizes) (a .list .now) (a .sets .now)) (a .place .at) (write (passOf (v .0)) (v .1 .0) (v .1 .1 .0)) (writes (d .before .before .before .before .before .before .before) .is) _ _ _ _
     (d .before .before .before .before .before .before .write .ensures) (c .one-write .ensures)
@@ -86,7 +91,7 @@ returns-2 : tie.Need-returns-2
 unfolding tallied
 returns-2 c =
     let d = c .before in
-    let a = d .before .before .before .before .before .before .before .before .before .before .before .before .before .before .before .before .args in
+    let a = d .before .before .before .before .before .before .before .before .before .before .before .before .before .before .before .before .before .before .args in
     let M = moveOf (a .sizes) (a .list .now) (a .sets .now) in
     let b = d .before .before .before .before .before .before .before .before .block .given .0 .0 in
     stepped M (a .place .at) (erase b) (erases (d .before .before .before .before .before) .is) _ _ _ _
@@ -95,7 +100,7 @@ returns-2 c =
 returns-3 : tie.Need-returns-3
 unfolding perform tallied
 returns-3 c =
-    let a = c .before .before .before .before .before .before .before .before .args in
+    let a = c .before .before .before .before .before .before .before .before .before .before .args in
     let Z = a .sizes in
     stepped (moveOf Z (a .list .now) (a .sets .now)) (a .place .at) done (told-done Z (operationAt Z (a .place .at)) (sym (c .enum-told .given .1) ∙ c .before .before .operation .ensures)) _ _ _ _ refl refl
 

@@ -1,43 +1,28 @@
 -- A write stores the page that the method writes there, by way of the work page.
+use mathlib.Core.Path.{sym}
 use Prim.Native.Nat.{_+_, _*_, _<_}
 use native.Mathlib.Omega.{arith}
 use borrow.Author.Needs.{needs}
 use Rattle.method.specs.Move.{moveOf}
-use Rattle.flash.specs.Geometry.{slotCount}
 use Rattle.flash.proofs.Bounds.{slot-in-marks, slot-in-store, product-le}
 use Rattle.places.specs.inner.Place.{passOf}
-use Rattle.walk.proofs.SlotLaws.{among}
-use Rattle.mover.proofs.WriteSlots.{write-in}
 use Rattle.mover.proofs.StepLaws.{written-is, wrote}
 use Rattle.mover.proofs.step.write.Statement.{statement}
 use Rattle.mover.proofs.step.write.Tie as tie
 
-slice-aggregate-write-slots : tie.Need-slice-aggregate-write-slots
-slice-aggregate-write-slots c = search needs
-
 write-slots-requires : tie.Need-write-slots-requires
-write-slots-requires c κs =
-    let start = c .before .before .before .before .before .before .before in
-    let a = start .args in
-    let M = moveOf (a .sizes) (a .list .now) (a .sets .now) in
-    let R = start .pre .0 .0 in
-    let L = start .pre .0 .1 in
-    ((R, L .marks-length, omega arith), (omega arith, omega arith, start .pre .1 .2, start .pre .1 .3))
+write-slots-requires c κs = search needs
 
 slice-aggregate-sum-to-page : tie.Need-slice-aggregate-sum-to-page
-slice-aggregate-sum-to-page c = search needs
+slice-aggregate-sum-to-page c = sym (c .before .before .write-slots .ensures .room)
 
 sum-to-page-requires : tie.Need-sum-to-page-requires
 sum-to-page-requires c κs =
     let start = c .before .before .before .before .before .before .before .before .before .before .before .before in
     let a = start .args in
-    let M = moveOf (a .sizes) (a .list .now) (a .sets .now) in
-    let R = start .pre .0 .0 in
-    let L = start .pre .0 .1 in
-    let w = c .before .before .before .before .write-slots in
-    let inside = among (λ t. t < slotCount (a .sizes)) _ _ (w .result) (omega (arith, w .kept .1 .1 .1 .1 .1 .1 .1 .1 .1 .0, w .ensures .2)) (w .ensures .0)
-    (write-in M (R .given) (a .marks .now) (a .block) (a .page) (omega arith) (a .backward) (start .pre .1 .2) (start .pre .1 .3) (omega arith)) in
-    ((w .ensures .1, omega (arith, w .kept .1 .1 .1 .1 .1 .1 .1 .1 .1 .0, w .ensures .2), omega (arith, w .ensures .2), L .work-length), (λ j h. rw (L .store-length) (slot-in-store (a .sizes) _ (inside j h))))
+    let L = start .pre .0 .3 in
+    let F = c .before .before .before .write-slots .ensures in
+    ((F .some, omega (arith, F .few, F .room), omega (arith, F .few), L .work-length), (λ j h. rw (L .store-length) (slot-in-store (a .sizes) _ (F .stored j h))))
 
 -- the slot is one of the store
 inside : (c : tie.Start) → c .args .block * c .args .sizes .m + c .args .page < 4225
@@ -56,8 +41,7 @@ write-page-requires c κs =
     let start = c .before .before .before .before .before .before .before .before .before .before .before .before .before .before .before .before .before .before .before in
     let a = start .args in
     let M = moveOf (a .sizes) (a .list .now) (a .sets .now) in
-    let R = start .pre .0 .0 in
-    let L = start .pre .0 .1 in
+    let L = start .pre .0 .3 in
     let i = slot-in-marks (a .sizes) (a .block) (a .page) (omega arith) (omega arith) in
     (rw (L .store-length) (slot-in-store (a .sizes) _ i), (rw (L .marks-length) i, omega (arith, c .before .before .before .before .before .before .sum-to-page .kept .1 .1 .1 .1 .0, L .work-length)))
 
@@ -75,18 +59,16 @@ returns c =
     let start = c .before .before .before .before .before .before .before .before .before .before .before .before .before .before .before .before .before .before .before .before .before .before .before .before in
     let a = start .args in
     let M = moveOf (a .sizes) (a .list .now) (a .sets .now) in
-    let R = start .pre .0 .0 in
-    let L = start .pre .0 .1 in
-    let w = c .before .before .before .before .before .before .before .before .before .before .before .before .before .before .before .before .write-slots in
+    let L = start .pre .0 .3 in
+    let w = c .before .before .before .before .before .before .before .before .before .before .before .before .before .before .before .write-slots in
     let s = c .before .before .before .before .before .before .before .before .before .before .before .sum-to-page in
-    let new = written-is M (passOf (a .backward)) (a .block) (a .page) (a .store .now) (a .marks .now) (a .work .now) _ _ (w .result) (s .ensures) (w .ensures .0) in
+    let new = written-is M (passOf (a .backward)) (a .block) (a .page) (a .store .now) (a .marks .now) (a .work .now) _ _ (w .result) (s .ensures) (w .ensures .sums (a .marks .now) (start .pre .0 .4)) in
     wrote M (passOf (a .backward)) (a .block) (a .page) (a .store .now) (a .marks .now) (a .work .now) _ _ _ (a .mark) new (start .pre .1 .4) (c .before .before .before .before .write-page .ensures)
 
 pub write-spec : {M : Type 1} → statement M
 write-spec =
     tie.close
     (tie.spec
-    slice-aggregate-write-slots
     write-slots-requires
     slice-aggregate-sum-to-page
     sum-to-page-requires

@@ -1,167 +1,184 @@
--- The slots summed for a write are those of its definition, for both passes.
-use mathlib.Core.Path.{_≡_, sym, _∙_}
-use Prim.Native.Nat.{_+_, _-_, _*_, _<_}
+-- The slots of a write, gathered by the rows of its set in the pass that it is of.
+use mathlib.Core.Path.{_≡_, refl, _∙_}
+use Prim.Native.Nat.{ℕ, _+_, _-_, _*_, _≤_, _<_}
 use native.Mathlib.Omega.{arith}
 use borrow.Author.Needs.{needs}
+use Rattle.flash.specs.Geometry.{slotCount, numberAt}
+use Rattle.flash.proofs.Bounds.{product-le}
+use Rattle.split.specs.Split.{setOf}
 use Rattle.method.specs.Move.{moveOf}
-use Rattle.method.specs.Cycle.{D, pred, isTop}
-use Rattle.walk.proofs.CycleLaws.{table-fits, leads, page-lt}
-use Rattle.walk.proofs.WalkLaws.{Next, back-next, page-in}
-use Rattle.mover.proofs.StepLaws.{appends-twice, rest-twice, sent-lt, final-slots, top-slots, code-slots}
+use Rattle.method.specs.Cycle.{sentTo}
+use Rattle.method.proofs.basics.Indexes.{slot-lt}
+use Rattle.walk.proofs.BackwardLaws.{backward-slots}
+use Rattle.walk.proofs.ForwardLaws.{forward-slots}
+use Rattle.walk.proofs.GatherLaws.{among}
+use Rattle.walk.proofs.RowLaws.{backward-stored, forward-stored}
+use Rattle.walk.proofs.TableLaws.{list-in}
+use Rattle.mover.proofs.StepLaws.{set-sent, row-is}
 use Rattle.mover.proofs.step.write_slots.Statement.{statement}
 use Rattle.mover.proofs.step.write_slots.Tie as tie
 
-sent-to-requires : tie.Need-sent-to-requires
-sent-to-requires c κs =
-    let pre = c .before .before .before .before .before .pre in
-    (pre .0 .0, pre .1 .0, pre .1 .2 (c .if1 .taken), pre .1 .1)
+-- ---- backward
+sub-wide : tie.Need-sub-wide
+sub-wide c = c .before .before .before .before .before .pre .1 .2 (c .if1 .taken)
 
-read-slots-requires : tie.Need-read-slots-requires
-read-slots-requires c κs =
-    let start = c .before .before .before .before .before .before .before in
-    let a = start .args in
-    let T = start .pre .0 .0 in
-    let inside = sent-lt (moveOf (a .sizes) (a .list .now) (a .sets .now)) (T .given) (a .block) (a .page) (omega arith) (c .before .sent-to .result) (start .pre .1 .2 (c .before .before .if1 .taken)) (omega arith) (c .before .sent-to .ensures) in
-    (T, (omega arith, inside, omega arith, omega arith))
-
-same-length : tie.Need-same-length
-same-length c = search needs
-
-returns : tie.Need-returns
-returns c =
-    let start = c .before .before .before .before .before .before .before .before .before .before in
-    let a = start .args in
-    let e = final-slots (moveOf (a .sizes) (a .list .now) (a .sets .now)) (start .pre .0 .0 .given) (a .block) (a .page) (omega arith) (a .marks .now) (c .before .before .before .before .sent-to .result) (c .before .before .before .before .sent-to .ensures) in
-    let A = c .before .before .read-slots .ensures in
-    (rw (c .before .before .before .before .before .if1 .taken) (A .slots-are ∙ sym e), omega (arith, A .some), omega (arith, A .few), A .rest-is)
-
-add-i : tie.Need-add-i
-add-i c = search needs
-
-page-of-requires : tie.Need-page-of-requires
-page-of-requires c κs =
-    let start = c .before .before .before .before .before in
-    let a = start .args in
-    let T = start .pre .0 .0 in
-    let high = start .pre .1 .3 (c .if1 .left) in
-    (T .given .ranges .n-high, T .given .ranges .m-high, omega arith, omega arith, high, page-lt (moveOf (a .sizes) (a .list .now) (a .sets .now)) (a .pages .now) (a .from .now) T (a .page) (omega arith) (a .block + 1) (omega arith) high)
-
--- D(i)
-original : (c : tie.After-page-of) → (let a = c .before .before .before .before .before .before .args in (c .page-of .result ≡ D (moveOf (a .sizes) (a .list .now) (a .sets .now)) (a .page) (a .block + 1)) × (c .page-of .result < a .sizes .n * a .sizes .m))
-original c =
+-- the page number is one of the list
+inside : (c : tie.After-struct-known) → (let a = c .before .before .before .before .before .before .args in ((a .block - 1) * a .sizes .m + a .page < a .sizes .n * a .sizes .m) × (a .sizes .n * a .sizes .m ≤ 4096))
+inside c =
     let start = c .before .before .before .before .before .before in
     let a = start .args in
-    let T = start .pre .0 .0 in
-    let e = c .page-of .ensures (a .list .now) (a .sets .now) (a .from .now) T in
-    (e, omega (arith, T .given .list-length, page-in (moveOf (a .sizes) (a .list .now) (a .sets .now)) (T .given) (a .page) (omega arith) (a .block + 1) (c .page-of .result) (omega arith) (start .pre .1 .3 (c .before .if1 .left)) e))
-
-read-slots-requires-2 : tie.Need-read-slots-requires-2
-read-slots-requires-2 c κs = (c .before .before .before .before .before .before .before .pre .0 .0, (omega arith, original (c .before) .1, omega arith, omega arith))
-
-is-top-requires : tie.Need-is-top-requires
-is-top-requires c κs =
-    let start = c .before .before .before .before .before .before .before .before .before .before in
-    let a = start .args in
-    let T = start .pre .0 .0 in
-    (T .given .ranges .n-high, T .given .ranges .m-high, omega arith, omega arith, start .pre .1 .3 (c .before .before .before .before .before .if1 .left), leads (moveOf (a .sizes) (a .list .now) (a .sets .now)) (a .pages .now) (a .from .now) T (a .page) (omega arith))
-
--- the test of the top
-top-told : (c : tie.After-is-top) → (let a = c .before .before .before .before .before .before .before .before .before .before .before .args in c .is-top .result ≡ isTop (moveOf (a .sizes) (a .list .now) (a .sets .now)) (a .page) (a .block + 1))
-top-told c = let a = c .before .before .before .before .before .before .before .before .before .before .before .args in c .is-top .ensures (a .list .now) (a .sets .now) (a .pages .now) (c .before .before .before .before .before .before .before .before .before .before .before .pre .0 .0)
-
-same-length-2 : tie.Need-same-length-2
-same-length-2 c = search needs
-
-returns-2 : tie.Need-returns-2
-returns-2 c =
-    let start = c .before .before .before .before .before .before .before .before .before .before .before .before in
-    let a = start .args in
-    let e = top-slots (moveOf (a .sizes) (a .list .now) (a .sets .now)) (start .pre .0 .0 .given) (a .block) (a .page) (omega arith) (a .marks .now) (c .before .before .before .before .before .before .page-of .result) (original (c .before .before .before .before .before .before) .0) (sym (top-told (c .before)) ∙ c .if2 .taken) in
-    let A = c .before .before .before .before .read-slots2 .ensures in
-    (rw (c .before .before .before .before .before .before .before .if1 .left) (A .slots-are ∙ sym e), omega (arith, A .some), omega (arith, A .few), A .rest-is)
-
--- the entry of block i is in the table
-inside : (c : tie.Else2) → (let a = c .before .before .before .before .before .before .before .before .before .before .before .before .args in a .block * a .sizes .m + a .page < 4096)
-inside c =
-    let start = c .before .before .before .before .before .before .before .before .before .before .before .before in
-    let a = start .args in
-    table-fits (a .sizes .n) (a .sizes .m) (omega arith) (omega arith) (a .block) (a .page) (omega (arith, start .pre .1 .3 (c .before .before .before .before .before .before .before .if1 .left))) (omega arith)
+    let low = start .pre .1 .2 (c .before .if1 .taken) in
+    let G = start .pre .0 .0 .ranges in
+    (slot-lt (a .sizes .m) (a .block - 1) (a .page) (a .sizes .n) (omega arith) (omega arith), product-le (a .sizes .n) (a .sizes .m) {c = 64} {d = 64} (G .n-high) (G .m-high))
 
 mul-wide : tie.Need-mul-wide
-mul-wide c = omega (arith, inside (c .before))
+mul-wide c = omega (arith, inside c)
 
 add-wide : tie.Need-add-wide
-add-wide c = omega (arith, inside (c .before))
+add-wide c = omega (arith, inside c)
 
-element-copy-out-wide : tie.Need-element-copy-out-wide
-element-copy-out-wide c = inside (c .before)
+shared-slice-read-wide : tie.Need-shared-slice-read-wide
+shared-slice-read-wide c = omega (arith, inside (c .before), c .before .before .before .before .before .before .before .pre .0 .1 .other-tells .room)
 
 wide-requires : tie.Need-wide-requires
 wide-requires c κs = search needs
 
--- pred(i)
-next : (c : tie.After-wide)
-    → (let a = c .before .before .before .before .before .before .before .before .before .before .before .before .before .before .before .args in
-    Next (pred (moveOf (a .sizes) (a .list .now) (a .sets .now)) (a .page)) (a .sizes .n) (a .block + 1) (c .wide .result))
-next c =
-    let start = c .before .before .before .before .before .before .before .before .before .before .before .before .before .before .before in
+-- the set of the page that goes there
+sent : (c : tie.After-wide) → (let a = c .before .before .before .before .before .before .before .before .args in (c .wide .result ≡ setOf (a .sets .now) (sentTo (moveOf (a .sizes) (a .list .now) (a .sets .now)) (numberAt (a .sizes .m) (a .block) (a .page)))) × (c .wide .result < a .sizes .m) × (a .sizes .m ≤ 64))
+sent c =
+    let start = c .before .before .before .before .before .before .before .before in
     let a = start .args in
-    let T = start .pre .0 .0 in
-    let at : a .block + 1 - 1 ≡ a .block = omega arith in
-    back-next (moveOf (a .sizes) (a .list .now) (a .sets .now)) (T .given) (a .page) (omega arith) (a .pages .now) (a .from .now) T (a .block + 1) (c .wide .result)
-    (omega arith) (start .pre .1 .3 (c .before .before .before .before .before .before .before .before .before .before .if1 .left)) (rw at (c .wide .ensures))
+    let yes = c .before .before .before .if1 .taken in
+    let s = set-sent (moveOf (a .sizes) (a .list .now) (a .sets .now)) (start .pre .0 .0) (a .other .now) (start .pre .0 .1 .other-tells .sets-tell yes) (a .block) (a .page) (start .pre .1 .2 yes) (start .pre .1 .1) (start .pre .1 .0) in
+    (c .wide .ensures ∙ s .0, rw (c .wide .ensures) (s .1), start .pre .0 .0 .ranges .m-high)
 
-page-of-requires-2 : tie.Need-page-of-requires-2
-page-of-requires-2 c κs =
-    let start = c .before .before .before .before .before .before .before .before .before .before .before .before .before .before .before in
+mul-row : tie.Need-mul-row
+mul-row c = omega (arith, sent c)
+
+add-end : tie.Need-add-end
+add-end c = omega (arith, sent c)
+
+sub-backward-slots : tie.Need-sub-backward-slots
+sub-backward-slots c = search needs
+
+part-backward-slots-start : tie.Need-part-backward-slots-start
+part-backward-slots-start c = search needs
+
+part-backward-slots-end : tie.Need-part-backward-slots-end
+part-backward-slots-end c = omega (arith, sent c, c .before .before .before .before .before .before .before .before .pre .0 .1 .pages-tell .room)
+
+backward-slots-requires : tie.Need-backward-slots-requires
+backward-slots-requires c κs =
+    let start = c .before .before .before .before .before .before .before .before .before .before in
     let a = start .args in
-    let T = start .pre .0 .0 in
-    let N = next c in
-    (T .given .ranges .n-high, T .given .ranges .m-high, omega arith, N .low, N .high, page-lt (moveOf (a .sizes) (a .list .now) (a .sets .now)) (a .pages .now) (a .from .now) T (a .page) (omega arith) (c .wide .result) (N .low) (N .high))
+    let A = start .pre .0 .0 in
+    let s = sent (c .before .before) in
+    let P = start .pre .0 .1 .pages-tell .row (c .before .before .wide .result) (s .1) .fits in
+    ((rw (row-is (a .pages .now) (c .before .before .wide .result)) P, list-in (moveOf (a .sizes) (a .list .now) (a .sets .now)) A, start .pre .1 .2 (c .before .before .before .before .before .if1 .taken), start .pre .1 .1, start .pre .0 .2), (A .ranges .n-high, A .ranges .m-high, s .1, start .pre .0 .3))
 
-read-slots-requires-3 : tie.Need-read-slots-requires-3
-read-slots-requires-3 c κs =
-    let start = c .before .before .before .before .before .before .before .before .before .before .before .before .before .before .before .before .before in
+returns : tie.Need-returns
+returns c =
+    let start = c .before .before .before .before .before .before .before .before .before .before .before in
     let a = start .args in
-    let T = start .pre .0 .0 in
-    let N = next (c .before .before) in
-    let r = c .before .before .before .before .before .before .before .before .before .read-slots2 in
-    let inside = page-in (moveOf (a .sizes) (a .list .now) (a .sets .now)) (T .given) (a .page) (omega arith) (c .before .before .wide .result) (c .before .page-of2 .result) (N .low) (N .high) (c .before .page-of2 .ensures (a .list .now) (a .sets .now) (a .from .now) T) in
-    (T, (omega arith, omega (arith, T .given .list-length), omega (arith, r .kept .1 .1 .1 .1 .1 .1 .1 .0), omega (arith, r .ensures .few)))
+    let A = start .pre .0 .0 in
+    let M = moveOf (a .sizes) (a .list .now) (a .sets .now) in
+    let set = c .before .before .before .wide .result in
+    let s = sent (c .before .before .before) in
+    let yes = c .before .before .before .before .before .before .if1 .taken in
+    let low = start .pre .1 .2 yes in
+    let P = start .pre .0 .1 .pages-tell .row set (s .1) in
+    let G = rw (row-is (a .pages .now) set) at (c .backward-slots .ensures) in
+    rw yes
+    (record {
+      sums = λ marks T. rw (G .0) (backward-slots M A (a .block) (a .page) set low (start .pre .1 .1) (start .pre .1 .0) (s .0) _ P marks T);
+      some = G .1;
+      few = G .2;
+      room = G .3;
+      stored = among (λ t. t < slotCount (a .sizes)) _ _ (c .backward-slots .result) (omega (arith, G .2, G .3)) (G .0) (backward-stored (a .sizes) set (s .1) _ (P .fits) (a .list .now) (list-in M A) (a .block) (record { low = low; high = start .pre .1 .1 }));
+    })
 
-same-length-3 : tie.Need-same-length-3
-same-length-3 c = search needs
+-- ---- forward
+mul-row-2 : tie.Need-mul-row-2
+mul-row-2 c = search needs
 
-returns-3 : tie.Need-returns-3
-returns-3 c =
-    let start = c .before .before .before .before .before .before .before .before .before .before .before .before .before .before .before .before .before .before .before .before in
+add-end-2 : tie.Need-add-end-2
+add-end-2 c = search needs
+
+sub-forward-slots : tie.Need-sub-forward-slots
+sub-forward-slots c = search needs
+
+part-forward-slots-start : tie.Need-part-forward-slots-start
+part-forward-slots-start c = search needs
+
+part-forward-slots-end : tie.Need-part-forward-slots-end
+part-forward-slots-end c = search needs
+
+sub-forward-slots-2 : tie.Need-sub-forward-slots-2
+sub-forward-slots-2 c = search needs
+
+part-forward-slots-start-2 : tie.Need-part-forward-slots-start-2
+part-forward-slots-start-2 c = search needs
+
+part-forward-slots-end-2 : tie.Need-part-forward-slots-end-2
+part-forward-slots-end-2 c = search needs
+
+add-forward-slots : tie.Need-add-forward-slots
+add-forward-slots c = search needs
+
+forward-slots-requires : tie.Need-forward-slots-requires
+forward-slots-requires c κs =
+    let start = c .before .before .before .before .before .before .before .before in
     let a = start .args in
-    let T = start .pre .0 .0 in
-    let A = c .before .before .before .before .before .before .before .before .before .before .before .before .read-slots2 .ensures in
-    let E = c .before .before .read-slots3 .ensures in
-    let e = code-slots (moveOf (a .sizes) (a .list .now) (a .sets .now)) (T .given) (a .block) (a .page) (omega arith) (a .marks .now) (c .before .before .before .before .before .before .before .before .before .before .before .before .before .before .page-of .result) (c .before .before .before .before .before .wide .result) (c .before .before .before .before .page-of2 .result)
-    (original (c .before .before .before .before .before .before .before .before .before .before .before .before .before .before) .0) (next (c .before .before .before .before .before) .is) (c .before .before .before .before .page-of2 .ensures (a .list .now) (a .sets .now) (a .from .now) T) (sym (top-told (c .before .before .before .before .before .before .before .before .before)) ∙ c .before .before .before .before .before .before .before .before .if2 .left) in
-    (rw (c .before .before .before .before .before .before .before .before .before .before .before .before .before .before .before .if1 .left) (appends-twice _ _ _ _ _ _ _ A E ∙ sym e), omega (arith, E .some), omega (arith, A .few, E .few), rest-twice _ _ _ _ _ _ _ A E)
+    let A = start .pre .0 .0 in
+    let T = start .pre .0 .1 in
+    let no = c .before .before .before .if1 .left in
+    ((rw (row-is (a .pages .now) (a .page)) (T .pages-tell .row (a .page) (start .pre .1 .0) .fits), rw (row-is (a .other .now) (a .page)) (T .other-tells .sources-tell no .row (a .page) (start .pre .1 .0) .fits), omega arith, start .pre .1 .3 no), (A .ranges .n-high, A .ranges .m-high, start .pre .1 .0, start .pre .0 .3))
+
+returns-2 : tie.Need-returns-2
+returns-2 c =
+    let start = c .before .before .before .before .before .before .before .before .before in
+    let a = start .args in
+    let A = start .pre .0 .0 in
+    let M = moveOf (a .sizes) (a .list .now) (a .sets .now) in
+    let T = start .pre .0 .1 in
+    let no = c .before .before .before .before .if1 .left in
+    let high = start .pre .1 .3 no in
+    let P = T .pages-tell .row (a .page) (start .pre .1 .0) in
+    let S = T .other-tells .sources-tell no .row (a .page) (start .pre .1 .0) in
+    let G = rw (row-is (a .pages .now) (a .page), row-is (a .other .now) (a .page)) at (c .forward-slots .ensures) in
+    rw no
+    (record {
+      sums = λ marks T. rw (G .0, forward-slots M A (a .page) (start .pre .1 .0) _ _ P S (a .block) (omega arith) marks T) (record { number = refl; sums = λ page. refl });
+      some = G .1;
+      few = G .2;
+      room = G .3;
+      stored = among (λ t. t < slotCount (a .sizes)) _ _ (c .forward-slots .result) (omega (arith, G .2, G .3)) (G .0) (forward-stored (a .sizes) (a .page) (start .pre .1 .0) _ (P .fits) _ (S .fits) (a .block + 1) (record { low = omega arith; high = high }));
+    })
 
 pub write-slots-spec : {M : Type 1} → statement M
 write-slots-spec =
     tie.close
     (tie.spec
-    sent-to-requires
-    read-slots-requires
-    same-length
-    returns
-    add-i
-    page-of-requires
-    read-slots-requires-2
-    is-top-requires
-    same-length-2
-    returns-2
+    sub-wide
     mul-wide
     add-wide
-    element-copy-out-wide
+    shared-slice-read-wide
     wide-requires
-    page-of-requires-2
-    read-slots-requires-3
-    same-length-3
-    returns-3)
+    mul-row
+    add-end
+    sub-backward-slots
+    part-backward-slots-start
+    part-backward-slots-end
+    backward-slots-requires
+    returns
+    mul-row-2
+    add-end-2
+    sub-forward-slots
+    part-forward-slots-start
+    part-forward-slots-end
+    sub-forward-slots-2
+    part-forward-slots-start-2
+    part-forward-slots-end-2
+    add-forward-slots
+    forward-slots-requires
+    returns-2)

@@ -1,179 +1,158 @@
-use mathlib.Core.Path.{_≡_, refl, sym, ap, _∙_}
-use mathlib.Core.List.{_++_, append-nil}
+-- Going on gathers the slots of `onBy`.
+use mathlib.Core.Path.{_≡_, refl, ap}
+use mathlib.Core.List.{List}
 use Prim.Native.Nat.{ℕ, _+_, _-_, _*_, _≤_, _<_}
 use native.Mathlib.Omega.{arith}
 use borrow.Author.Needs.{needs}
-use lib.ListN.{length, take, drop, length-set}
-use Rattle.method.specs.Move.{moveOf}
-use Rattle.flash.proofs.Loops.{rest-more}
-use Rattle.flash.proofs.Bounds.{block-in-marks}
-use Rattle.method.specs.Cycle.{D, dest}
-use Rattle.method.specs.Read.{goOn}
-use Rattle.walk.proofs.CycleLaws.{table-fits, page-lt}
-use Rattle.walk.proofs.WalkLaws.{put-next, put-both, Next, on-next, page-in, list-short, on-final, on-turn}
+use lib.ListN.{getD}
+use Rattle.flash.proofs.Bounds.{product-le}
+use Rattle.split.proofs.SplitLaws.{block-range}
+use Rattle.method.proofs.basics.Indexes.{slot-lt}
+use Rattle.walk.specs.inner.Walks.{onBy}
+use Rattle.walk.proofs.GatherLaws.{Gathered, gather-none, gather-more, gather-all}
+use Rattle.walk.proofs.OnLaws.{on-final, on-stops, on-goes}
 use Rattle.walk.proofs.walk.go_on.Statement.{statement}
 use Rattle.walk.proofs.walk.go_on.Tie as tie
 
 abbrev Inv-loop : tie.InvT-loop
-Inv-loop sizes list sets pages from marks set start slots₀ at m v₀ next₀ count₀ turns₀ slots v next count turns =
-    (take count slots ++ goOn (moveOf sizes list sets) marks set (sizes .n - turns) v ≡ take at slots₀ ++ goOn (moveOf sizes list sets) marks set (sizes .n) start)
-    × (turns ≤ sizes .n) × (count ≡ at + turns) × Next (dest (moveOf sizes list sets) set) (sizes .n) v next × (length slots ≡ 130) × (drop count slots ≡ drop count slots₀)
+Inv-loop by list set pages done stop start slots₀ at m to₀ count₀ left₀ slots to count left =
+    Gathered slots₀ at (onBy m list set pages done stop left₀ start) slots count (onBy m list set pages done stop left to)
+    × (to < left₀ * m) × (count + left ≡ at + left₀) × (at ≤ count)
 
 abbrev μ-loop : tie.MeasureT-loop
-μ-loop sizes list sets pages from marks set start slots₀ at m v₀ next₀ count₀ turns₀ slots v next count turns = sizes .n - turns
-
-page-of-requires : tie.Need-page-of-requires Inv-loop μ-loop
-page-of-requires c κs =
-    let start = c .before .before .before .before in
-    let a = start .args in
-    let T = start .pre .0 in
-    (T .given .ranges .n-high, T .given .ranges .m-high, omega arith, omega arith, omega arith, page-lt (moveOf (a .sizes) (a .list .now) (a .sets .now)) (a .pages .now) (a .from .now) T (a .set) (omega arith) (a .start) (omega arith) (omega arith))
-
-goes-to-requires : tie.Need-goes-to-requires Inv-loop μ-loop
-goes-to-requires c κs =
-    let start = c .before .before .before .before .before in
-    let a = start .args in
-    let T = start .pre .0 in
-    (T .given .ranges .m-low, page-in (moveOf (a .sizes) (a .list .now) (a .sets .now)) (T .given) (a .set) (omega arith) (a .start) (c .page-of .result) (omega arith) (omega arith) (c .page-of .ensures (a .list .now) (a .sets .now) (a .from .now) T))
+μ-loop by list set pages done stop start slots₀ at m to₀ count₀ left₀ slots to count left = left
 
 loop-holds : tie.Need-loop-holds Inv-loop μ-loop
 loop-holds c =
-    let start = c .before .before .before .before .before .before in
-    let a = start .args in
-    let M = (moveOf (a .sizes) (a .list .now) (a .sets .now)) in
-    let T = start .pre .0 in (
-      ap (λ (turns : ℕ). take (a .at) (a .slots .now) ++ goOn M (a .marks .now) (a .set) turns (a .start)) (omega arith),
-      omega arith,
-      omega arith,
-      on-next M (T .given) (a .set) (omega arith) (a .start) (c .before .page-of .result) (c .goes-to .result) (omega arith) (omega arith) (c .before .page-of .ensures (a .list .now) (a .sets .now) (a .from .now) T) (c .goes-to .ensures),
-      omega arith,
-      refl,
-    )
+    let a = c .before .before .args in
+    (gather-none (a .slots .now) (a .at) (onBy (a .sizes .m) (a .list .now) (a .set) (a .pages .now) (a .done) (a .stop) (a .sizes .n) (a .start)) (c .before .before .pre .1 .3), c .before .before .pre .0 .2, omega arith, omega arith)
 
-sub-slots : tie.Need-sub-slots Inv-loop μ-loop
-sub-slots c = c .before .before .loop .inv .3 .low
+quotient-requires : tie.Need-quotient-requires Inv-loop μ-loop
+quotient-requires c κs =
+    let start = c .before .before .before .before in
+    let z = start .args .sizes in
+    (omega (arith, c .before .loop .inv .1, product-le (z .n) (z .m) {c = 64} {d = 64} (omega arith) (omega arith)), omega arith, omega arith, start .pre .0 .3)
 
--- the block that v becomes: its coded page is in the store
-inside : (c : tie.Then1 Inv-loop μ-loop) → (c .before .before .loop .next - 1) * c .before .before .before .before .before .before .before .before .before .args .sizes .m + c .before .before .before .before .before .before .before .before .before .args .set < 4096
+-- the block of the page number is a data block, and the blocks below it are no more than 64
+inside : (c : tie.After-quotient Inv-loop μ-loop) → (let z = c .before .before .before .before .before .args .sizes in (c .quotient .result < z .n) × (c .quotient .result * z .m ≤ 4096))
 inside c =
-    let a = c .before .before .before .before .before .before .before .before .before .args in
-    let N = c .before .before .loop .inv .3 in
-    table-fits (a .sizes .n) (a .sizes .m) (omega arith) (omega arith) (c .before .before .loop .next - 1) (a .set) (omega (arith, N .low, N .high)) (omega arith)
+    let z = c .before .before .before .before .before .args .sizes in
+    let low : c .quotient .result < z .n = omega (arith, c .quotient .ensures, block-range (z .n) (z .m) (c .before .before .loop .to) (c .before .before .loop .inv .1) .1) in
+    (low, product-le (c .quotient .result) (z .m) {c = 64} {d = 64} (omega arith) (omega arith))
+
+add-w : tie.Need-add-w Inv-loop μ-loop
+add-w c = omega (arith, inside c)
+
+-- ---- a final page
+add-slots : tie.Need-add-slots Inv-loop μ-loop
+add-slots c =
+    let z = c .before .before .before .before .before .before .args .sizes in
+    omega (arith, c .before .before .before .loop .inv .1, product-le (z .n) (z .m) {c = 64} {d = 64} (omega arith) (omega arith))
 
 mul-slots : tie.Need-mul-slots Inv-loop μ-loop
-mul-slots c = omega (arith, inside c)
+mul-slots c = search needs
 
-add-slots : tie.Need-add-slots Inv-loop μ-loop
-add-slots c = omega (arith, inside c)
-
-mul-slots-2 : tie.Need-mul-slots-2 Inv-loop μ-loop
-mul-slots-2 c = search needs
-
-slice-write-slots : tie.Need-slice-write-slots Inv-loop μ-loop
-slice-write-slots c = search needs
-
-add-count : tie.Need-add-count Inv-loop μ-loop
-add-count c = search needs
-
-page-of-requires-2 : tie.Need-page-of-requires-2 Inv-loop μ-loop
-page-of-requires-2 c κs =
-    let start = c .before .before .before .before .before .before .before .before .before in
-    let a = start .args in
-    let T = start .pre .0 in
-    let N = c .before .before .loop .inv .3 in
-    (T .given .ranges .n-high, T .given .ranges .m-high, omega arith, N .low, N .high, page-lt (moveOf (a .sizes) (a .list .now) (a .sets .now)) (a .pages .now) (a .from .now) T (a .set) (omega arith) (c .before .before .loop .next) (N .low) (N .high))
-
--- its original, which is in the list
-original : (c : tie.After-page-of2 Inv-loop μ-loop)
-    → (let a = c .before .before .before .before .before .before .before .before .before .before .args in
-    (c .page-of2 .result ≡ D (moveOf (a .sizes) (a .list .now) (a .sets .now)) (a .set) (c .before .before .before .loop .next)) × (c .page-of2 .result < length (a .list .now)))
-original c =
-    let start = c .before .before .before .before .before .before .before .before .before .before in
-    let a = start .args in
-    let T = start .pre .0 in
-    let N = c .before .before .before .loop .inv .3 in
-    let e = c .page-of2 .ensures (a .list .now) (a .sets .now) (a .from .now) T in
-    (e, page-in (moveOf (a .sizes) (a .list .now) (a .sets .now)) (T .given) (a .set) (omega arith) (c .before .before .before .loop .next) (c .page-of2 .result) (N .low) (N .high) e)
-
-goes-to-requires-2 : tie.Need-goes-to-requires-2 Inv-loop μ-loop
-goes-to-requires-2 c κs = (c .before .before .before .before .before .before .before .before .before .before .pre .0 .given .ranges .m-low, original c .1)
-
--- the block after it
-after : (c : tie.After-goes-to2 Inv-loop μ-loop)
-    → (let a = c .before .before .before .before .before .before .before .before .before .before .before .args in
-    Next (dest (moveOf (a .sizes) (a .list .now) (a .sets .now)) (a .set)) (a .sizes .n) (c .before .before .before .before .loop .next) (c .goes-to2 .result))
-after c =
-    let start = c .before .before .before .before .before .before .before .before .before .before .before in
-    let a = start .args in
-    let N = c .before .before .before .before .loop .inv .3 in
-    on-next (moveOf (a .sizes) (a .list .now) (a .sets .now)) (start .pre .0 .given) (a .set) (omega arith) (c .before .before .before .before .loop .next) (c .before .page-of2 .result) (c .goes-to2 .result) (N .low) (N .high) (original (c .before) .0) (c .goes-to2 .ensures)
-
-full-of-requires : tie.Need-full-of-requires Inv-loop μ-loop
-full-of-requires c κs = omega (arith, block-in-marks ((c .before .before .before .before .before .before .before .before .before .before .before .args .sizes)) (c .goes-to2 .result) (after c .high))
-
-home-requires : tie.Need-home-requires Inv-loop μ-loop
-home-requires c κs =
-    let start = c .before .before .before .before .before .before .before .before .before .before .before .before .before in
-    let a = start .args in
-    let G = start .pre .0 .given in
-    (G .ranges .m-low, G .ranges .m-high, original (c .before .before .before) .1, list-short (moveOf (a .sizes) (a .list .now) (a .sets .now)) G (a .set) (omega arith))
-
-mul-slots-3 : tie.Need-mul-slots-3 Inv-loop μ-loop
-mul-slots-3 c = search needs
-
-slice-write-slots-2 : tie.Need-slice-write-slots-2 Inv-loop μ-loop
-slice-write-slots-2 c = simp length-set (omega arith)
+element-write-slots : tie.Need-element-write-slots Inv-loop μ-loop
+element-write-slots c = search needs
 
 add-result : tie.Need-add-result Inv-loop μ-loop
 add-result c = search needs
 
-same-length : tie.Need-same-length Inv-loop μ-loop
-same-length c = simp length-set (omega arith)
-
 returns : tie.Need-returns Inv-loop μ-loop
 returns c =
-    let start = c .before .before .before .before .before .before .before .before .before .before .before .before .before .before in
-    let a = start .args in
-    let l = c .before .before .before .before .before .before .before .loop in
-    let rest = on-final (moveOf (a .sizes) (a .list .now) (a .sets .now)) (start .pre .0 .given) (a .set) (omega arith) (a .marks .now) (l .v) (l .turns) (omega arith)
-    (l .next) (c .before .before .before .goes-to2 .result) (c .before .before .before .before .page-of2 .result) (l .inv .3 .is) (after (c .before .before .before) .is) (sym (c .before .before .full-of .ensures) ∙ c .before .if2 .taken) (original (c .before .before .before .before) .0) in
-    record {
-      slots-are = rw (c .home .ensures) (put-both (l .slots) (l .count) _ _ _ (omega arith) (l .inv .0) _ (omega arith) rest);
-      rest-is = rest-more _ (a .slots .now) (l .count + 1) _ (rest-more (l .slots) (a .slots .now) (l .count) _ (l .inv .5));
-      some = omega arith;
-      few = omega arith;
-    }
+    let a = c .before .before .before .before .before .before .args in
+    let l = c .before .before .before .loop in
+    let final = on-final (a .sizes .m) (a .list .now) (a .set) (a .pages .now) (a .done) (a .stop) (l .left) (l .to) (c .before .quotient .result + 1) (omega arith) (ap (λ (x : ℕ). x + 1) (c .before .quotient .ensures)) (c .if1 .taken) in
+    gather-all _ _ _ _ _ _ (gather-more _ _ _ _ _ _ (l .inv .0) _ _ final (omega arith)) refl (omega arith) (omega arith)
 
-add-turns : tie.Need-add-turns Inv-loop μ-loop
-add-turns c = search needs
+-- ---- the block where the walk stops
+returns-2 : tie.Need-returns-2 Inv-loop μ-loop
+returns-2 c =
+    let a = c .before .before .before .before .before .before .before .args in
+    let l = c .before .before .before .before .loop in
+    let stops = on-stops (a .sizes .m) (a .list .now) (a .set) (a .pages .now) (a .done) (a .stop) (l .left) (l .to) (c .before .before .quotient .result + 1) (omega arith) (ap (λ (x : ℕ). x + 1) (c .before .before .quotient .ensures)) (c .before .if1 .left) (c .if2 .taken) in
+    gather-all _ _ _ _ _ _ (l .inv .0) stops (omega arith) (omega arith)
+
+-- ---- a coded page
+sub-first : tie.Need-sub-first Inv-loop μ-loop
+sub-first c = search needs
+
+same : (x : ℕ) → x + 1 - 1 ≡ x
+same x = omega arith
+
+mul-first : tie.Need-mul-first Inv-loop μ-loop
+mul-first c = rw (same (c .before .before .quotient .result)) (omega (arith, inside (c .before .before)))
+
+add-slots-2 : tie.Need-add-slots-2 Inv-loop μ-loop
+add-slots-2 c = rw (same (c .before .before .quotient .result)) (omega (arith, inside (c .before .before)))
+
+mul-slots-2 : tie.Need-mul-slots-2 Inv-loop μ-loop
+mul-slots-2 c = search needs
+
+element-write-slots-2 : tie.Need-element-write-slots-2 Inv-loop μ-loop
+element-write-slots-2 c = search needs
+
+add-count : tie.Need-add-count Inv-loop μ-loop
+add-count c = search needs
+
+sub-wide : tie.Need-sub-wide Inv-loop μ-loop
+sub-wide c = search needs
+
+shared-slice-read-wide : tie.Need-shared-slice-read-wide Inv-loop μ-loop
+shared-slice-read-wide c =
+    omega (arith, inside (c .before .before .before), c .before .before .before .before .before .before .before .before .pre .0 .0 .room)
+
+wide-requires : tie.Need-wide-requires Inv-loop μ-loop
+wide-requires c κs = search needs
+
+-- the original of the set from that block is in the list
+original : (c : tie.After-wide Inv-loop μ-loop) → (let z = c .before .before .before .before .before .before .before .before .before .args .sizes in (c .before .before .before .before .quotient .result + 1 - 1) * z .m + c .wide .result < z .n * z .m)
+original c =
+    let start = c .before .before .before .before .before .before .before .before .before in
+    let z = start .args .sizes in
+    let q = c .before .before .before .before .quotient .result in
+    let in-blocks = inside (c .before .before .before .before) in
+    slot-lt (z .m) (q + 1 - 1) (c .wide .result) (z .n) (omega arith) (rw (c .wide .ensures) (start .pre .0 .0 .page-lt (q + 1) (omega arith) (omega arith)))
+
+small : (c : tie.After-wide Inv-loop μ-loop) → (let z = c .before .before .before .before .before .before .before .before .before .args .sizes in z .n * z .m ≤ 4096)
+small c =
+    (let z = c .before .before .before .before .before .before .before .before .before .args .sizes in product-le (z .n) (z .m) {c = 64} {d = 64} (omega arith) (omega arith))
+
+add-entry : tie.Need-add-entry Inv-loop μ-loop
+add-entry c = omega (arith, original c, small c)
+
+mul-entry : tie.Need-mul-entry Inv-loop μ-loop
+mul-entry c = omega (arith, original c, small c)
+
+shared-slice-read-entry : tie.Need-shared-slice-read-entry Inv-loop μ-loop
+shared-slice-read-entry c = omega (arith, original (c .before), c .before .before .before .before .before .before .before .before .before .before .pre .0 .1 .length-is)
+
+entry-requires : tie.Need-entry-requires Inv-loop μ-loop
+entry-requires c κs = search needs
+
+sub-left : tie.Need-sub-left Inv-loop μ-loop
+sub-left c = search needs
 
 loop-less : tie.Need-loop-less Inv-loop μ-loop
 loop-less c = search needs
 
 loop-again : tie.Need-loop-again Inv-loop μ-loop
 loop-again c =
-    let start = c .before .before .before .before .before .before .before .before .before .before .before .before .before in
+    let start = c .before .before .before .before .before .before .before .before .before .before .before in
     let a = start .args in
-    let l = c .before .before .before .before .before .before .loop in
-    let rest = on-turn (moveOf (a .sizes) (a .list .now) (a .sets .now)) (start .pre .0 .given) (a .set) (omega arith) (a .marks .now) (l .v) (l .turns) (omega arith)
-    (l .next) (c .before .before .goes-to2 .result) (l .inv .3 .is) (after (c .before .before) .is) (sym (c .before .full-of .ensures) ∙ c .if2 .left) in
-    (put-next (l .slots) (l .count) _ _ _ (omega arith) (l .inv .0) _ rest, omega arith, omega arith, after (c .before .before), simp length-set (l .inv .4), rest-more (l .slots) (a .slots .now) (l .count) _ (l .inv .5))
+    let l = c .before .before .before .before .before .before .before .before .loop in
+    let w = c .before .before .before .before .before .before .quotient in
+    let goes = on-goes (a .sizes .m) (a .list .now) (a .set) (a .pages .now) (a .done) (a .stop) (l .left) (l .to) (w .result + 1) (omega arith) (ap (λ (x : ℕ). x + 1) (w .ensures)) (c .before .before .before .before .before .if1 .left) (c .before .before .before .before .if2 .left) in
+    let to-lt = start .pre .0 .1 .entry-lt _ (original (c .before .before)) in
+    rw (c .entry .ensures) (rw (c .before .before .wide .ensures) (gather-more _ _ _ _ _ _ (l .inv .0) _ _ goes (omega arith)), to-lt, omega arith, omega arith)
 
-same-length-2 : tie.Need-same-length-2 Inv-loop μ-loop
-same-length-2 c = search needs
-
-returns-2 : tie.Need-returns-2 Inv-loop μ-loop
-unfolding goOn
-returns-2 c =
-    let a = c .before .before .before .before .before .before .before .before .before .args in
-    let l = c .before .before .loop in
-    let none : a .sizes .n - l .turns ≡ 0 = omega arith in
-    record {
-      slots-are = sym (append-nil (take (l .count) (l .slots))) ∙ rw none at (l .inv .0);
-      rest-is = l .inv .5;
-      some = omega arith;
-      few = omega arith;
-    }
+returns-3 : tie.Need-returns-3 Inv-loop μ-loop
+unfolding onBy
+returns-3 c =
+    let a = c .before .before .before .before .args in
+    let l = c .before .loop in
+    let none : l .left ≡ 0 = omega arith in
+    gather-all _ _ _ _ _ _ (l .inv .0) (ap (λ (x : ℕ). onBy (a .sizes .m) (a .list .now) (a .set) (a .pages .now) (a .done) (a .stop) x (l .to)) none) (omega arith) (omega arith)
 
 pub go-on-spec : {M : Type 1} → statement M
 go-on-spec =
@@ -181,26 +160,29 @@ go-on-spec =
     (tie.spec
     Inv-loop
     μ-loop
-    page-of-requires
-    goes-to-requires
     loop-holds
-    sub-slots
-    mul-slots
+    quotient-requires
+    add-w
     add-slots
-    mul-slots-2
-    slice-write-slots
-    add-count
-    page-of-requires-2
-    goes-to-requires-2
-    full-of-requires
-    home-requires
-    mul-slots-3
-    slice-write-slots-2
+    mul-slots
+    element-write-slots
     add-result
-    same-length
     returns
-    add-turns
+    returns-2
+    sub-first
+    mul-first
+    add-slots-2
+    mul-slots-2
+    element-write-slots-2
+    add-count
+    sub-wide
+    shared-slice-read-wide
+    wide-requires
+    add-entry
+    mul-entry
+    shared-slice-read-entry
+    entry-requires
+    sub-left
     loop-less
     loop-again
-    same-length-2
-    returns-2)
+    returns-3)

@@ -1,29 +1,90 @@
-use mathlib.Core.Path.{refl, sym, _∙_}
-use Prim.Native.Nat.{_+_, _/_, _<_}
+-- Read's rules are taken in their order, by the moment in place of the marks.
+use mathlib.Core.Path.{_≡_, refl, sym, ap, _∙_}
+use mathlib.Core.List.{List}
+use Prim.Native.Nat.{ℕ, _+_, _-_, _*_, _/_, _≤_, _<_}
 use native.Mathlib.Omega.{arith}
 use borrow.Author.Needs.{needs}
-use lib.ListN.{length}
+use Rattle.flash.specs.Geometry.{blockOf}
+use Rattle.flash.proofs.Bounds.{product-le}
+use Rattle.split.specs.Split.{destBlock, setOf}
+use Rattle.split.proofs.SplitLaws.{block-range}
 use Rattle.method.specs.Move.{moveOf}
-use Rattle.flash.proofs.Loops.{rest-more}
-use Rattle.flash.proofs.Bounds.{block-in-marks}
-use Rattle.method.specs.Cycle.{dest}
-use Rattle.walk.proofs.CycleLaws.{source-in, leads}
-use Rattle.walk.proofs.WalkLaws.{put-last, Next, on-next, list-short, Starts, starts, TopIs, top-is, read-plain, read-final, read-back, read-on}
+use Rattle.method.proofs.cycles.SetCycles.{set-in, block-in, entry-in}
+use Rattle.method.proofs.cycles.Tops.{top-in}
+use Rattle.walk.proofs.GatherLaws.{gather-none, gather-more, gather-all}
+use Rattle.walk.proofs.ReadLaws.{read-plain, read-final, read-back, read-on}
+use Rattle.walk.proofs.RoundLaws.{top-by}
+use Rattle.walk.proofs.TableLaws.{list-in}
 use Rattle.walk.proofs.walk.read_slots.Statement.{statement}
 use Rattle.walk.proofs.walk.read_slots.Tie as tie
 
 div-v : tie.Need-div-v
 div-v c = search needs
 
--- original k is in the list, and in a data block
-listed : (c : tie.Start) → (c .args .k < length (c .args .list .now)) × (length (c .args .list .now) < 4097) × (c .args .k / c .args .sizes .m < c .args .sizes .n)
-listed c =
-    let a = c .args in
-    let G = c .pre .0 .given in
-    (omega (arith, G .list-length), omega (arith, list-short (moveOf (a .sizes) (a .list .now) (a .sets .now)) G 0 (G .ranges .m-low)), source-in (moveOf (a .sizes) (a .list .now) (a .sets .now)) G (a .k) (omega arith))
+-- the block of original k is a data block
+block-high : (c : tie.After-shared-slice-known2) → (let a = c .before .before .args in (blockOf (a .sizes .m) (a .k) ≤ a .sizes .n) × (a .sizes .n * a .sizes .m ≤ 4096))
+block-high c =
+    let start = c .before .before in
+    let a = start .args in
+    (block-in (moveOf (a .sizes) (a .list .now) (a .sets .now)) (start .pre .0) (a .k) (start .pre .1) .high, product-le (a .sizes .n) (a .sizes .m) {c = 64} {d = 64} (start .pre .0 .ranges .n-high) (start .pre .0 .ranges .m-high))
 
 add-v : tie.Need-add-v
-add-v c = omega (arith, listed (c .before .before .before .before))
+add-v c = omega (arith, block-high c, c .before .before .pre .0 .ranges .n-high)
+
+-- ---- rule 1
+add-slots : tie.Need-add-slots
+add-slots c = search needs
+
+element-write-slots : tie.Need-element-write-slots
+element-write-slots c = search needs
+
+returns : tie.Need-returns
+returns c =
+    let start = c .before .before .before in
+    let a = start .args in
+    let M = moveOf (a .sizes) (a .list .now) (a .sets .now) in
+    λ marks T.
+    rw (read-plain M (start .pre .0) marks (a .moment) T (a .k) (start .pre .1) (c .if1 .taken))
+    (gather-all _ _ _ _ _ _ (gather-more _ _ _ _ _ _ (gather-none (a .slots .now) 0 _ (start .pre .2)) _ _ refl (omega arith)) refl (omega arith) (omega arith))
+
+mul-entry : tie.Need-mul-entry
+mul-entry c = search needs
+
+shared-slice-read-entry : tie.Need-shared-slice-read-entry
+shared-slice-read-entry c = search needs
+
+entry-requires : tie.Need-entry-requires
+entry-requires c κs = search needs
+
+-- where it goes is a page number
+goes : (c : tie.After-entry) → (let a = c .before .before .before .before .before .args in (c .entry .result < a .sizes .n * a .sizes .m) × (c .entry .result / a .sizes .m + 1 ≤ a .sizes .n) × (a .sizes .n * a .sizes .m ≤ 4096))
+goes c =
+    let start = c .before .before .before .before .before in
+    let a = start .args in
+    let to = entry-in (moveOf (a .sizes) (a .list .now) (a .sets .now)) (start .pre .0) (a .k) (start .pre .1) in
+    rw (c .entry .ensures) (to, block-range (a .sizes .n) (a .sizes .m) _ to .1, block-high (c .before .before .before) .1)
+
+div-if2 : tie.Need-div-if2
+div-if2 c = search needs
+
+add-if2 : tie.Need-add-if2
+add-if2 c = omega (arith, goes c, c .before .before .before .before .before .pre .0 .ranges .n-high)
+
+add-slots-2 : tie.Need-add-slots-2
+add-slots-2 c = omega (arith, goes (c .before), c .before .before .before .before .before .before .pre .0 .ranges .m-high)
+
+element-write-slots-2 : tie.Need-element-write-slots-2
+element-write-slots-2 c = search needs
+
+returns-2 : tie.Need-returns-2
+unfolding destBlock
+returns-2 c =
+    let start = c .before .before .before .before .before .before in
+    let a = start .args in
+    let M = moveOf (a .sizes) (a .list .now) (a .sets .now) in
+    λ marks T.
+    rw (read-final M (start .pre .0) marks (a .moment) T (a .k) (start .pre .1) (c .before .before .before .if1 .left) (rw (c .before .entry .ensures) at (c .if2 .taken)), c .before .entry .ensures)
+    (gather-all _ _ _ _ _ _ (gather-more _ _ _ _ _ _ (gather-none (a .slots .now) 0 _ (start .pre .2)) _ _ refl (omega arith)) refl (omega arith) (omega arith))
 
 shared-slice-read-wide : tie.Need-shared-slice-read-wide
 shared-slice-read-wide c = search needs
@@ -31,152 +92,85 @@ shared-slice-read-wide c = search needs
 wide-requires : tie.Need-wide-requires
 wide-requires c κs = search needs
 
--- where the rules start
-begins : (c : tie.After-wide)
-    → (let a = c .before .before .before .before .before .before .args in
-    Starts (moveOf (a .sizes) (a .list .now) (a .sets .now)) (a .k) (c .wide .result))
-begins c =
-    let start = c .before .before .before .before .before .before in
+-- ---- the rows of its set
+set-lt : (c : tie.After-wide) → c .wide .result < c .before .before .before .before .before .before .before .before .args .sizes .m
+unfolding setOf
+set-lt c =
+    let start = c .before .before .before .before .before .before .before .before in
     let a = start .args in
-    starts (moveOf (a .sizes) (a .list .now) (a .sets .now)) (start .pre .0 .given) (a .k) (c .wide .result) (omega arith) (c .wide .ensures)
+    rw (c .wide .ensures) (set-in (moveOf (a .sizes) (a .list .now) (a .sets .now)) (start .pre .0) (a .k) (start .pre .1))
 
-full-of-requires : tie.Need-full-of-requires
-full-of-requires c κs =
-    let a = c .before .before .before .before .before .before .args in
-    omega (arith, block-in-marks (a .sizes) (a .k / a .sizes .m + 1) (begins c .block .high))
+set-rows-requires : tie.Need-set-rows-requires
+set-rows-requires c κs = (c .before .before .before .before .before .before .before .before .before .before .pre .0, set-lt (c .before .before), refl, refl)
 
-home-requires : tie.Need-home-requires
-home-requires c κs = omega (arith, listed (c .before .before .before .before .before .before .before .before))
-
-mul-slots : tie.Need-mul-slots
-mul-slots c = search needs
-
-slice-write-slots : tie.Need-slice-write-slots
-slice-write-slots c = search needs
-
-add-result : tie.Need-add-result
-add-result c = search needs
-
-same-length : tie.Need-same-length
-same-length c = search needs
-
-returns : tie.Need-returns
-returns c =
-    let start = c .before .before .before .before .before .before .before .before .before in
-    let a = start .args in
-    let f = sym (c .before .before .full-of .ensures) ∙ c .before .if1 .taken in
-    record {
-      slots-are = rw (c .home .ensures) (put-last (a .slots .now) (a .at) _ _ _ (omega arith) refl (read-plain (moveOf (a .sizes) (a .list .now) (a .sets .now)) (start .pre .0 .given) (a .marks .now) (a .k) _ (begins (c .before .before .before)) f));
-      rest-is = rest-more (a .slots .now) (a .slots .now) (a .at) _ refl;
-      some = omega arith;
-      few = omega arith;
-    }
-
-goes-to-requires : tie.Need-goes-to-requires
-goes-to-requires c κs = (c .before .before .before .before .before .before .before .before .pre .0 .given .ranges .m-low, listed (c .before .before .before .before .before .before .before .before) .0)
-
--- the destination block
-next : (c : tie.After-goes-to)
-    → (let a = c .before .before .before .before .before .before .before .before .before .args in
-    Next (dest (moveOf (a .sizes) (a .list .now) (a .sets .now)) (c .before .before .before .wide .result)) (a .sizes .n) (a .k / a .sizes .m + 1) (c .goes-to .result))
-next c =
-    let start = c .before .before .before .before .before .before .before .before .before in
-    let a = start .args in
-    let S = begins (c .before .before .before) in
-    on-next (moveOf (a .sizes) (a .list .now) (a .sets .now)) (start .pre .0 .given) (c .before .before .before .wide .result) (S .set-ok) (a .k / a .sizes .m + 1) (a .k) (c .goes-to .result) (S .block .low) (S .block .high) (S .page-is) (c .goes-to .ensures)
-
-full-of-requires-2 : tie.Need-full-of-requires-2
-full-of-requires-2 c κs = omega (arith, block-in-marks ((c .before .before .before .before .before .before .before .before .before .args .sizes)) (c .goes-to .result) (next c .high))
-
-home-requires-2 : tie.Need-home-requires-2
-home-requires-2 c κs = omega (arith, listed (c .before .before .before .before .before .before .before .before .before .before .before))
-
-mul-slots-2 : tie.Need-mul-slots-2
-mul-slots-2 c = search needs
-
-slice-write-slots-2 : tie.Need-slice-write-slots-2
-slice-write-slots-2 c = search needs
-
-add-result-2 : tie.Need-add-result-2
-add-result-2 c = search needs
-
-same-length-2 : tie.Need-same-length-2
-same-length-2 c = search needs
-
-returns-2 : tie.Need-returns-2
-returns-2 c =
-    let start = c .before .before .before .before .before .before .before .before .before .before .before .before in
-    let a = start .args in
-    let plain = sym (c .before .before .before .before .before .full-of .ensures) ∙ c .before .before .before .before .if1 .left in
-    let f = sym (c .before .before .full-of2 .ensures) ∙ c .before .if2 .taken in
-    record {
-      slots-are = rw (c .home2 .ensures) (put-last (a .slots .now) (a .at) _ _ _ (omega arith) refl (read-final (moveOf (a .sizes) (a .list .now) (a .sets .now)) (start .pre .0 .given) (a .marks .now) (a .k) _ (begins (c .before .before .before .before .before .before)) _ (next (c .before .before .before)) plain f));
-      rest-is = rest-more (a .slots .now) (a .slots .now) (a .at) _ refl;
-      some = omega arith;
-      few = omega arith;
-    }
+slice-aggregate-top-of : tie.Need-slice-aggregate-top-of
+slice-aggregate-top-of c = sym (c .before .set-rows .ensures .1 .fits .room)
 
 top-of-requires : tie.Need-top-of-requires
 top-of-requires c κs =
-    let start = c .before .before .before .before .before .before .before .before .before .before .before in
-    let a = start .args in
-    let T = start .pre .0 in
-    let S = begins (c .before .before .before .before .before) in
-    (T .given .ranges .n-high, T .given .ranges .m-high, S .set-ok, S .block .low, S .block .high, leads (moveOf (a .sizes) (a .list .now) (a .sets .now)) (a .pages .now) (a .from .now) T (c .before .before .before .before .before .wide .result) (S .set-ok))
+    (c .before .set-rows .ensures .1 .fits, c .before .before .before .before .before .before .before .before .before .before .before .before .pre .0 .ranges .n-high, omega arith, block-high (c .before .before .before .before .before .before .before .before .before .before) .0)
 
--- the top of the cycle
-highest : (c : tie.After-top-of)
-    → (let a = c .before .before .before .before .before .before .before .before .before .before .before .before .args in
-    TopIs (moveOf (a .sizes) (a .list .now) (a .sets .now)) (c .before .before .before .before .before .before .wide .result) (a .k / a .sizes .m + 1) (c .top-of .result))
-highest c =
-    let start = c .before .before .before .before .before .before .before .before .before .before .before .before in
+-- ---- rules 2 and 3
+sub-if3 : tie.Need-sub-if3
+sub-if3 c =
+    let start = c .before .before .before .before .before .before .before .before .before .before .before .before .before in
     let a = start .args in
-    let T = start .pre .0 in
-    let S = begins (c .before .before .before .before .before .before) in
-    top-is (moveOf (a .sizes) (a .list .now) (a .sets .now)) (T .given) (c .before .before .before .before .before .before .wide .result) (a .k / a .sizes .m + 1) (c .top-of .result) (S .set-ok) (S .block) (c .top-of .ensures (a .list .now) (a .sets .now) (a .pages .now) T)
+    let M = moveOf (a .sizes) (a .list .now) (a .sets .now) in
+    let v-in = block-in M (start .pre .0) (a .k) (start .pre .1) in
+    let set-ok = set-lt (c .before .before .before .before .before) in
+    omega (arith, c .top-of .ensures, top-by M (start .pre .0) _ set-ok _ v-in _ (c .before .before .set-rows .ensures .1), top-in M (start .pre .0) _ set-ok _ v-in .low)
 
-goes-back-requires : tie.Need-goes-back-requires
-goes-back-requires c κs =
-    let start = c .before .before .before .before .before .before .before .before .before .before .before .before in
-    let G = start .pre .0 .given in
-    let H = highest c in
-    (G .ranges .m-low, G .ranges .n-high, G .ranges .s-high, H .low, H .high, start .pre .1 .0)
+slice-aggregate-go-back : tie.Need-slice-aggregate-go-back
+slice-aggregate-go-back c = sym (c .before .before .before .before .before .before .set-rows .ensures .0 .fits .room)
+
+slice-aggregate-go-back-2 : tie.Need-slice-aggregate-go-back-2
+slice-aggregate-go-back-2 c = sym (c .before .before .before .before .before .before .before .set-rows .ensures .1 .fits .room)
 
 go-back-requires : tie.Need-go-back-requires
 go-back-requires c κs =
-    let start = c .before .before .before .before .before .before .before .before .before .before .before .before .before .before .before in
-    let S = begins (c .before .before .before .before .before .before .before .before .before) in
-    (start .pre .0, ((omega arith, S .set-ok, S .block .low, S .block .high), (sym (highest (c .before .before .before) .is), omega arith, omega arith)))
+    let start = c .before .before .before .before .before .before .before .before .before .before .before .before .before .before .before .before .before .before .before in
+    let rows = c .before .before .before .before .before .before .before .before .set-rows .ensures in
+    let G = start .pre .0 .ranges in
+    ((rows .0 .fits, rows .1 .fits, omega arith, block-high (c .before .before .before .before .before .before .before .before .before .before .before .before .before .before .before .before .before) .0), (G .n-high, G .m-high, set-lt (c .before .before .before .before .before .before .before .before .before .before .before), start .pre .2, omega arith))
+
+reciprocal-requires : tie.Need-reciprocal-requires
+reciprocal-requires c κs = search needs
+
+slice-aggregate-go-on : tie.Need-slice-aggregate-go-on
+slice-aggregate-go-on c = sym (c .before .before .before .before .before .before .before .set-rows .ensures .0 .fits .room)
 
 go-on-requires : tie.Need-go-on-requires
 go-on-requires c κs =
-    let start = c .before .before .before .before .before .before .before .before .before .before .before .before .before .before .before in
-    let S = begins (c .before .before .before .before .before .before .before .before .before) in
-    (start .pre .0, ((omega arith, S .set-ok, S .block .low, S .block .high), (omega arith, omega arith)))
-
-same-length-3 : tie.Need-same-length-3
-same-length-3 c = search needs
+    let start = c .before .before .before .before .before .before .before .before .before .before .before .before .before .before .before .before .before .before .before in
+    let a = start .args in
+    let G = start .pre .0 .ranges in
+    ((c .before .before .before .before .before .before .before .before .set-rows .ensures .0 .fits, list-in (moveOf (a .sizes) (a .list .now) (a .sets .now)) (start .pre .0), goes (c .before .before .before .before .before .before .before .before .before .before .before .before .before .before) .0, c .before .before .reciprocal .ensures), (G .n-high, G .m-high, set-lt (c .before .before .before .before .before .before .before .before .before .before .before), start .pre .2, omega arith))
 
 returns-3 : tie.Need-returns-3
+unfolding setOf destBlock
 returns-3 c =
-    let start = c .before .before .before .before .before .before .before .before .before .before .before .before .before .before .before .before .before .before in
+    let start = c .before .before .before .before .before .before .before .before .before .before .before .before .before .before .before .before .before .before .before .before in
     let a = start .args in
-    let plain = sym (c .before .before .before .before .before .before .before .before .before .before .before .full-of .ensures) ∙ c .before .before .before .before .before .before .before .before .before .before .if1 .left in
-    let final = sym (c .before .before .before .before .before .before .before .before .full-of2 .ensures) ∙ c .before .before .before .before .before .before .before .if2 .left in
-    let t = sym (c .before .before .before .before .before .goes-back .ensures) ∙ c .before .before .before .before .if3 .taken in
-    rw (read-back (moveOf (a .sizes) (a .list .now) (a .sets .now)) (start .pre .0 .given) (a .marks .now) (a .k) _ (begins (c .before .before .before .before .before .before .before .before .before .before .before .before)) _ (next (c .before .before .before .before .before .before .before .before .before)) plain _ (highest (c .before .before .before .before .before .before)) final t) (c .before .before .go-back .ensures)
-
-same-length-4 : tie.Need-same-length-4
-same-length-4 c = search needs
+    let M = moveOf (a .sizes) (a .list .now) (a .sets .now) in
+    let set = c .before .before .before .before .before .before .before .before .before .before .before .before .wide .ensures in
+    let rows = rw set at (c .before .before .before .before .before .before .before .before .before .set-rows .ensures) in
+    let top = c .before .before .before .before .before .before .before .top-of .ensures in
+    λ marks T.
+    rw (read-back M (start .pre .0) marks (a .moment) T (a .k) (start .pre .1) (c .before .before .before .before .before .before .before .before .before .before .before .before .before .before .before .before .before .if1 .left) (rw (c .before .before .before .before .before .before .before .before .before .before .before .before .before .before .before .entry .ensures) at (c .before .before .before .before .before .before .before .before .before .before .before .before .before .before .if2 .left)) _ _ (rows .0) (rows .1) (rw top at (c .before .before .before .before .if3 .taken)))
+    (rw (set, top) at (c .go-back .ensures))
 
 returns-4 : tie.Need-returns-4
+unfolding setOf destBlock
 returns-4 c =
-    let start = c .before .before .before .before .before .before .before .before .before .before .before .before .before .before .before .before .before .before in
+    let start = c .before .before .before .before .before .before .before .before .before .before .before .before .before .before .before .before .before .before .before .before in
     let a = start .args in
-    let plain = sym (c .before .before .before .before .before .before .before .before .before .before .before .full-of .ensures) ∙ c .before .before .before .before .before .before .before .before .before .before .if1 .left in
-    let final = sym (c .before .before .before .before .before .before .before .before .full-of2 .ensures) ∙ c .before .before .before .before .before .before .before .if2 .left in
-    let t = sym (c .before .before .before .before .before .goes-back .ensures) ∙ c .before .before .before .before .if3 .left in
-    rw (read-on (moveOf (a .sizes) (a .list .now) (a .sets .now)) (start .pre .0 .given) (a .marks .now) (a .k) _ (begins (c .before .before .before .before .before .before .before .before .before .before .before .before)) _ (next (c .before .before .before .before .before .before .before .before .before)) plain _ (highest (c .before .before .before .before .before .before)) final t) (c .before .before .go-on .ensures)
+    let M = moveOf (a .sizes) (a .list .now) (a .sets .now) in
+    let set = c .before .before .before .before .before .before .before .before .before .before .before .before .wide .ensures in
+    let to = c .before .before .before .before .before .before .before .before .before .before .before .before .before .before .before .entry .ensures in
+    let rows = rw set at (c .before .before .before .before .before .before .before .before .before .set-rows .ensures) in
+    λ marks T.
+    rw (read-on M (start .pre .0) marks (a .moment) T (a .k) (start .pre .1) (c .before .before .before .before .before .before .before .before .before .before .before .before .before .before .before .before .before .if1 .left) (rw to at (c .before .before .before .before .before .before .before .before .before .before .before .before .before .before .if2 .left)) _ _ (rows .0) (rows .1) (rw (c .before .before .before .before .before .before .before .top-of .ensures) at (c .before .before .before .before .if3 .left)))
+    (rw (set, to) at (c .go-on .ensures))
 
 pub read-slots-spec : {M : Type 1} → statement M
 read-slots-spec =
@@ -184,28 +178,28 @@ read-slots-spec =
     (tie.spec
     div-v
     add-v
+    add-slots
+    element-write-slots
+    returns
+    mul-entry
+    shared-slice-read-entry
+    entry-requires
+    div-if2
+    add-if2
+    add-slots-2
+    element-write-slots-2
+    returns-2
     shared-slice-read-wide
     wide-requires
-    full-of-requires
-    home-requires
-    mul-slots
-    slice-write-slots
-    add-result
-    same-length
-    returns
-    goes-to-requires
-    full-of-requires-2
-    home-requires-2
-    mul-slots-2
-    slice-write-slots-2
-    add-result-2
-    same-length-2
-    returns-2
+    set-rows-requires
+    slice-aggregate-top-of
     top-of-requires
-    goes-back-requires
+    sub-if3
+    slice-aggregate-go-back
+    slice-aggregate-go-back-2
     go-back-requires
+    reciprocal-requires
+    slice-aggregate-go-on
     go-on-requires
-    same-length-3
     returns-3
-    same-length-4
     returns-4)

@@ -1,0 +1,122 @@
+-- The table of pages is filled original by original.
+use mathlib.Core.Path.{_≡_, refl, sym, ap, _∙_}
+use Prim.Native.Nat.{ℕ, _+_, _-_, _*_, _/_, _%_, _≤_, _<_}
+use native.Mathlib.Omega.{arith}
+use borrow.Author.Needs.{needs}
+use lib.ListN.{length, set}
+use Rattle.split.specs.Split.{setOf}
+use Rattle.walk.specs.inner.Rows.{rowLength}
+use Rattle.walk.specs.inner.Tables.{filledBy, pagesBy}
+use Rattle.walk.proofs.TableLaws.{filled-more, Counts, counts-more, counts-turn, block-is, page-is, block-lt}
+use Rattle.walk.proofs.rows.pages_table.Statement.{statement}
+use Rattle.walk.proofs.rows.pages_table.Tie as tie
+
+abbrev Inv-loop : tie.InvT-loop
+Inv-loop sets pages₀ m k₀ block₀ page₀ pages k block page = (pages ≡ pagesBy m sets k pages₀) × (k ≤ length sets) × Counts m k block page
+
+abbrev μ-loop : tie.MeasureT-loop
+μ-loop sets pages₀ m k₀ block₀ page₀ pages k block page = length sets - k
+
+loop-holds : tie.Need-loop-holds Inv-loop μ-loop
+unfolding filledBy
+loop-holds c = (refl, omega arith, record { is = omega arith; page-lt = c .before .pre .0 .m-low })
+
+-- the block and the page of original k are in range
+inside : (c : tie.In-loop Inv-loop μ-loop) → (c .before .loop .block < 64) × (c .before .loop .page < 64)
+inside c =
+    let start = c .before .before .before in
+    let z = start .args .sizes in
+    let l = c .before .loop in
+    let k-in : l .k < z .n * z .m = omega (arith, start .pre .1 .length-is) in
+    (omega (arith, block-is (z .m) (l .k) (l .block) (l .page) (l .inv .2), block-lt (z .n) (z .m) (l .k) (start .pre .0 .m-low) k-in, start .pre .0 .n-high), omega (arith, l .inv .2 .page-lt, start .pre .0 .m-high))
+
+narrow-requires : tie.Need-narrow-requires Inv-loop μ-loop
+narrow-requires c κs = omega (arith, inside c)
+
+shared-slice-read-wide : tie.Need-shared-slice-read-wide Inv-loop μ-loop
+shared-slice-read-wide c = search needs
+
+wide-requires : tie.Need-wide-requires Inv-loop μ-loop
+wide-requires c κs = search needs
+
+-- so is its set
+set-lt : (c : tie.After-wide Inv-loop μ-loop) → c .wide .result < 64
+set-lt c =
+    let start = c .before .before .before .before .before .before in
+    let l = c .before .before .before .before .loop in
+    omega (arith, c .wide .ensures, start .pre .1 .set-lt (l .k) (omega (arith, start .pre .1 .length-is)), start .pre .0 .m-high)
+
+mul-pages : tie.Need-mul-pages Inv-loop μ-loop
+mul-pages c = omega (arith, set-lt c)
+
+add-pages : tie.Need-add-pages Inv-loop μ-loop
+add-pages c = omega (arith, set-lt c, inside (c .before .before .before))
+
+element-write-pages : tie.Need-element-write-pages Inv-loop μ-loop
+element-write-pages c = omega (arith, set-lt c, inside (c .before .before .before))
+
+add-k : tie.Need-add-k Inv-loop μ-loop
+add-k c = search needs
+
+add-page : tie.Need-add-page Inv-loop μ-loop
+add-page c = omega (arith, inside (c .before .before .before))
+
+add-block : tie.Need-add-block Inv-loop μ-loop
+add-block c = omega (arith, inside (c .before .before .before .before))
+
+-- the table with the entry of original k
+more : (c : tie.After-wide Inv-loop μ-loop)
+    → (let a = c .before .before .before .before .before .before .args in
+    let l = c .before .before .before .before .loop in
+    set (l .pages) (c .wide .result * rowLength + l .block) (c .before .before .narrow .result) ≡ pagesBy (a .sizes .m) (a .sets .now) (l .k + 1) (a .pages .now))
+unfolding setOf
+more c =
+    let a = c .before .before .before .before .before .before .args in
+    let l = c .before .before .before .before .loop in
+    let C = l .inv .2 in
+    filled-more (λ k. setOf (a .sets .now) k * rowLength + k / a .sizes .m) (λ k. k % a .sizes .m) (a .pages .now) (l .pages) (l .k) _ _ (l .inv .0)
+    (rw (c .wide .ensures, block-is (a .sizes .m) (l .k) (l .block) (l .page) C)) (c .before .before .narrow .ensures ∙ page-is (a .sizes .m) (l .k) (l .block) (l .page) C)
+
+loop-less : tie.Need-loop-less Inv-loop μ-loop
+loop-less c = search needs
+
+loop-again : tie.Need-loop-again Inv-loop μ-loop
+loop-again c =
+    let l = c .before .before .before .before .before .loop in
+    (more (c .before), omega arith, counts-turn (c .before .before .before .before .before .before .before .args .sizes .m) (l .k) (l .block) (l .page) (l .inv .2) (c .if1 .taken))
+
+loop-less-2 : tie.Need-loop-less-2 Inv-loop μ-loop
+loop-less-2 c = search needs
+
+loop-again-2 : tie.Need-loop-again-2 Inv-loop μ-loop
+loop-again-2 c =
+    let l = c .before .before .before .before .before .loop in
+    (more (c .before), omega arith, counts-more (c .before .before .before .before .before .before .before .args .sizes .m) (l .k) (l .block) (l .page) (l .inv .2) (c .if1 .left))
+
+returns : tie.Need-returns Inv-loop μ-loop
+returns c =
+    let l = c .before .loop in
+    let all : l .k ≡ length (c .before .before .before .args .sets .now) = omega arith in
+    rw all at (l .inv .0)
+
+pub pages-table-spec : {M : Type 1} → statement M
+pages-table-spec =
+    tie.close
+    (tie.spec
+    Inv-loop
+    μ-loop
+    loop-holds
+    narrow-requires
+    shared-slice-read-wide
+    wide-requires
+    mul-pages
+    add-pages
+    element-write-pages
+    add-k
+    add-page
+    add-block
+    loop-less
+    loop-again
+    loop-less-2
+    loop-again-2
+    returns)

@@ -1,0 +1,169 @@
+-- The table of sources is filled original by original.
+use mathlib.Core.Path.{_≡_, refl, ap, _∙_}
+use Prim.Native.Nat.{ℕ, _+_, _-_, _*_, _/_, _≤_, _<_}
+use native.Mathlib.Omega.{arith}
+use borrow.Author.Needs.{needs}
+use lib.ListN.{length, getD, set}
+use Rattle.flash.proofs.Bounds.{product-le}
+use Rattle.split.specs.Split.{setOf}
+use Rattle.walk.specs.inner.Rows.{rowLength}
+use Rattle.walk.specs.inner.Tables.{filledBy, sourcesBy}
+use Rattle.walk.proofs.TableLaws.{filled-more, length-filled, Counts, counts-more, counts-turn, block-is, block-lt}
+use Rattle.walk.proofs.rows.sources_table.Statement.{statement}
+use Rattle.walk.proofs.rows.sources_table.Tie as tie
+
+abbrev Inv-loop : tie.InvT-loop
+Inv-loop list sets sources₀ m by k₀ block₀ page₀ sources k block page = (sources ≡ sourcesBy m list sets k sources₀) × (k ≤ length sets) × Counts m k block page
+
+abbrev μ-loop : tie.MeasureT-loop
+μ-loop list sets sources₀ m by k₀ block₀ page₀ sources k block page = length sets - k
+
+reciprocal-requires : tie.Need-reciprocal-requires Inv-loop μ-loop
+reciprocal-requires c κs = c .before .before .before .pre .0 .m-low
+
+loop-holds : tie.Need-loop-holds Inv-loop μ-loop
+unfolding filledBy
+loop-holds c = (refl, omega arith, record { is = omega arith; page-lt = c .before .before .before .before .pre .0 .m-low })
+
+-- original k is one of the list; its block and its page are in range
+inside : (c : tie.In-loop Inv-loop μ-loop)
+    → (let z = c .before .before .before .before .before .before .args .sizes in let l = c .before .loop in (l .k < z .n * z .m) × (l .block < 64) × (l .page < 64))
+inside c =
+    let start = c .before .before .before .before .before .before in
+    let z = start .args .sizes in
+    let l = c .before .loop in
+    let k-in : l .k < z .n * z .m = omega (arith, start .pre .2 .length-is) in (
+      k-in,
+      omega (arith, block-is (z .m) (l .k) (l .block) (l .page) (l .inv .2), block-lt (z .n) (z .m) (l .k) (start .pre .0 .m-low) k-in, start .pre .0 .n-high),
+      omega (arith, l .inv .2 .page-lt, start .pre .0 .m-high),
+    )
+
+mul-entry : tie.Need-mul-entry Inv-loop μ-loop
+mul-entry c = search needs
+
+shared-slice-read-entry : tie.Need-shared-slice-read-entry Inv-loop μ-loop
+shared-slice-read-entry c = omega (arith, inside (c .before), c .before .before .before .before .before .before .before .pre .1 .length-is)
+
+entry-requires : tie.Need-entry-requires Inv-loop μ-loop
+entry-requires c κs = search needs
+
+-- where it goes
+goes : (c : tie.After-entry Inv-loop μ-loop) → (let z = c .before .before .before .before .before .before .before .before .args .sizes in c .entry .result < z .n * z .m)
+goes c =
+    let start = c .before .before .before .before .before .before .before .before in
+    rw (c .entry .ensures) (start .pre .1 .entry-lt (c .before .before .before .loop .k) (inside (c .before .before) .0))
+
+quotient-requires : tie.Need-quotient-requires Inv-loop μ-loop
+quotient-requires c κs =
+    let start = c .before .before .before .before .before .before .before .before in
+    let z = start .args .sizes in
+    let B = start .pre .0 in
+    (omega (arith, goes c, product-le (z .n) (z .m) {c = 64} {d = 64} (B .n-high) (B .m-high)), B .m-low, B .m-high, c .before .before .before .before .reciprocal .ensures)
+
+add-narrow : tie.Need-add-narrow Inv-loop μ-loop
+add-narrow c = omega (arith, inside (c .before .before .before))
+
+narrow-requires : tie.Need-narrow-requires Inv-loop μ-loop
+narrow-requires c κs = omega (arith, inside (c .before .before .before))
+
+shared-slice-read-wide : tie.Need-shared-slice-read-wide Inv-loop μ-loop
+shared-slice-read-wide c = search needs
+
+wide-requires : tie.Need-wide-requires Inv-loop μ-loop
+wide-requires c κs = search needs
+
+-- the row and the entry in it
+index-lt : (c : tie.After-wide Inv-loop μ-loop) → (c .wide .result < 64) × (c .before .before .before .quotient .result < 64)
+index-lt c =
+    let start = c .before .before .before .before .before .before .before .before .before .before .before .before in
+    let z = start .args .sizes in
+    let B = start .pre .0 in
+    let e = c .before .before .before .before in (
+      omega (arith, c .wide .ensures, start .pre .2 .set-lt (e .before .before .before .loop .k) (inside (e .before .before) .0), B .m-high),
+      omega (arith, c .before .before .before .quotient .ensures, block-lt (z .n) (z .m) (e .entry .result) (B .m-low) (goes e), B .n-high),
+    )
+
+mul-sources : tie.Need-mul-sources Inv-loop μ-loop
+mul-sources c = omega (arith, index-lt c)
+
+add-sources : tie.Need-add-sources Inv-loop μ-loop
+add-sources c = omega (arith, index-lt c)
+
+slice-write-sources : tie.Need-slice-write-sources Inv-loop μ-loop
+slice-write-sources c = rw (c .before .before .before .before .before .before .before .loop .inv .0, length-filled _ _ _ _) (omega (arith, index-lt c, c .before .before .before .before .before .before .before .before .before .before .before .before .pre .3))
+
+add-k : tie.Need-add-k Inv-loop μ-loop
+add-k c = search needs
+
+add-page : tie.Need-add-page Inv-loop μ-loop
+add-page c = omega (arith, inside (c .before .before .before .before .before .before))
+
+add-block : tie.Need-add-block Inv-loop μ-loop
+add-block c = omega (arith, inside (c .before .before .before .before .before .before .before))
+
+-- the table with the entry of original k
+more : (c : tie.After-wide Inv-loop μ-loop)
+    → (let a = c .before .before .before .before .before .before .before .before .before .before .before .before .args in
+    let l = c .before .before .before .before .before .before .before .loop in
+    set (l .sources) (c .wide .result * rowLength + c .before .before .before .quotient .result) (c .before .before .narrow .result) ≡ sourcesBy (a .sizes .m) (a .list .now) (a .sets .now) (l .k + 1) (a .sources .now))
+unfolding setOf
+more c =
+    let a = c .before .before .before .before .before .before .before .before .before .before .before .before .args in
+    let l = c .before .before .before .before .before .before .before .loop in
+    filled-more (λ k. setOf (a .sets .now) k * rowLength + getD (a .list .now) k 0 / a .sizes .m) (λ k. k / a .sizes .m + 1) (a .sources .now) (l .sources) (l .k) _ _ (l .inv .0)
+    (rw (c .wide .ensures, c .before .before .before .quotient .ensures, c .before .before .before .before .entry .ensures))
+    (c .before .before .narrow .ensures ∙ ap (λ (x : ℕ). x + 1) (block-is (a .sizes .m) (l .k) (l .block) (l .page) (l .inv .2)))
+
+loop-less : tie.Need-loop-less Inv-loop μ-loop
+loop-less c = search needs
+
+loop-again : tie.Need-loop-again Inv-loop μ-loop
+loop-again c =
+    let l = c .before .before .before .before .before .before .before .before .loop in
+    (more (c .before), omega arith, counts-turn (c .before .before .before .before .before .before .before .before .before .before .before .before .before .args .sizes .m) (l .k) (l .block) (l .page) (l .inv .2) (c .if1 .taken))
+
+loop-less-2 : tie.Need-loop-less-2 Inv-loop μ-loop
+loop-less-2 c = search needs
+
+loop-again-2 : tie.Need-loop-again-2 Inv-loop μ-loop
+loop-again-2 c =
+    let l = c .before .before .before .before .before .before .before .before .loop in
+    (more (c .before), omega arith, counts-more (c .before .before .before .before .before .before .before .before .before .before .before .before .before .args .sizes .m) (l .k) (l .block) (l .page) (l .inv .2) (c .if1 .left))
+
+same-length : tie.Need-same-length Inv-loop μ-loop
+same-length c = rw (c .before .loop .inv .0) (length-filled _ _ (c .before .loop .k) _)
+
+returns : tie.Need-returns Inv-loop μ-loop
+returns c =
+    let l = c .before .loop in
+    let all : l .k ≡ length (c .before .before .before .before .before .before .args .sets .now) = omega arith in
+    rw all at (l .inv .0)
+
+pub sources-table-spec : {M : Type 1} → statement M
+sources-table-spec =
+    tie.close
+    (tie.spec
+    Inv-loop
+    μ-loop
+    reciprocal-requires
+    loop-holds
+    mul-entry
+    shared-slice-read-entry
+    entry-requires
+    quotient-requires
+    add-narrow
+    narrow-requires
+    shared-slice-read-wide
+    wide-requires
+    mul-sources
+    add-sources
+    slice-write-sources
+    add-k
+    add-page
+    add-block
+    loop-less
+    loop-again
+    loop-less-2
+    loop-again-2
+    same-length
+    returns)

@@ -1,0 +1,60 @@
+-- The rows of a set: for each data block, the page of it that is the set's, and the block whose page goes there.
+use mathlib.Core.Path.{_≡_}
+use mathlib.Core.List.{List}
+use Prim.Native.Nat.{ℕ, _-_, _*_, _≤_, _<_}
+use lib.ListN.{length, getD}
+use Rattle.flash.specs.declared.sizes.Sizes.{Sizes}
+use Rattle.flash.specs.Geometry.{numberAt}
+use Rattle.flash.specs.Lists.{part}
+use Rattle.method.specs.Move.{Move}
+use Rattle.method.specs.Cycle.{D, pred}
+
+-- a row has room for 64 blocks, and a table for the rows of 64 sets
+abbrev pub rowLength : ℕ
+rowLength = 64
+
+abbrev pub tableLength : ℕ
+tableLength = 4096
+
+-- a row starts with block 1
+abbrev pub entryOf : (row : List ℕ) → (block : ℕ) → ℕ
+entryOf row block = getD row (block - 1) 0
+
+-- what a walk asks of a row: pages of a block, or data blocks
+pub record PagesIn (n m : ℕ) (row : List ℕ) : Type 0 where
+  pub room : length row ≡ rowLength
+  pub page-lt : (block : ℕ) → 1 ≤ block → block ≤ n → entryOf row block < m
+
+pub record BlocksIn (n : ℕ) (row : List ℕ) : Type 0 where
+  pub room : length row ≡ rowLength
+  pub low : (block : ℕ) → 1 ≤ block → block ≤ n → 1 ≤ entryOf row block
+  pub high : (block : ℕ) → 1 ≤ block → block ≤ n → entryOf row block ≤ n
+
+-- and of the list and the set bytes: page numbers, and sets
+pub record ListIn (n m : ℕ) (list : List ℕ) : Type 0 where
+  pub length-is : length list ≡ n * m
+  pub entry-lt : (k : ℕ) → k < n * m → getD list k 0 < n * m
+
+pub record SetsIn (n m : ℕ) (sets : List ℕ) : Type 0 where
+  pub length-is : length sets ≡ n * m
+  pub set-lt : (k : ℕ) → k < n * m → getD sets k 0 < m
+
+module _ (M : Move) (set : ℕ) (row : List ℕ) where
+  open Sizes (M .sizes) using (n, m)
+
+  pub record PagesRow : Type 0 where
+    pub fits : PagesIn n m row
+    pub is : (block : ℕ) → 1 ≤ block → block ≤ n → numberAt m block (entryOf row block) ≡ D M set block
+
+  pub record SourcesRow : Type 0 where
+    pub fits : BlocksIn n row
+    pub is : (block : ℕ) → 1 ≤ block → block ≤ n → entryOf row block ≡ pred M set block
+
+module _ (M : Move) (table : List ℕ) where
+  pub record PagesTable : Type 0 where
+    pub room : length table ≡ tableLength
+    pub row : (set : ℕ) → set < M .sizes .m → PagesRow M set (part rowLength set table)
+
+  pub record SourcesTable : Type 0 where
+    pub room : length table ≡ tableLength
+    pub row : (set : ℕ) → set < M .sizes .m → SourcesRow M set (part rowLength set table)

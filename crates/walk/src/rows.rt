@@ -1,0 +1,112 @@
+// The rows of a set, and the tables of all sets: the page of each block that is the set's, and the block where the page that goes
+// to a block comes from.
+ghost use mathlib.Core.Path.{_≡_};
+ghost use Prim.Native.Nat.{_+_, _*_, _≤_, _<_};
+ghost use lib.Dec.{eqb};
+ghost use lib.ListN.{length};
+ghost use Rattle.flash.specs.Geometry.{Bounds};
+ghost use Rattle.flash.specs.Lists.{range, first};
+ghost use Rattle.split.specs.Split.{setOf};
+ghost use Rattle.method.specs.Move.{moveOf, AcceptedMove};
+ghost use Rattle.walk.specs.inner.Rows.{rowLength, tableLength, ListIn, SetsIn, PagesRow, SourcesRow};
+ghost use Rattle.walk.specs.inner.Tables.{pagesBy, sourcesBy};
+use flash::casts::entry;
+use flash::casts::narrow;
+use flash::casts::wide;
+use flash::quotient::quotient;
+use flash::quotient::reciprocal;
+use flash::sizes::Sizes;
+
+// The blocks of a row, and the entries of a table with a row for each set.
+pub const ROW: usize = 64;
+
+pub const TABLE: usize = 4096;
+
+// The table of pages. The block and the page of original k are counted along, as a division costs more.
+pub fn pages_table(sizes: Sizes, sets: &[u8], pages: &mut [u8; TABLE])
+    requires { ⌜ Bounds sizes × SetsIn (sizes .n) (sizes .m) (now sets) × (length (now pages) ≡ tableLength) ⌝ }
+    ensures { λ _. ⌜ now (pages .exit) ≡ pagesBy (sizes .m) (now (sets .entry)) (length (now (sets .entry))) (now (pages .entry)) ⌝ }
+{
+    let m = sizes.m;
+    let mut k = 0;
+    let mut block = 0;
+    let mut page = 0;
+    while k < sets.len() {
+        pages[wide(sets[k]) * ROW + block] = narrow(page);
+        k += 1;
+        page += 1;
+        if page == m {
+            page = 0;
+            block += 1;
+        }
+    }
+}
+
+// The table of sources.
+pub fn sources_table(sizes: Sizes, list: &[u16], sets: &[u8], sources: &mut [u8])
+    requires { ⌜ Bounds sizes × ListIn (sizes .n) (sizes .m) (now list) × SetsIn (sizes .n) (sizes .m) (now sets)
+        × (length (now sources) ≡ tableLength) ⌝ }
+    ensures { λ _. ⌜ now (sources .exit) ≡ sourcesBy (sizes .m) (now (list .entry)) (now (sets .entry)) (length (now (sets .entry)))
+        (now (sources .entry)) ⌝ }
+{
+    let m = sizes.m;
+    let by = reciprocal(m);
+    let mut k = 0;
+    let mut block = 0;
+    let mut page = 0;
+    while k < sets.len() {
+        let target = quotient(entry(list[k]), m, by);
+        sources[wide(sets[k]) * ROW + target] = narrow(block + 1);
+        k += 1;
+        page += 1;
+        if page == m {
+            page = 0;
+            block += 1;
+        }
+    }
+}
+
+// The first of `count` originals from `start` on that is of the set, or 0.
+fn original_of(sets: &[u8], set: usize, start: usize, count: usize) -> usize
+    requires { ⌜ start + count ≤ length (now sets) ⌝ }
+    ensures { λ r. ⌜ r ≡ first (λ k. eqb (setOf (now (sets .entry)) k) set) (range start count) 0 ⌝ }
+{
+    let mut k = start;
+    let mut left = count;
+    while 0 < left {
+        if wide(sets[k]) == set {
+            return k;
+        }
+        k += 1;
+        left -= 1;
+    }
+    0
+}
+
+// The rows of one set.
+pub fn set_rows(
+    sizes: Sizes,
+    list: &[u16],
+    sets: &[u8],
+    set: usize,
+    pages: &mut [u8; ROW],
+    sources: &mut [u8; ROW],
+)
+    requires { ⌜ AcceptedMove (moveOf sizes (now list) (now sets)) × (set < sizes .m) × (length (now pages) ≡ rowLength)
+        × (length (now sources) ≡ rowLength) ⌝ }
+    ensures { λ _. ⌜ PagesRow (moveOf sizes (now (list .entry)) (now (sets .entry))) set (now (pages .exit))
+        × SourcesRow (moveOf sizes (now (list .entry)) (now (sets .entry))) set (now (sources .exit)) ⌝ }
+{
+    let m = sizes.m;
+    let by = reciprocal(m);
+    let mut block = 0;
+    let mut start = 0;
+    while block < sizes.n {
+        let k = original_of(sets, set, start, m);
+        pages[block] = narrow(k - start);
+        let target = quotient(entry(list[k]), m, by);
+        block += 1;
+        sources[target] = narrow(block);
+        start += m;
+    }
+}
