@@ -41,10 +41,12 @@ fn write_slots(
     page: usize,
     slots: &mut [usize; SLOTS],
 ) -> usize
-    requires { ⌜ AcceptedMove (moveOf sizes (now list) (now sets)) × PassTables (moveOf sizes (now list) (now sets)) backward (now pages) (now other)
+    requires { ⌜ AcceptedMove (moveOf sizes (now list) (now sets))
+        × PassTables (moveOf sizes (now list) (now sets)) backward (now pages) (now other)
         × (by ≡ reciprocalOf (sizes .m))
         × (length (now slots) ≡ slotsLength) ⌝ }
-    requires { ⌜ (page < sizes .m) × (block ≤ sizes .n) × (backward ≡ true → 1 ≤ block) × (backward ≡ false → block + 1 ≤ sizes .n) ⌝ }
+    requires { ⌜ (page < sizes .m) × (block ≤ sizes .n) × (backward ≡ true → 1 ≤ block)
+        × (backward ≡ false → block + 1 ≤ sizes .n) ⌝ }
     ensures { λ r. ⌜ ForWrite (moveOf sizes (now (list .entry)) (now (sets .entry))) backward block page (now (slots .exit)) r ⌝ }
 {
     if backward {
@@ -81,7 +83,8 @@ fn write(
     page: usize,
     mark: u8,
 )
-    requires { ⌜ AcceptedMove (moveOf sizes (now list) (now sets)) × PassTables (moveOf sizes (now list) (now sets)) backward (now pages) (now other)
+    requires { ⌜ AcceptedMove (moveOf sizes (now list) (now sets))
+        × PassTables (moveOf sizes (now list) (now sets)) backward (now pages) (now other)
         × (by ≡ reciprocalOf (sizes .m))
         × Lent sizes (record { store = now store; marks = now marks }) (now work)
         × Tells (moveOf sizes (now list) (now sets)) (now marks) (momentIn backward (sizes .n) block (block + 1)) ⌝ }

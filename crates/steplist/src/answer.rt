@@ -104,7 +104,8 @@ fn put_judged(
     list: &mut [u16],
     sets: &mut [u8],
 ) -> usize
-    requires { ⌜ Readable sizes (now entries) (now originals) × (length (now list) ≡ originalCount sizes) × (length (now sets) ≡ originalCount sizes)
+    requires { ⌜ Readable sizes (now entries) (now originals) × (length (now list) ≡ originalCount sizes)
+        × (length (now sets) ≡ originalCount sizes)
         × (mostOutput ≤ length (now out)) ⌝ }
     ensures { λ r. ⌜ Written (answered (request sizes (now (entries .entry)) (now (originals .entry)))) (now (out .entry)) (now (out .exit)) r ⌝ }
     ensures { λ _. ⌜ (now (list .exit) ≡ judgedList (now (entries .entry)) (now (list .entry)))
