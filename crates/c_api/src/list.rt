@@ -5,6 +5,9 @@ ghost use Prim.Native.Nat.{_+_, _*_};
 ghost use lib.ListN.{length};
 ghost use Rattle.c_api.specs.Bytes.{entriesWithin, decodedInto};
 
+// Room for the list of any sizes.
+pub const MOST_ENTRIES: usize = 4096;
+
 // An entry is two bytes, the low one first.
 fn entry(low: u8, high: u8) -> u16
     ensures { λ r. ⌜ r ≡ low + high * 256 ⌝ }

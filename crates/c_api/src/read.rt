@@ -2,6 +2,7 @@
 
 ghost use mathlib.Core.Path.{_≡_};
 ghost use Rattle.c_api.specs.ReadExport.{readOfBytes};
+use crate::list::MOST_ENTRIES;
 use crate::list::decode;
 use flash::sizes::Sizes;
 use mover::read::read;
@@ -24,8 +25,7 @@ pub extern "C" fn mover_read(
         ≡ readOfBytes (record { n = n; m = m; p = p; s = s }) (now (list .entry)) (now (sets .entry))
         (record { store = now (store .entry); marks = now (marks .entry) }) (now (work .entry)) original ⌝ }
 {
-    // room for the list of any sizes
-    let mut entries = [0u16; 4096];
+    let mut entries = [0u16; MOST_ENTRIES];
     let length = decode(list, &mut entries);
     let rebuilt = read(
         Sizes {

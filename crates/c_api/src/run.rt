@@ -2,6 +2,7 @@
 
 ghost use mathlib.Core.Path.{_≡_};
 ghost use Rattle.c_api.specs.RunExport.{runOfBytes};
+use crate::list::MOST_ENTRIES;
 use crate::list::decode;
 use flash::sizes::Sizes;
 use mover::run::run;
@@ -35,8 +36,7 @@ pub extern "C" fn mover_run(
     } ≡ runOfBytes (record { n = n; m = m; p = p; s = s }) (now (list .entry)) (now (sets .entry))
         (record { store = now (store .entry); marks = now (marks .entry) }) (now (work .entry)) place budget ⌝ }
 {
-    // room for the list of any sizes
-    let mut entries = [0u16; 4096];
+    let mut entries = [0u16; MOST_ENTRIES];
     let count = decode(list, &mut entries);
     let ran = run(
         Sizes {

@@ -2,6 +2,7 @@
 
 ghost use mathlib.Core.Path.{_≡_};
 ghost use Rattle.c_api.specs.SplitExport.{splitOfBytes};
+use crate::list::MOST_ENTRIES;
 use crate::list::decode;
 use flash::sizes::Sizes;
 use split::call::split;
@@ -11,8 +12,7 @@ pub extern "C" fn mover_split(n: u32, m: u32, p: u32, s: u32, list: &[u8], sets:
     ensures { λ r. ⌜ record { number = r; sets = now (sets .exit) }
         ≡ splitOfBytes (record { n = n; m = m; p = p; s = s }) (now (list .entry)) (now (sets .entry)) ⌝ }
 {
-    // room for the list of any sizes
-    let mut entries = [0u16; 4096];
+    let mut entries = [0u16; MOST_ENTRIES];
     let count = decode(list, &mut entries);
     split(
         Sizes {

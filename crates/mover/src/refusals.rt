@@ -13,6 +13,7 @@ use flash::sizes::slot_count;
 use flash::sizes::store_length;
 use split::rows::is_split_by_rows;
 use split::rows::sets_by_destination;
+use walk::rows::TABLE;
 
 // Number 2: whether a lent part is not of its exact length.
 fn bad_parts(
@@ -44,7 +45,7 @@ pub fn move_refusal(
     store: &[u8],
     marks: &[u8],
     work: &[u8],
-    table: &mut [u8; 4096],
+    table: &mut [u8; TABLE],
 ) -> u32
     ensures { λ r. ⌜ r ≡ refusal (moveRows (requestOf sizes (now (list .entry)) (now (sets .entry)))
         (record { store = now (store .entry); marks = now (marks .entry) }) (now (work .entry)) []) ⌝ }

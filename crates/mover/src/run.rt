@@ -58,14 +58,14 @@ fn take_steps(
         (runningOf (now (store .entry)) (now (marks .entry)) (now (work .entry))) ⌝ }
     ensures { λ r. ⌜ r ≡ tallyOf (operationsFrom sizes place taken) ⌝ }
 {
-    let by = reciprocal(sizes.m);
+    let reciprocal = reciprocal(sizes.m);
     let mut at = Place::new(sizes, place);
     let mut tally = nothing_done();
     let mut i = 0;
     while i < taken {
         tally = step(
             sizes,
-            by,
+            reciprocal,
             list,
             sets,
             pages,

@@ -31,7 +31,7 @@ use walk::walk::forward_slots;
 // marks are not looked at.
 fn write_slots(
     sizes: Sizes,
-    by: usize,
+    reciprocal: usize,
     list: &[u16],
     sets: &[u8],
     pages: &[u8],
@@ -43,7 +43,7 @@ fn write_slots(
 ) -> usize
     requires { ⌜ AcceptedMove (moveOf sizes (now list) (now sets))
         × PassTables (moveOf sizes (now list) (now sets)) backward (now pages) (now other)
-        × (by ≡ reciprocalOf (sizes .m))
+        × (reciprocal ≡ reciprocalOf (sizes .m))
         × (length (now slots) ≡ slotsLength) ⌝ }
     requires { ⌜ (page < sizes .m) × (block ≤ sizes .n) × (backward ≡ true → 1 ≤ block)
         × (backward ≡ false → block + 1 ≤ sizes .n) ⌝ }
@@ -53,7 +53,7 @@ fn write_slots(
         let set = wide(other[(block - 1) * sizes.m + page]);
         let row = set * ROW;
         let end = row + ROW;
-        return backward_slots(sizes, by, list, set, &pages[row..end], block, slots);
+        return backward_slots(sizes, reciprocal, list, set, &pages[row..end], block, slots);
     }
     let row = page * ROW;
     let end = row + ROW;
@@ -70,7 +70,7 @@ fn write_slots(
 // Writes a page with its mark, by way of the work page.
 fn write(
     sizes: Sizes,
-    by: usize,
+    reciprocal: usize,
     list: &[u16],
     sets: &[u8],
     pages: &[u8],
@@ -85,7 +85,7 @@ fn write(
 )
     requires { ⌜ AcceptedMove (moveOf sizes (now list) (now sets))
         × PassTables (moveOf sizes (now list) (now sets)) backward (now pages) (now other)
-        × (by ≡ reciprocalOf (sizes .m))
+        × (reciprocal ≡ reciprocalOf (sizes .m))
         × Lent sizes (record { store = now store; marks = now marks }) (now work)
         × Tells (moveOf sizes (now list) (now sets)) (now marks) (momentIn backward (sizes .n) block (block + 1)) ⌝ }
     requires { ⌜ (page < sizes .m) × (block ≤ sizes .n) × (backward ≡ true → 1 ≤ block) × (backward ≡ false → block + 1 ≤ sizes .n)
@@ -97,7 +97,7 @@ fn write(
     let mut slots = [0usize; SLOTS];
     let count = write_slots(
         sizes,
-        by,
+        reciprocal,
         list,
         sets,
         pages,
@@ -114,7 +114,7 @@ fn write(
 // Does the step at a place, and counts it.
 pub fn step(
     sizes: Sizes,
-    by: usize,
+    reciprocal: usize,
     list: &[u16],
     sets: &[u8],
     pages: &[u8],
@@ -127,7 +127,7 @@ pub fn step(
 ) -> Tally
     requires { ⌜ AcceptedMove (moveOf sizes (now list) (now sets))
         × PassTables (moveOf sizes (now list) (now sets)) (isBackward (passAt sizes (place .at))) (now pages) (now other)
-        × (by ≡ reciprocalOf (sizes .m)) ⌝ }
+        × (reciprocal ≡ reciprocalOf (sizes .m)) ⌝ }
     requires { ⌜ Lent sizes (record { store = now store; marks = now marks }) (now work) × (now marks ≡ marksOf sizes (place .at))
         × FewCounted tally × (place ≡ placeOf sizes (place .at)) ⌝ }
     ensures { λ _. ⌜ runningOf (now (store .exit)) (now (marks .exit)) (now (work .exit))
@@ -144,7 +144,7 @@ pub fn step(
         } => {
             write(
                 sizes,
-                by,
+                reciprocal,
                 list,
                 sets,
                 pages,

@@ -50,12 +50,12 @@ pub fn sources_table(sizes: Sizes, list: &[u16], sets: &[u8], sources: &mut [u8]
         (now (sources .entry)) ⌝ }
 {
     let m = sizes.m;
-    let by = reciprocal(m);
+    let reciprocal = reciprocal(m);
     let mut k = 0;
     let mut block = 0;
     let mut page = 0;
     while k < sets.len() {
-        let target = quotient(entry(list[k]), m, by);
+        let target = quotient(entry(list[k]), m, reciprocal);
         sources[wide(sets[k]) * ROW + target] = narrow(block + 1);
         k += 1;
         page += 1;
@@ -98,13 +98,13 @@ pub fn set_rows(
         × SourcesRow (moveOf sizes (now (list .entry)) (now (sets .entry))) set (now (sources .exit)) ⌝ }
 {
     let m = sizes.m;
-    let by = reciprocal(m);
+    let reciprocal = reciprocal(m);
     let mut block = 0;
     let mut start = 0;
     while block < sizes.n {
         let k = original_of(sets, set, start, m);
         pages[block] = narrow(k - start);
-        let target = quotient(entry(list[k]), m, by);
+        let target = quotient(entry(list[k]), m, reciprocal);
         block += 1;
         sources[target] = narrow(block);
         start += m;

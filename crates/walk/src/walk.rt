@@ -83,7 +83,7 @@ pub fn go_back(
 // On from page number `start`, whose page is the set's. The slots are put behind the first `at`; how many there are then.
 pub fn go_on(
     sizes: Sizes,
-    by: usize,
+    reciprocal: usize,
     list: &[u16],
     set: usize,
     pages: &[u8],
@@ -94,7 +94,7 @@ pub fn go_on(
     at: usize,
 ) -> usize
     requires { ⌜ PagesIn (sizes .n) (sizes .m) (now pages) × ListIn (sizes .n) (sizes .m) (now list) × (start < sizes .n * sizes .m)
-        × (by ≡ reciprocalOf (sizes .m)) ⌝ }
+        × (reciprocal ≡ reciprocalOf (sizes .m)) ⌝ }
     requires { ⌜ (sizes .n ≤ 64) × (sizes .m ≤ 64) × (set < sizes .m) × (length (now slots) ≡ slotsLength) × (at ≤ 1) ⌝ }
     ensures { λ r. ⌜ Appends (now (slots .entry)) at
         (onBy (sizes .m) (now (list .entry)) set (now (pages .entry)) done stop (sizes .n) start) (now (slots .exit)) r ⌝ }
@@ -104,7 +104,7 @@ pub fn go_on(
     let mut count = at;
     let mut left = sizes.n;
     while 0 < left {
-        let w = quotient(to, m, by) + 1;
+        let w = quotient(to, m, reciprocal) + 1;
         if done <= w {
             slots[count] = to + m;
             return count + 1;
@@ -149,7 +149,7 @@ pub fn forward_slots(
 // The slots of a write in the backward pass, to block b: c(b) and on, until b comes again.
 pub fn backward_slots(
     sizes: Sizes,
-    by: usize,
+    reciprocal: usize,
     list: &[u16],
     set: usize,
     pages: &[u8],
@@ -157,7 +157,7 @@ pub fn backward_slots(
     slots: &mut [usize; SLOTS],
 ) -> usize
     requires { ⌜ PagesIn (sizes .n) (sizes .m) (now pages) × ListIn (sizes .n) (sizes .m) (now list) × (1 ≤ b) × (b ≤ sizes .n)
-        × (by ≡ reciprocalOf (sizes .m)) ⌝ }
+        × (reciprocal ≡ reciprocalOf (sizes .m)) ⌝ }
     requires { ⌜ (sizes .n ≤ 64) × (sizes .m ≤ 64) × (set < sizes .m) × (length (now slots) ≡ slotsLength) ⌝ }
     ensures { λ r. ⌜ (take r (now (slots .exit)) ≡ backwardBy (sizes .m) (now (list .entry)) set (now (pages .entry)) (sizes .n) b)
         × (1 ≤ r) × (r ≤ slotsLength) × (length (now (slots .exit)) ≡ slotsLength) ⌝ }
@@ -165,7 +165,18 @@ pub fn backward_slots(
     let first = (b - 1) * sizes.m;
     slots[0] = first + set;
     let start = entry(list[first + wide(pages[b - 1])]);
-    go_on(sizes, by, list, set, pages, b + 1, b, start, slots, 1)
+    go_on(
+        sizes,
+        reciprocal,
+        list,
+        set,
+        pages,
+        b + 1,
+        b,
+        start,
+        slots,
+        1,
+    )
 }
 
 // The slots of original k at a moment. "Start with v = k's block, in k's set."

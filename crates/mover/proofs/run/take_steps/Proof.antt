@@ -14,12 +14,12 @@ use Rattle.mover.proofs.run.take_steps.Statement.{statement}
 use Rattle.mover.proofs.run.take_steps.Tie as tie
 
 abbrev Inv-loop : tie.InvT-loop
-Inv-loop sizes list sets pages other store₀ marks₀ work₀ place taken by at₀ tally₀ i₀ store marks work at tally i =
+Inv-loop sizes list sets pages other store₀ marks₀ work₀ place taken reciprocal at₀ tally₀ i₀ store marks work at tally i =
     (runningOf store marks work ≡ steps (moveOf sizes list sets) i place (runningOf store₀ marks₀ work₀))
     × (tally ≡ tallyOf (operationsFrom sizes place i)) × (at ≡ placeOf sizes (place + i)) × (i ≤ taken)
 
 abbrev μ-loop : tie.MeasureT-loop
-μ-loop sizes list sets pages other store₀ marks₀ work₀ place taken by at₀ tally₀ i₀ store marks work at tally i = taken - i
+μ-loop sizes list sets pages other store₀ marks₀ work₀ place taken reciprocal at₀ tally₀ i₀ store marks work at tally i = taken - i
 
 reciprocal-requires : tie.Need-reciprocal-requires Inv-loop μ-loop
 reciprocal-requires c κs = c .before .before .before .before .before .before .before .pre .0 .0 .given .ranges .m-low

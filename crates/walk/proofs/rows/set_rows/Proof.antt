@@ -18,12 +18,12 @@ use Rattle.walk.proofs.rows.set_rows.Statement.{statement}
 use Rattle.walk.proofs.rows.set_rows.Tie as tie
 
 abbrev Inv-loop : tie.InvT-loop
-Inv-loop sizes list sets set pages₀ sources₀ m by block₀ start₀ pages sources block start =
+Inv-loop sizes list sets set pages₀ sources₀ m reciprocal block₀ start₀ pages sources block start =
     (pages ≡ filledBy (λ b. b) (pageFrom (moveOf sizes list sets) set) block pages₀)
     × (sources ≡ filledBy (goesTo (moveOf sizes list sets) set) (λ b. b + 1) block sources₀) × (start ≡ block * m) × (block ≤ sizes .n)
 
 abbrev μ-loop : tie.MeasureT-loop
-μ-loop sizes list sets set pages₀ sources₀ m by block₀ start₀ pages sources block start = sizes .n - block
+μ-loop sizes list sets set pages₀ sources₀ m reciprocal block₀ start₀ pages sources block start = sizes .n - block
 
 reciprocal-requires : tie.Need-reciprocal-requires Inv-loop μ-loop
 reciprocal-requires c κs = c .before .before .pre .0 .ranges .m-low

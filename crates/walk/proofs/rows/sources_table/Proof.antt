@@ -13,10 +13,10 @@ use Rattle.walk.proofs.rows.sources_table.Statement.{statement}
 use Rattle.walk.proofs.rows.sources_table.Tie as tie
 
 abbrev Inv-loop : tie.InvT-loop
-Inv-loop list sets sources₀ m by k₀ block₀ page₀ sources k block page = (sources ≡ sourcesBy m list sets k sources₀) × (k ≤ length sets) × Counts m k block page
+Inv-loop list sets sources₀ m reciprocal k₀ block₀ page₀ sources k block page = (sources ≡ sourcesBy m list sets k sources₀) × (k ≤ length sets) × Counts m k block page
 
 abbrev μ-loop : tie.MeasureT-loop
-μ-loop list sets sources₀ m by k₀ block₀ page₀ sources k block page = length sets - k
+μ-loop list sets sources₀ m reciprocal k₀ block₀ page₀ sources k block page = length sets - k
 
 reciprocal-requires : tie.Need-reciprocal-requires Inv-loop μ-loop
 reciprocal-requires c κs = c .before .before .before .pre .0 .m-low

@@ -15,12 +15,12 @@ use Rattle.walk.proofs.walk.go_on.Statement.{statement}
 use Rattle.walk.proofs.walk.go_on.Tie as tie
 
 abbrev Inv-loop : tie.InvT-loop
-Inv-loop by list set pages done stop start slots₀ at m to₀ count₀ left₀ slots to count left =
+Inv-loop reciprocal list set pages done stop start slots₀ at m to₀ count₀ left₀ slots to count left =
     Gathered slots₀ at (onBy m list set pages done stop left₀ start) slots count (onBy m list set pages done stop left to)
     × (to < left₀ * m) × (count + left ≡ at + left₀) × (at ≤ count)
 
 abbrev μ-loop : tie.MeasureT-loop
-μ-loop by list set pages done stop start slots₀ at m to₀ count₀ left₀ slots to count left = left
+μ-loop reciprocal list set pages done stop start slots₀ at m to₀ count₀ left₀ slots to count left = left
 
 loop-holds : tie.Need-loop-holds Inv-loop μ-loop
 loop-holds c =
