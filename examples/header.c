@@ -1,4 +1,4 @@
-/* The example of include/mover.h, on document 01's first case: 2 blocks of 2 pages of one byte, pages 1 and 2 trade places. */
+/* The example of include/mover.h, on case P3 of docs/RULES.md: 2 blocks of 2 pages of one byte, pages 1 and 2 trade places. */
 #include <mover.h>
 #include <string.h>
 

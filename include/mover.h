@@ -40,13 +40,15 @@
  * whatever is not exact (docs/CHIPS.md).
  *
  * No two lent parts of a call may overlap, nor may a lent part and a number out, nor two numbers out. A number out is a pointer that
- * must not be NULL. This is all that a caller has to take care of; the rest is tested.
+ * must not be NULL. This is all that a caller has to take care of; the rest is tested. The helpers at the end, which take a struct, assert
+ * that its parts are apart, unless NDEBUG is defined.
  *
  * After a refusal every number out is 0, and every lent byte is as it was.
  */
 #ifndef MOVER_H
 #define MOVER_H
 
+#include <assert.h>
 #include <stdint.h>
 
 #ifdef __cplusplus
@@ -60,7 +62,7 @@ enum mover_refusal {
     MOVER_BAD_LIST = 3,      /* a list entry at or above n * m, or met twice */
     MOVER_BAD_SPLIT = 4,     /* the sets aren't a split of the list */
     MOVER_BAD_PLACE = 5,     /* place above 2 * n * (m + 1), marks other than that place has, or a page marked 255 not blank */
-    MOVER_BAD_MARKS = 6,     /* marks fit no moment of the move */
+    MOVER_BAD_MARKS = 6,     /* marks fit no moment of the move: see mover_mend */
     MOVER_BAD_ORIGINAL = 7   /* original number at or above n * m */
 };
 
@@ -94,6 +96,13 @@ uint32_t mover_run(uint32_t n, uint32_t m, uint32_t page_bytes, uint32_t s,
  *   *place   where the move goes on; 2 * n * (m + 1) if it is finished
  *   *erases  1 if a block was erased, else 0; it is the block that mover_operation tells of at *place, which at the end is 0, the spare
  * Changes only that block's bytes and marks.
+ * A block is full of a letter if all its pages have it, and unfinished if it is full of none. The marks fit a moment of the move, or else
+ * the number is 6, if each is 0, 1, 2 or 255 and, letters counted modulo 3, one of these is so:
+ *   one block is unfinished, all below it are full of s + 1, and all above it of s
+ *   one block is unfinished, all below it are full of s + 1, and all above it of s + 2
+ *   no block is unfinished; the first of them, one or more, are full of s + 1, and the rest, one or more, of s
+ *   no block is unfinished; the first of them, one or more, are full of s + 1, and the rest, one or more, of s + 2
+ * What letters an unfinished block has, and where, is not looked into.
  * Returns 0, or 1, 2 or 6. */
 uint32_t mover_mend(uint32_t n, uint32_t m, uint32_t page_bytes, uint32_t s,
                     uint8_t *store, uint64_t store_len, uint8_t *marks, uint64_t marks_len,
@@ -177,14 +186,34 @@ struct mover_step {
     uint32_t kind, block, page, mark;
 };
 
+/* 1 if no two parts of the move overlap, else 0. A part that is NULL overlaps none; sizes out of range are left for the call to refuse. */
+static inline int mover_apart(const struct mover_move *move)
+{
+    const uint8_t *const part[5] = {move->list, move->sets, move->store, move->marks, move->work};
+    const uint64_t bytes[5] = {mover_list_bytes(move->n, move->m), mover_sets_bytes(move->n, move->m),
+                               mover_store_bytes(move->n, move->m, move->page_bytes), mover_marks_bytes(move->n, move->m),
+                               move->page_bytes};
+    int i, j;
+    if (move->n - 1 > 63 || move->m - 1 > 63 || move->page_bytes - 1 > 4095)
+        return 1;
+    for (i = 0; i < 5; i++)
+        for (j = 0; j < 5; j++)
+            if (i != j && part[i] && part[j] && (uintptr_t)part[i] <= (uintptr_t)part[j]
+                && (uintptr_t)part[j] < (uintptr_t)part[i] + bytes[i])
+                return 0;
+    return 1;
+}
+
 static inline uint32_t mover_split_move(const struct mover_move *move)
 {
+    assert(mover_apart(move));
     return mover_split(move->n, move->m, move->page_bytes, move->s, move->list, mover_list_bytes(move->n, move->m), move->sets,
                        mover_sets_bytes(move->n, move->m));
 }
 
 static inline uint32_t mover_run_move(const struct mover_move *move, uint32_t place, uint32_t budget, struct mover_state *state)
 {
+    assert(mover_apart(move));
     return mover_run(move->n, move->m, move->page_bytes, move->s, move->list, mover_list_bytes(move->n, move->m), move->sets,
                      mover_sets_bytes(move->n, move->m), move->store, mover_store_bytes(move->n, move->m, move->page_bytes),
                      move->marks, mover_marks_bytes(move->n, move->m), move->work, move->page_bytes, place, budget, &state->place,
@@ -194,9 +223,11 @@ static inline uint32_t mover_run_move(const struct mover_move *move, uint32_t pl
 /* As mover_mend: sets place and erases, an erase being a step, and finished if the place is the last. */
 static inline uint32_t mover_mend_move(const struct mover_move *move, struct mover_state *state)
 {
-    uint32_t number = mover_mend(move->n, move->m, move->page_bytes, move->s, move->store,
-                                 mover_store_bytes(move->n, move->m, move->page_bytes), move->marks,
-                                 mover_marks_bytes(move->n, move->m), &state->place, &state->erases);
+    uint32_t number;
+    assert(mover_apart(move));
+    number = mover_mend(move->n, move->m, move->page_bytes, move->s, move->store,
+                        mover_store_bytes(move->n, move->m, move->page_bytes), move->marks, mover_marks_bytes(move->n, move->m),
+                        &state->place, &state->erases);
     state->steps = state->erases;
     state->writes = 0;
     state->finished = number == MOVER_DONE && state->place == mover_last_place(move->n, move->m) ? 1 : 0;
@@ -205,6 +236,7 @@ static inline uint32_t mover_mend_move(const struct mover_move *move, struct mov
 
 static inline uint32_t mover_read_move(const struct mover_move *move, uint32_t original, uint32_t *count)
 {
+    assert(mover_apart(move));
     return mover_read(move->n, move->m, move->page_bytes, move->s, move->list, mover_list_bytes(move->n, move->m), move->sets,
                       mover_sets_bytes(move->n, move->m), move->store, mover_store_bytes(move->n, move->m, move->page_bytes),
                       move->marks, mover_marks_bytes(move->n, move->m), move->work, move->page_bytes, original, count);

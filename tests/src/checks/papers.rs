@@ -13,16 +13,16 @@ use crate::simulator::sizes::Sizes;
 
 type Outcome = Result<(), String>;
 
-/// Paper 002, Example 3: block i moves to entry i.
+/// "Storage Coding", Example 3: block i moves to entry i.
 pub const EIGHT: [u16; 8] = [3, 6, 8, 1, 2, 5, 4, 7];
-/// Paper 000, Example 10: the cycles of Figure 1 (a).
+/// "Data Movement in Flash Memories", Example 10: the cycles of Figure 1 (a).
 pub const FOURTEEN: [u16; 14] = [9, 4, 5, 14, 7, 13, 3, 10, 6, 12, 11, 1, 2, 8];
-/// Paper 003, Example 5: the set of hearts.
+/// "Data Movement and Aggregation", Example 5: the set of hearts.
 pub const TWENTY_ONE: [u16; 21] = [
     6, 1, 10, 12, 11, 9, 5, 17, 16, 14, 13, 19, 15, 8, 21, 20, 2, 18, 7, 3, 4,
 ];
 
-/// Figure 2 of paper 002: what is written into blocks 0 to 7, then 8 to 1.
+/// Figure 2 of "Storage Coding": what is written into blocks 0 to 7, then 8 to 1.
 const EIGHT_CODED: [&[usize]; 8] = [
     &[1, 4],
     &[2, 5],
@@ -56,25 +56,25 @@ const EIGHT_SUMMED: [&[usize]; 16] = [
 
 pub fn check(tally: &mut Tally) {
     for i in 0..8 {
-        let name = format!("paper 002, forward write {}", i + 1);
+        let name = format!("Storage Coding, forward write {}", i + 1);
         tally.check(&name, eight_writes(2 * i, i, EIGHT_CODED[i]));
-        let name = format!("paper 002, backward write {}", i + 1);
+        let name = format!("Storage Coding, backward write {}", i + 1);
         tally.check(&name, eight_writes(16 + 2 * i, 8 - i, &[EIGHT_FINAL[i]]));
     }
     for write in 0..16 {
-        let name = format!("paper 002, operation of write {}", write + 1);
+        let name = format!("Storage Coding, operation of write {}", write + 1);
         tally.check(&name, eight_sums(write));
     }
     let lists = [
-        ("paper 002, 8 blocks", &EIGHT[..]),
-        ("paper 000, 14 blocks", &FOURTEEN[..]),
-        ("paper 003, 21 blocks", &TWENTY_ONE[..]),
+        ("Storage Coding, 8 blocks", &EIGHT[..]),
+        ("Data Movement, 14 blocks", &FOURTEEN[..]),
+        ("Data Movement and Aggregation, 21 blocks", &TWENTY_ONE[..]),
     ];
     for (name, blocks) in lists {
         tally.check(name, whole_move(blocks));
     }
     tally.check(
-        "paper 000, facts stated beside the figure",
+        "Data Movement, facts stated beside the figure",
         fourteen_as_stated(),
     );
 }

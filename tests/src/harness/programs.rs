@@ -91,7 +91,7 @@ impl Numbers {
     }
 }
 
-/// Paper 002's list of 8 blocks with each letter; each original is a single bit.
+/// The list of 8 blocks of "Storage Coding" (docs/RULES.md) with each letter; each original is a single bit.
 fn eight_blocks() -> Vec<Numbers> {
     let with_letter = |s| Numbers {
         sizes: [8, 1, 1, s],

@@ -19,7 +19,7 @@ passOf false = forward
 unfoldable pub placeOf : Sizes → (at : ℕ) → Place
 placeOf Z at = record { at = at; backward = isBackward (passAt Z at); block = filling Z at; page = filled Z at }
 
--- the document's step, with the mark that a write has
+-- the step of rule 4.3, with the mark that a write has
 abbrev pub opOf : Sizes → Operation → Op
 opOf Z (write pass block page) = Write (isBackward pass) block page (markOf Z pass)
 opOf Z (erase block) = Erase block

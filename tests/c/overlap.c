@@ -1,0 +1,53 @@
+/* Parts that overlap are noticed. Without an argument: mover_apart tells parts that touch from parts that share a byte, each with each.
+ * With the name of a call: its struct helper is given overlapping parts, and stops the program if asserts are compiled in. */
+#include "mover.h"
+
+#include <string.h>
+
+/* n = 2, m = 2, one byte a page: the parts one after the other, with nothing between. */
+static uint8_t room[8 + 4 + 6 + 6 + 1];
+static const unsigned bytes[5] = {8, 4, 6, 6, 1}, start[5] = {0, 8, 12, 18, 24};
+
+static struct mover_move lend(const unsigned *at)
+{
+    struct mover_move move = {2, 2, 1, 0, room + at[0], room + at[1], room + at[2], room + at[3], room + at[4]};
+    return move;
+}
+
+/* How many answers of mover_apart are wrong. */
+static int wrong_answers(void)
+{
+    struct mover_move move = lend(start);
+    unsigned at[5], i, j;
+    int wrong = !mover_apart(&move);
+    for (i = 0; i < 5; i++)
+        for (j = 0; j < 5; j++)
+            if (i != j) {
+                memcpy(at, start, sizeof at);
+                at[i] = start[j] + bytes[j] - 1;
+                move = lend(at);
+                wrong += mover_apart(&move);
+            }
+    move.n = 65;
+    wrong += !mover_apart(&move);
+    memset(&move, 0, sizeof move);
+    move.n = move.m = move.page_bytes = 1;
+    return wrong + !mover_apart(&move);
+}
+
+int main(int count, char **words)
+{
+    static const unsigned at[5] = {0, 8, 12, 18, 17};
+    struct mover_move move = lend(at);
+    struct mover_state state;
+    uint32_t number;
+    if (count < 2)
+        return wrong_answers();
+    if (strcmp(words[1], "split") == 0)
+        return (int)mover_split_move(&move);
+    if (strcmp(words[1], "run") == 0)
+        return (int)mover_run_move(&move, 0, 0, &state);
+    if (strcmp(words[1], "mend") == 0)
+        return (int)mover_mend_move(&move, &state);
+    return (int)mover_read_move(&move, 0, &number);
+}
