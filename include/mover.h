@@ -96,8 +96,8 @@ uint32_t mover_run(uint32_t n, uint32_t m, uint32_t page_bytes, uint32_t s,
  *   *place   where the move goes on; 2 * n * (m + 1) if it is finished
  *   *erases  1 if a block was erased, else 0; it is the block that mover_operation tells of at *place, which at the end is 0, the spare
  * Changes only that block's bytes and marks.
- * A block is full of a letter if all its pages have it, and unfinished if it is full of none. The marks fit a moment of the move, or else
- * the number is 6, if each is 0, 1, 2 or 255 and, letters counted modulo 3, one of these is so:
+ * A block whose pages all have the same letter is full of it; a block that is full of none is unfinished. The number is 6 unless each
+ * mark is 0, 1, 2 or 255 and, letters counted modulo 3, one of these is so:
  *   one block is unfinished, all below it are full of s + 1, and all above it of s
  *   one block is unfinished, all below it are full of s + 1, and all above it of s + 2
  *   no block is unfinished; the first of them, one or more, are full of s + 1, and the rest, one or more, of s

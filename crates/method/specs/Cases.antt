@@ -19,7 +19,7 @@ use Rattle.method.specs.Step.{Running, originalsOf, writeSlots, step}
 use Rattle.method.specs.Cut.{CutInside}
 use Rattle.method.specs.Answers.{RunAnswer, runAnswer, MendAnswer, mendAnswer, ReadAnswer, readAnswer}
 
--- "A line is the step, W or E, the block, and for W the page and its bytes"
+-- rule 9.6: what a line tells, a write's or an erase's
 pub data Line : Type 0 where
   W : (step block page : ℕ) → (bytes : List ℕ) → Line
   E : (step block : ℕ) → Line
@@ -103,7 +103,7 @@ counts steps writes erases = record { steps = steps; writes = writes; erases = e
 abbrev junk : ℕ → List ℕ
 junk length = replicate length 7
 
--- "With a refusal every other number returned is 0 and each lent byte stays."
+-- what a refusal gives: zeros, and all that was lent as it was
 abbrev refusedRun : (number : ℕ) → Chip → (work : List ℕ) → RunAnswer
 refusedRun number lent work =
     record { number = number; place = 0; tally = counts 0 0 0; finished = 0; chip = lent; work = work }

@@ -8,11 +8,11 @@ use Rattle.method.specs.Answers.{MarksAnswer}
 use Rattle.recovery.specs.declared.marks.MarksRead.{MarksRead}
 use Rattle.recovery.specs.declared.marks.MarksRead.the-variants.{NoMoment, Full, Torn}
 
--- "The place is (i − 1) × (m + 1) + m", in the backward pass "(2 × n − b) × (m + 1) + m"
+-- rules 5.5 and 5.6: the place where no block is unfinished
 unfoldable pub placeIfFull : Sizes → (isBackward : Bool) → (change : ℕ) → ℕ
 placeIfFull Z isBackward change = cond isBackward (2 * Z .n - change) (change - 1) * (Z .m + 1) + Z .m
 
--- "The place is b × (m + 1)", in the backward pass "(2 × n − b) × (m + 1)"
+-- rules 5.3 and 5.4: the place where this block is unfinished
 unfoldable pub placeIfTorn : Sizes → (isBackward : Bool) → (block : ℕ) → ℕ
 placeIfTorn Z isBackward block = cond isBackward (2 * Z .n - block) block * (Z .m + 1)
 

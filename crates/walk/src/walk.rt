@@ -179,7 +179,7 @@ pub fn backward_slots(
     )
 }
 
-// The slots of original k at a moment. "Start with v = k's block, in k's set."
+// The slots of original k at a moment: the walk of section 6 starts at the block that k came from.
 pub fn read_slots(
     sizes: Sizes,
     list: &[u16],

@@ -9,7 +9,7 @@ use crate::simulator::sizes::UNWRITTEN;
 
 pub fn faults() -> Vec<Fault> {
     vec![
-        fault::<GoesOn>("mend goes on at the next page of an unfinished block"),
+        fault::<GoesOn>("mend goes on inside an unfinished block, at its next page"),
         fault::<SkipsBlankErase>("mend does not erase a blank block"),
         fault::<SkipsUnmarkedErase>("mend does not erase a block without marks"),
         fault::<PlaceOffByOne>("mend's place is one too high"),

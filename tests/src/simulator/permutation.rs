@@ -2,8 +2,8 @@
 
 use super::sizes::Sizes;
 
-/// A "set" is a block-permutation set of the paper: one page from each data
-/// block and one page to each data block, so a permutation of the blocks.
+/// A "set" is a block-permutation set of the paper: each data block sends one
+/// of its pages and gets one, so it is a permutation of the blocks.
 pub struct Move {
     pub sizes: Sizes,
     destinations: Vec<usize>,

@@ -92,7 +92,7 @@ pub fn split_by_rule<R: Rules>(sizes: Sizes, destinations: &[usize]) -> Vec<usiz
     partial.sets.into_iter().flatten().collect()
 }
 
-/// Every set has one page from each data block and one to each data block.
+/// In each set a data block sends exactly one page, and gets exactly one.
 pub fn is_split(sizes: &Sizes, destinations: &[usize], sets: &[u8]) -> bool {
     let mut due = vec![];
     for set in 0..sizes.pages() {

@@ -1,4 +1,4 @@
--- Pages are written in ascending order and only when blank.
+-- A block's pages are filled upwards, and none that is not blank.
 use mathlib.Core.Path.{_≡_, sym, ap, ap₂, _∙_}
 use mathlib.Core.Logic.{_≢_, _⊎_, inl, inr}
 use Prim.Native.Nat.{ℕ, suc, _+_, _-_, _*_, _≤_, _<_}
