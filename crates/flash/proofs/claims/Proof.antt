@@ -1,8 +1,9 @@
--- The claims about marks hold.
+-- The claims about marks and sizes hold.
 use borrow.Author.Tests.{lt-ltb, le-ltb}
 use Rattle.flash.specs.Geometry.{isLetter}
 use Rattle.flash.specs.Chip.{markAt, isWhole}
-use Rattle.flash.specs.Claims.{WholeByLetter}
+use Rattle.flash.specs.Claims.{WholeByLetter, RangeIsBounds}
+use Rattle.flash.proofs.Bounds.{in-range, range-in}
 use Rattle.flash.proofs.claims.Statement.{statement}
 use Rattle.flash.proofs.claims.Tie as tie
 
@@ -10,8 +11,11 @@ whole-by-letter : WholeByLetter
 unfolding isWhole isLetter
 whole-by-letter = record { whole = λ marks t h. lt-ltb (markAt marks t) 3 h; torn = λ marks t h. le-ltb (markAt marks t) 3 h }
 
+range-is-bounds : RangeIsBounds
+range-is-bounds = record { bounds = in-range; range = range-in }
+
 returns : tie.Need-returns
-returns c = whole-by-letter
+returns c = (whole-by-letter, range-is-bounds)
 
 pub claims-spec : {M : Type 1} → statement M
 claims-spec = tie.close (tie.spec returns)
