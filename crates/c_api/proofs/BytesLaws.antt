@@ -1,16 +1,7 @@
 -- Laws of the list as bytes: its entries, how many they are, and what a call answers for them.
-use mathlib.Core.Path.{_≡_, refl, sym, ap, ap₂, _∙_}
-use mathlib.Core.Logic.{⊎-elim, _≢_}
-use mathlib.Core.Bool.{Bool, true, false, cond, _||_}
-use mathlib.Core.List.{List, [], _∷_, _++_}
-use Prim.Native.Nat.{ℕ, zero, suc, _+_, _*_, _/_, _%_, _≤_, _<_}
-use native.Mathlib.Nat.{not-suc-le-zero, div-add-mod', mod-lt, mul-le-mul}
-use native.Mathlib.Numerals.{add-one}
-use native.Mathlib.Omega.{arith}
-use lib.Dec.{ltb}
-use lib.ListN.{length, getD, take, drop, set}
-use lib.Seq.{take-suc, take-all, take-at, length-take-le}
-use borrow.Author.Tests.{eqb-false, ltb-true, ltb-false}
+use Rattle.flash.proofs.Kit.{_≡_, refl, sym, ap, ap₂, _∙_, ⊎-elim, _≢_, Bool, true, false, cond, _||_, List, [], _∷_, _++_, ℕ, zero, suc, _+_, _*_}
+use Rattle.flash.proofs.Kit.{_/_, _%_, _≤_, _<_, not-suc-le-zero, div-add-mod', mod-lt, mul-le-mul, add-one, arith, ltb, length, getD, take, drop}
+use Rattle.flash.proofs.Kit.{set, take-suc, take-all, take-at, length-take-le, eqb-false, ltb-true, ltb-false}
 use Rattle.flash.specs.declared.sizes.Sizes.{Sizes}
 use Rattle.flash.specs.Geometry.{inRange, originalCount}
 use Rattle.flash.proofs.Bools.{bool-cases, or-false-left, or-false-right}

@@ -1,6 +1,5 @@
 -- What mend returns is small.
-use mathlib.Core.Path.{_≡_}
-use Prim.Native.Nat.{_≤_}
+use Rattle.flash.proofs.Kit.{_≡_, _≤_}
 use Rattle.flash.specs.declared.sizes.Sizes.{Sizes}
 use Rattle.flash.specs.Chip.{Chip}
 use Rattle.method.specs.Answers.{MendAnswer, mendAnswer}

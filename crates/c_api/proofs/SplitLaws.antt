@@ -1,10 +1,5 @@
 -- What the exported split answers is what the call answers for the entries decoded.
-use mathlib.Core.Path.{_≡_, ap, _∙_}
-use mathlib.Core.Logic.{⊎-elim, _≢_}
-use mathlib.Core.Bool.{true, false, cond}
-use mathlib.Core.List.{List}
-use Prim.Native.Nat.{ℕ}
-use lib.ListN.{length}
+use Rattle.flash.proofs.Kit.{_≡_, ap, _∙_, ⊎-elim, _≢_, true, false, cond, List, ℕ, length}
 use Rattle.flash.specs.declared.sizes.Sizes.{Sizes}
 use Rattle.flash.specs.Geometry.{inRange, originalCount}
 use Rattle.flash.proofs.Bools.{bool-cases}

@@ -1,14 +1,6 @@
 -- Laws of marks: when a block is full of a letter, or unfinished.
-use mathlib.Core.Path.{_≡_, refl, sym, _∙_}
-use mathlib.Core.Logic.{_≢_}
-use mathlib.Core.Bool.{Bool, true, false, or-true}
-use mathlib.Core.List.{List, [], _∷_}
-use Prim.Native.Nat.{ℕ, zero, suc, _+_, _*_, _≤_, _<_}
-use native.Mathlib.Nat.{not-suc-le-zero, le-of-suc-le-suc}
-use native.Mathlib.Omega.{arith}
-use lib.Dec.{eqb}
-use lib.ListN.{length, getD}
-use borrow.Author.Tests.{eqb-true, eq-eqb, ne-eqb}
+use Rattle.flash.proofs.Kit.{_≡_, refl, sym, _∙_, _≢_, Bool, true, false, or-true, List, [], _∷_, ℕ, zero, suc, _+_, _*_, _≤_, _<_}
+use Rattle.flash.proofs.Kit.{not-suc-le-zero, le-of-suc-le-suc, arith, eqb, length, getD, eqb-true, eq-eqb, ne-eqb}
 use Rattle.flash.specs.Lists.{all, part}
 use Rattle.flash.specs.Geometry.{slot}
 use Rattle.flash.specs.Chip.{erased, markAt, isFull, isUnfinished}

@@ -1,7 +1,5 @@
 -- Laws of tests: what a test that holds, or fails, says of the tests that it is made of.
-use mathlib.Core.Path.{_≡_, refl, sym, _∙_}
-use mathlib.Core.Logic.{_⊎_, inl, inr}
-use mathlib.Core.Bool.{Bool, true, false, _&&_, _||_, true≢false}
+use Rattle.flash.proofs.Kit.{_≡_, refl, sym, _∙_, _⊎_, inl, inr, Bool, true, false, _&&_, _||_, true≢false}
 
 pub bool-cases : (t : Bool) → (t ≡ true) ⊎ (t ≡ false)
 bool-cases true = inl refl

@@ -1,12 +1,6 @@
 -- Laws of the sizes: their bounds, and where blocks and slots end. They show what the functions of this crate require.
-use mathlib.Core.Path.{_≡_}
-use mathlib.Core.Bool.{Bool, true, _&&_}
-use Prim.Native.Nat.{ℕ, _+_, _*_, _≤_, _<_}
-use native.Mathlib.Nat.{mul-assoc, mul-le-mul}
-use native.Mathlib.Omega.{arith}
-use lib.Arith.{digits-lt}
-use lib.Dec.{leb, ltb}
-use borrow.Author.Tests.{leb-true, ltb-true, le-leb, lt-ltb}
+use Rattle.flash.proofs.Kit.{_≡_, Bool, true, _&&_, ℕ, _+_, _*_, _≤_, _<_, mul-assoc, mul-le-mul, arith, digits-lt, leb, ltb, leb-true}
+use Rattle.flash.proofs.Kit.{ltb-true, le-leb, lt-ltb}
 use Rattle.flash.specs.declared.sizes.Sizes.{Sizes}
 use Rattle.flash.specs.Geometry.{isLetter, inRange, Bounds, slot, slotCount, storeLength}
 use Rattle.flash.proofs.Bools.{and-left, and-right}

@@ -1,14 +1,6 @@
 -- What an erase and a write do to the page and the mark of each slot.
-use mathlib.Core.Path.{_≡_, refl, sym, ap, _∙_}
-use mathlib.Core.Logic.{_≢_}
-use mathlib.Core.Bool.{Bool, true, false}
-use mathlib.Core.List.{List}
-use Prim.Native.Nat.{ℕ, _+_, _*_, _≤_, _<_}
-use native.Mathlib.Omega.{arith}
-use lib.Dec.{eqb}
-use lib.ListN.{length, getD, replicate, length-set, length-replicate, getD-replicate}
-use lib.Seq.{getD-set-same, getD-set-other, ext-getD}
-use borrow.Author.Tests.{eqb-true, eq-eqb, ne-eqb}
+use Rattle.flash.proofs.Kit.{_≡_, refl, sym, ap, _∙_, _≢_, Bool, true, false, List, ℕ, _+_, _*_, _≤_, _<_, arith, eqb, length, getD, replicate}
+use Rattle.flash.proofs.Kit.{length-set, length-replicate, getD-replicate, getD-set-same, getD-set-other, ext-getD, eqb-true, eq-eqb, ne-eqb}
 use Rattle.flash.specs.Lists.{all, part}
 use Rattle.flash.specs.Geometry.{slot}
 use Rattle.flash.specs.Chip.{Chip, erased, pageAt, markAt, isBlank, eraseBlock, writePage}

@@ -1,11 +1,6 @@
 -- Two numbers are equal or not, and one is below the other or not.
-use mathlib.Core.Path.{_≡_, refl, ap}
-use mathlib.Core.Logic.{_⊎_, inl, inr, _≢_, ⊎-elim}
-use mathlib.Core.Bool.{true, false}
-use Prim.Native.Nat.{ℕ, zero, suc, _≤_, _<_}
-use native.Mathlib.Omega.{arith}
-use lib.Dec.{eqb, ltb}
-use borrow.Author.Tests.{eqb-true, eqb-false, ltb-true, ltb-false}
+use Rattle.flash.proofs.Kit.{_≡_, refl, ap, _⊎_, inl, inr, _≢_, ⊎-elim, true, false, ℕ, zero, suc, _≤_, _<_, arith, eqb, ltb, eqb-true}
+use Rattle.flash.proofs.Kit.{eqb-false, ltb-true, ltb-false}
 use Rattle.flash.proofs.Bools.{bool-cases}
 
 pub ne-lt : (x y : ℕ) → x ≢ y → (x < y) ⊎ (y < x)

@@ -1,4 +1,5 @@
 -- The laws behind the proofs of this crate and of those above it.
+pub mod Kit
 pub mod Bools
 pub mod Comparisons
 pub mod Tables

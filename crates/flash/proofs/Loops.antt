@@ -1,16 +1,7 @@
 -- What one turn of a loop over bytes does.
-use mathlib.Core.Path.{_≡_, refl, sym, ap, _∙_, subst}
-use mathlib.Core.Bool.{_&&_, and-true}
-use mathlib.Core.List.{List, [], _∷_, _++_}
-use Prim.Native.Nat.{ℕ, zero, suc, _+_, _<_}
-use native.Mathlib.Nat.{not-suc-le-zero, le-of-suc-le-suc}
-use native.Mathlib.Numerals.{add-one}
-use native.Mathlib.Omega.{arith}
-use lib.Bits.{bitOr, bitXor, or-add-and, and-le-l, and-le-r, xor-self}
-use lib.Dec.{eqb}
-use lib.ListN.{length, getD, set, take, drop}
-use lib.Seq.{take-suc, drop-set-lt, drop-drop}
-use borrow.Author.Tests.{eqb-true, eq-eqb}
+use Rattle.flash.proofs.Kit.{_≡_, refl, sym, ap, _∙_, subst, _&&_, and-true, List, [], _∷_, _++_, ℕ, zero, suc, _+_, _<_, not-suc-le-zero}
+use Rattle.flash.proofs.Kit.{le-of-suc-le-suc, add-one, arith, bitOr, bitXor, or-add-and, and-le-l, and-le-r, xor-self, eqb, length, getD, set}
+use Rattle.flash.proofs.Kit.{take, drop, take-suc, drop-set-lt, drop-drop, eqb-true, eq-eqb}
 use Rattle.flash.specs.Lists.{all}
 use Rattle.flash.proofs.Bools.{and-left, and-right, bool-eq}
 use Rattle.flash.proofs.Searches.{all-append}

@@ -1,15 +1,8 @@
 -- Laws of a list cut into parts of one size: of pages of the store, blocks of the store and blocks of the marks alike.
-use mathlib.Core.Path.{_≡_, sym, ap, _∙_}
-use mathlib.Core.Logic.{⊎-elim}
-use mathlib.Core.Bool.{true, false}
-use mathlib.Core.List.{List, _++_}
-use Prim.Native.Nat.{ℕ, zero, suc, _+_, _-_, _*_, _/_, _%_, _≤_, _<_, min}
-use native.Mathlib.Nat.{suc-mul, add-mul, mul-assoc, mul-zero, mul-le-mul-right, mod-lt, div-add-mod', div-lt-iff-lt-mul}
-use native.Mathlib.Omega.{arith}
-use lib.Dec.{ltb}
-use lib.ListN.{length, getD, take, drop, replicate, length-append, length-take, length-drop, length-replicate, getD-replicate, List·getD-append}
-use lib.Seq.{getD-take, getD-drop, getD-append-add, drop-drop, ext-getD}
-use borrow.Author.Tests.{ltb-true, ltb-false}
+use Rattle.flash.proofs.Kit.{_≡_, sym, ap, _∙_, ⊎-elim, true, false, List, _++_, ℕ, zero, suc, _+_, _-_, _*_, _/_, _%_, _≤_, _<_, min, suc-mul}
+use Rattle.flash.proofs.Kit.{add-mul, mul-assoc, mul-zero, mul-le-mul-right, mod-lt, div-add-mod', div-lt-iff-lt-mul, arith, ltb, length, getD}
+use Rattle.flash.proofs.Kit.{take, drop, replicate, length-append, length-take, length-drop, length-replicate, getD-replicate}
+use Rattle.flash.proofs.Kit.{List·getD-append, getD-take, getD-drop, getD-append-add, drop-drop, ext-getD, ltb-true, ltb-false}
 use Rattle.flash.specs.Lists.{part, setPart}
 use Rattle.flash.proofs.Bools.{bool-cases}
 

@@ -1,13 +1,7 @@
 -- A sum taken four pages a pass: what a pass adds.
-use mathlib.Core.Path.{_≡_, refl, sym, ap, _∙_, subst}
-use mathlib.Core.Logic.{⊎-elim}
-use mathlib.Core.List.{List, [], _∷_, _++_}
-use Prim.Native.Nat.{ℕ, zero, suc, _+_, _-_, _*_, _≤_, _<_}
-use native.Mathlib.Nat.{not-suc-le-zero, le-of-suc-le-suc}
-use native.Mathlib.Omega.{arith}
-use lib.ListN.{length, getD, take, drop, length-drop, List·getD-eq-default}
-use lib.Seq.{take-add, getD-drop, getD-take, length-take-le}
-use borrow.Author.Tests.{lt-ltb}
+use Rattle.flash.proofs.Kit.{_≡_, refl, sym, ap, _∙_, subst, ⊎-elim, List, [], _∷_, _++_, ℕ, zero, suc, _+_, _-_, _*_, _≤_, _<_}
+use Rattle.flash.proofs.Kit.{not-suc-le-zero, le-of-suc-le-suc, arith, length, getD, take, drop, length-drop, List·getD-eq-default, take-add}
+use Rattle.flash.proofs.Kit.{getD-drop, getD-take, length-take-le, lt-ltb}
 use Rattle.flash.specs.PageSum.{_⊕_, sum}
 use Rattle.flash.specs.inner.Terms.{termsSum}
 use Rattle.flash.specs.inner.Passes.{fourFrom}

@@ -1,14 +1,7 @@
 -- Laws of `range`, and of tests, counts and searches over one.
-use mathlib.Core.Path.{_≡_, refl, sym, ap, _∙_}
-use mathlib.Core.Logic.{_⊎_, inl, inr, ⊎-elim}
-use mathlib.Core.Bool.{Bool, true, false, cond, _||_, or-false}
-use mathlib.Core.List.{List, [], _∷_, _++_}
-use Prim.Native.Nat.{ℕ, zero, suc, _+_, _-_, _≤_, _<_}
-use native.Mathlib.Nat.{not-suc-le-zero, le-of-suc-le-suc, add-zero}
-use native.Mathlib.Omega.{arith}
-use lib.Dec.{eqb}
-use lib.ListN.{length, getD}
-use borrow.Author.Tests.{eqb-true, eqb-false}
+use Rattle.flash.proofs.Kit.{_≡_, refl, sym, ap, _∙_, _⊎_, inl, inr, ⊎-elim, Bool, true, false, cond, _||_, or-false, List, [], _∷_, _++_, ℕ}
+use Rattle.flash.proofs.Kit.{zero, suc, _+_, _-_, _≤_, _<_, not-suc-le-zero, le-of-suc-le-suc, add-zero, arith, eqb, length, getD, eqb-true}
+use Rattle.flash.proofs.Kit.{eqb-false}
 use Rattle.flash.specs.Lists.{range, all, any, count, first}
 use Rattle.flash.proofs.Bools.{bool-cases, never-both, fails}
 use Rattle.flash.proofs.Searches.{any-append, count-append, all-at, all-of, none-at, none-of, any-find, count-none, none-counted, first-none}

@@ -1,10 +1,5 @@
 -- `isSame` holds of equal lists, and of no others.
-use mathlib.Core.Path.{_≡_, refl, ap₂}
-use mathlib.Core.Bool.{true, false}
-use mathlib.Core.List.{List, [], _∷_}
-use Prim.Native.Nat.{ℕ}
-use lib.Dec.{eqb}
-use borrow.Author.Tests.{eqb-true, eq-eqb}
+use Rattle.flash.proofs.Kit.{_≡_, refl, ap₂, true, false, List, [], _∷_, ℕ, eqb, eqb-true, eq-eqb}
 use Rattle.flash.specs.Lists.{isSame}
 use Rattle.flash.proofs.Bools.{never-both, and-left, and-right, fails}
 

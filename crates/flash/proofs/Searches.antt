@@ -1,12 +1,6 @@
 -- Laws of `all`, `any`, `count` and `first` over any list.
-use mathlib.Core.Path.{_≡_, refl, sym, ap, _∙_}
-use mathlib.Core.Logic.{⊎-elim}
-use mathlib.Core.Bool.{Bool, true, false, _&&_, _||_, and-assoc, or-assoc}
-use mathlib.Core.List.{List, [], _∷_, _++_}
-use Prim.Native.Nat.{ℕ, zero, suc, _+_, _<_}
-use native.Mathlib.Nat.{not-suc-le-zero, le-of-suc-le-suc}
-use native.Mathlib.Omega.{arith}
-use lib.ListN.{length, getD}
+use Rattle.flash.proofs.Kit.{_≡_, refl, sym, ap, _∙_, ⊎-elim, Bool, true, false, _&&_, _||_, and-assoc, or-assoc, List, [], _∷_, _++_, ℕ, zero}
+use Rattle.flash.proofs.Kit.{suc, _+_, _<_, not-suc-le-zero, le-of-suc-le-suc, arith, length, getD}
 use Rattle.flash.specs.Lists.{all, any, count, first}
 use Rattle.flash.proofs.Bools.{bool-cases, never-both, and-left, and-right, or-false-left, or-false-right, fails}
 

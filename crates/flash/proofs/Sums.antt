@@ -1,13 +1,6 @@
 -- Laws of the page sum. `⊕` fills the shorter page up with zeros, so most of them ask nothing of lengths.
-use mathlib.Core.Path.{_≡_, refl, sym, ap, ap₂, _∙_}
-use mathlib.Core.Logic.{⊎-elim}
-use mathlib.Core.Bool.{Bool, true, false, cond}
-use mathlib.Core.List.{List, [], _∷_, _++_}
-use Prim.Native.Nat.{ℕ, zero, suc, _≤_, _<_, max}
-use native.Mathlib.Nat.{not-suc-le-zero, le-of-suc-le-suc}
-use native.Mathlib.Omega.{arith}
-use lib.ListN.{length, getD}
-use lib.Bits.{bitXor, xor-comm, xor-zero-r}
+use Rattle.flash.proofs.Kit.{_≡_, refl, sym, ap, ap₂, _∙_, ⊎-elim, Bool, true, false, cond, List, [], _∷_, _++_, ℕ, zero, suc, _≤_, _<_, max}
+use Rattle.flash.proofs.Kit.{not-suc-le-zero, le-of-suc-le-suc, arith, length, getD, bitXor, xor-comm, xor-zero-r}
 use Rattle.flash.specs.PageSum.{_⊕_, sum, putOrAdd}
 use Rattle.flash.proofs.Bools.{bool-cases}
 use Rattle.flash.proofs.Xor.{xor-assoc, xor-cancel}

@@ -1,12 +1,6 @@
 -- In a table whose numbers rise from 1 on, the first row that fits has the lowest number that applies.
-use mathlib.Core.Bool.{Bool, true, false, _&&_, true≢false}
-use mathlib.Core.Path.{_≡_, refl, sym, ap, _∙_, subst}
-use mathlib.Core.Logic.{⊎-elim}
-use mathlib.Core.List.{List, [], _∷_, List·Memᴰ, List·Memᴰ·head, List·Memᴰ·tail, List·Memᴰ·not-nil, List·Memᴰ·cases-cons}
-use Prim.Native.Nat.{ℕ, _≤_, _<_}
-use native.Mathlib.Omega.{arith}
-use lib.Dec.{ltb}
-use borrow.Author.Tests.{ltb-true}
+use Rattle.flash.proofs.Kit.{Bool, true, false, _&&_, true≢false, _≡_, refl, sym, ap, _∙_, subst, ⊎-elim, List, [], _∷_, List·Memᴰ}
+use Rattle.flash.proofs.Kit.{List·Memᴰ·head, List·Memᴰ·tail, List·Memᴰ·not-nil, List·Memᴰ·cases-cons, ℕ, _≤_, _<_, arith, ltb, ltb-true}
 use Rattle.flash.proofs.Bools.{bool-cases, both, fails}
 use Rattle.flash.specs.Tables.{Row, firstFit, numberOr0, refusal, Lowest}
 

@@ -1,13 +1,6 @@
 -- The sum of up to four pages byte by byte.
-use mathlib.Core.Path.{_≡_, refl, sym, ap, ap₂, _∙_}
-use mathlib.Core.Bool.{Bool, true, false, cond}
-use mathlib.Core.List.{List, []}
-use Prim.Native.Nat.{ℕ, _+_, _*_, _≤_, _<_}
-use native.Mathlib.Omega.{arith}
-use lib.Bits.{bitXor, xor-zero-r}
-use lib.Dec.{ltb}
-use lib.ListN.{length, getD}
-use borrow.Author.Tests.{lt-ltb, le-ltb}
+use Rattle.flash.proofs.Kit.{_≡_, refl, sym, ap, ap₂, _∙_, Bool, true, false, cond, List, [], ℕ, _+_, _*_, _≤_, _<_, arith, bitXor, xor-zero-r}
+use Rattle.flash.proofs.Kit.{ltb, length, getD, lt-ltb, le-ltb}
 use Rattle.flash.specs.Lists.{part}
 use Rattle.flash.specs.PageSum.{_⊕_, putOrAdd}
 use Rattle.flash.specs.inner.Terms.{byteSum, termsSum}

@@ -1,9 +1,6 @@
 -- Exclusive-or of numbers, by bits: what the logic's own laws of it lack.
-use mathlib.Core.Path.{_≡_, refl, sym, _∙_}
-use Prim.Native.Nat.{ℕ, zero, suc, _/_, _%_, _<_}
-use native.Mathlib.Omega.{arith}
-use lib.Arith.{bin-ind}
-use lib.Bits.{bitXor, differ, xor-step, xor-self, xor-zero-l, xor-zero-r}
+use Rattle.flash.proofs.Kit.{_≡_, refl, sym, _∙_, ℕ, zero, suc, _/_, _%_, _<_, arith, bin-ind, bitXor, differ, xor-step, xor-self, xor-zero-l}
+use Rattle.flash.proofs.Kit.{xor-zero-r}
 
 differ-lt : (a b : ℕ) → a < 2 → b < 2 → differ a b < 2
 differ-lt zero b h k = k

@@ -1,10 +1,5 @@
 -- Laws of areas of which the front was written.
-use mathlib.Core.Path.{_≡_, sym, ap}
-use mathlib.Core.List.{List}
-use Prim.Native.Nat.{ℕ, _≤_}
-use native.Mathlib.Omega.{arith}
-use lib.ListN.{length, take, drop, length-append}
-use lib.Seq.{take-at}
+use Rattle.flash.proofs.Kit.{_≡_, sym, ap, List, ℕ, _≤_, arith, length, take, drop, length-append, take-at}
 use Rattle.listing.specs.Area.{over}
 
 module _ (front area after : List ℕ) (count : ℕ) (size : count ≡ length front) (whole : after ≡ over front area) where

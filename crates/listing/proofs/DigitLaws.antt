@@ -1,11 +1,7 @@
 -- Laws of numbers as digits.
-use mathlib.Core.Path.{_≡_, refl, sym, _∙_}
-use mathlib.Core.List.{List, [], _∷_, _++_, append-assoc, append-nil}
-use Prim.Native.Nat.{ℕ, zero, suc, _+_, _-_, _/_, _%_, _≤_, _<_}
-use native.Mathlib.Omega.{arith}
-use lib.ListN.{length, take, drop, set, length-append, length-take, length-set, drop-of-length-le}
-use lib.Seq.{drop-cons, getD-set-same, drop-set-lt, take-set-lt}
-use borrow.Author.Tests.{lt-ltb, le-ltb}
+use Rattle.flash.proofs.Kit.{_≡_, refl, sym, _∙_, List, [], _∷_, _++_, append-assoc, append-nil, ℕ, zero, suc, _+_, _-_, _/_, _%_, _≤_, _<_, arith}
+use Rattle.flash.proofs.Kit.{length, take, drop, set, length-append, length-take, length-set, drop-of-length-le, drop-cons, getD-set-same}
+use Rattle.flash.proofs.Kit.{drop-set-lt, take-set-lt, lt-ltb, le-ltb}
 use Rattle.listing.specs.Digits.{digitOf, digits, placesUpTo}
 
 pub length-digits : (base count n : ℕ) → length (digits base count n) ≡ count

@@ -1,5 +1,5 @@
 -- The worked examples hold: each side computes to the other.
-use mathlib.Core.Path.{refl}
+use Rattle.flash.proofs.Kit.{refl}
 use Rattle.flash.specs.Lists.{all, concatMap}
 use Rattle.flash.specs.Geometry.{isLetter}
 use Rattle.listing.specs.Numbers.{isSeparator, isDigit, ended, wordsFrom, spelled, numberOf, numbersIn, taken}

@@ -1,15 +1,7 @@
 -- What the parts of an input say together.
-use mathlib.Core.Path.{_≡_, refl, sym, ap, _∙_}
-use mathlib.Core.Bool.{Bool, true, false, cond, _&&_}
-use mathlib.Core.List.{List, [], _∷_, _++_, append-assoc, append-nil}
-use mathlib.Core.Option.{Option, none, some}
-use Prim.Native.Nat.{ℕ, _+_, _-_, _*_, _≤_, _<_}
-use native.Mathlib.Nat.{mul-le-mul}
-use native.Mathlib.Omega.{arith}
-use lib.Dec.{eqb, leb, ltb}
-use lib.ListN.{length, take, drop, set, length-drop, length-append, take-append-drop}
-use lib.Seq.{length-take-le, drop-append-le, drop-length, take-at, set-split}
-use borrow.Author.Tests.{leb-true, ltb-true, le-leb, lt-leb}
+use Rattle.flash.proofs.Kit.{_≡_, refl, sym, ap, _∙_, Bool, true, false, cond, _&&_, List, [], _∷_, _++_, append-assoc, append-nil, Option, none}
+use Rattle.flash.proofs.Kit.{some, ℕ, _+_, _-_, _*_, _≤_, _<_, mul-le-mul, arith, eqb, leb, ltb, length, take, drop, set, length-drop, length-append}
+use Rattle.flash.proofs.Kit.{take-append-drop, length-take-le, drop-append-le, drop-length, take-at, set-split, leb-true, ltb-true, le-leb, lt-leb}
 use Rattle.flash.specs.Lists.{all}
 use Rattle.flash.specs.declared.sizes.Sizes.{Sizes}
 use Rattle.flash.specs.Geometry.{isLetter}

@@ -1,16 +1,6 @@
 -- A number that is being read, digit by digit, and numbers that are taken one after the other.
-use mathlib.Core.Path.{_≡_, _∙_}
-use mathlib.Core.Bool.{true, false}
-use mathlib.Core.List.{List, [], _∷_, _++_}
-use mathlib.Core.Option.{none}
-use Prim.Native.Nat.{ℕ, suc, _+_, _-_, _*_, _^_, _≤_, _<_}
-use native.Mathlib.Nat.{pow-suc, pow-le-pow-right}
-use native.Mathlib.Numerals.{add-one}
-use native.Mathlib.Omega.{arith}
-use lib.Dec.{leb}
-use lib.ListN.{length, getD, drop, length-append, drop-of-length-le}
-use lib.Seq.{slice, slice-empty, drop-cons}
-use borrow.Author.Tests.{leb-true}
+use Rattle.flash.proofs.Kit.{_≡_, _∙_, true, false, List, [], _∷_, _++_, none, ℕ, suc, _+_, _-_, _*_, _^_, _≤_, _<_, pow-suc, pow-le-pow-right}
+use Rattle.flash.proofs.Kit.{add-one, arith, leb, length, getD, drop, length-append, drop-of-length-le, slice, slice-empty, drop-cons, leb-true}
 use Rattle.flash.specs.Lists.{all}
 use Rattle.flash.proofs.Bools.{and-left, and-right}
 use Rattle.flash.proofs.Searches.{all-append}

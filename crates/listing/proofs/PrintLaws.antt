@@ -1,11 +1,7 @@
 -- Laws of texts printed one behind the other.
-use mathlib.Core.Path.{_≡_, refl, sym, ap, _∙_, subst}
-use mathlib.Core.List.{List, [], _∷_, _++_, append-assoc, append-nil}
-use Prim.Native.Nat.{ℕ, suc, _+_, _-_, _*_, _≤_, _<_}
-use native.Mathlib.Numerals.{add-one}
-use native.Mathlib.Omega.{arith}
-use lib.ListN.{length, getD, take, drop, set, length-append, length-drop, take-append-drop}
-use lib.Seq.{take-suc, take-suc-set, take-at, drop-at, drop-drop, drop-append-add, length-take-le}
+use Rattle.flash.proofs.Kit.{_≡_, refl, sym, ap, _∙_, subst, List, [], _∷_, _++_, append-assoc, append-nil, ℕ, suc, _+_, _-_, _*_, _≤_, _<_, add-one}
+use Rattle.flash.proofs.Kit.{arith, length, getD, take, drop, set, length-append, length-drop, take-append-drop, take-suc, take-suc-set, take-at}
+use Rattle.flash.proofs.Kit.{drop-at, drop-drop, drop-append-add, length-take-le}
 use Rattle.flash.specs.Lists.{concatMap}
 use Rattle.listing.specs.Digits.{hex}
 use Rattle.listing.specs.Area.{over, Written}

@@ -1,14 +1,6 @@
 -- A number that was printed is read as itself.
-use mathlib.Core.Path.{_≡_, refl, ap, _∙_}
-use mathlib.Core.Bool.{true, false}
-use mathlib.Core.Logic.{⊎-elim}
-use mathlib.Core.List.{[], _∷_}
-use mathlib.Core.Option.{some}
-use Prim.Native.Nat.{ℕ, zero, suc, _+_, _/_, _%_, _^_, _≤_, _<_}
-use native.Mathlib.Nat.{pow-suc}
-use native.Mathlib.Omega.{arith}
-use lib.Dec.{ltb}
-use borrow.Author.Tests.{lt-ltb, le-leb, ltb-true, ltb-false}
+use Rattle.flash.proofs.Kit.{_≡_, refl, ap, _∙_, true, false, ⊎-elim, [], _∷_, some, ℕ, zero, suc, _+_, _/_, _%_, _^_, _≤_, _<_, pow-suc, arith, ltb}
+use Rattle.flash.proofs.Kit.{lt-ltb, le-leb, ltb-true, ltb-false}
 use Rattle.flash.specs.Lists.{all}
 use Rattle.flash.proofs.Bools.{bool-cases}
 use Rattle.flash.proofs.Searches.{all-append}

@@ -1,16 +1,7 @@
 -- Numbers that are taken from the front of a text, one after the other.
-use mathlib.Core.Path.{_≡_, refl, sym, _∙_}
-use mathlib.Core.Bool.{Bool, true, false}
-use mathlib.Core.Logic.{_⊎_, ⊎-elim}
-use mathlib.Core.List.{List, [], _∷_, _++_, append-assoc, append-nil}
-use mathlib.Core.Option.{Option, none, some}
-use Prim.Native.Nat.{ℕ, zero, suc, _+_, _-_, _≤_, _<_}
-use native.Mathlib.Numerals.{add-one}
-use native.Mathlib.Omega.{arith}
-use lib.Dec.{eqb}
-use lib.ListN.{length, getD, take, drop, set, take-append-drop}
-use lib.Seq.{take-suc-set, length-take-le}
-use borrow.Author.Tests.{ne-eqb}
+use Rattle.flash.proofs.Kit.{_≡_, refl, sym, _∙_, Bool, true, false, _⊎_, ⊎-elim, List, [], _∷_, _++_, append-assoc, append-nil, Option, none, some}
+use Rattle.flash.proofs.Kit.{ℕ, zero, suc, _+_, _-_, _≤_, _<_, add-one, arith, eqb, length, getD, take, drop, set, take-append-drop, take-suc-set}
+use Rattle.flash.proofs.Kit.{length-take-le, ne-eqb}
 use denote.Enum.Declared.{tagOf}
 use Rattle.listing.specs.declared.number.Word.{Word}
 use Rattle.listing.specs.declared.number.Word.the-variants.{Number, Malformed, End}

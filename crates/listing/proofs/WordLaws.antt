@@ -1,15 +1,7 @@
 -- Laws of the words of a text, and of the numbers that they spell.
-use mathlib.Core.Path.{_≡_, refl, sym, ap, _∙_}
-use mathlib.Core.Bool.{true, false, and-false}
-use mathlib.Core.Logic.{⊎-elim}
-use mathlib.Core.List.{List, [], _∷_, _++_, append-nil, map}
-use mathlib.Core.Option.{none, some}
-use Prim.Native.Nat.{ℕ, _+_, _-_, _*_, _≤_, _<_}
-use native.Mathlib.Numerals.{add-one}
-use native.Mathlib.Omega.{arith}
-use lib.ListN.{length, getD, take, drop, length-append}
-use lib.Seq.{slice, take-suc, drop-cons, drop-append-le, length-take-le, append-snoc}
-use borrow.Author.Tests.{le-leb, lt-leb}
+use Rattle.flash.proofs.Kit.{_≡_, refl, sym, ap, _∙_, true, false, and-false, ⊎-elim, List, [], _∷_, _++_, append-nil, map, none, some, ℕ, _+_, _-_}
+use Rattle.flash.proofs.Kit.{_*_, _≤_, _<_, add-one, arith, length, getD, take, drop, length-append, slice, take-suc, drop-cons, drop-append-le}
+use Rattle.flash.proofs.Kit.{length-take-le, append-snoc, le-leb, lt-leb}
 use Rattle.flash.specs.Lists.{all}
 use Rattle.flash.proofs.Bools.{bool-cases}
 use Rattle.flash.proofs.Searches.{all-append}

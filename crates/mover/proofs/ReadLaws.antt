@@ -1,13 +1,5 @@
 -- The answer of read, case by case.
-use mathlib.Core.Path.{_≡_, refl, _∙_}
-use mathlib.Core.Logic.{_≢_}
-use mathlib.Core.Bool.{Bool, true, false, cond}
-use mathlib.Core.List.{List, [], _∷_}
-use Prim.Native.Nat.{ℕ}
-use native.Mathlib.Omega.{arith}
-use lib.Dec.{leb}
-use lib.ListN.{length}
-use borrow.Author.Tests.{ne-eqb}
+use Rattle.flash.proofs.Kit.{_≡_, refl, _∙_, _≢_, Bool, true, false, cond, List, [], _∷_, ℕ, arith, leb, length, ne-eqb}
 use Rattle.flash.specs.Tables.{firstFit, numberOr0, refusal}
 use Rattle.flash.specs.Geometry.{originalCount}
 use Rattle.flash.specs.Chip.{Chip}

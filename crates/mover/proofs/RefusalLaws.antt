@@ -1,13 +1,5 @@
 -- Rows 1 to 4 of the table, and what a move is given that they do not refuse.
-use mathlib.Core.Path.{_≡_, refl, _∙_}
-use mathlib.Core.Logic.{_≢_}
-use mathlib.Core.Bool.{Bool, true, false, cond, not}
-use mathlib.Core.List.{List, [], _∷_}
-use Prim.Native.Nat.{ℕ, _≤_}
-use native.Mathlib.Omega.{arith}
-use lib.Dec.{eqb}
-use lib.ListN.{length}
-use borrow.Author.Tests.{ne-eqb}
+use Rattle.flash.proofs.Kit.{_≡_, refl, _∙_, _≢_, Bool, true, false, cond, not, List, [], _∷_, ℕ, _≤_, arith, eqb, length, ne-eqb}
 use Rattle.flash.specs.Tables.{Row, firstFit, numberOr0, refusal}
 use Rattle.flash.specs.Geometry.{inRange, originalCount}
 use Rattle.flash.specs.Chip.{Chip}

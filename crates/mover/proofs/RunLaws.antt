@@ -1,12 +1,6 @@
 -- A run step by step: what one step more leaves and counts.
-use mathlib.Core.Path.{_≡_, refl, sym, ap, _∙_}
-use mathlib.Core.Bool.{true, false, cond}
-use mathlib.Core.List.{List}
-use Prim.Native.Nat.{ℕ, _+_, _-_, _*_, _/_, _≤_, _<_, min}
-use native.Mathlib.Nat.{mul-assoc}
-use native.Mathlib.Omega.{arith}
-use lib.Dec.{eqb}
-use borrow.Author.Tests.{lt-ltb, le-ltb}
+use Rattle.flash.proofs.Kit.{_≡_, refl, sym, ap, _∙_, true, false, cond, List, ℕ, _+_, _-_, _*_, _/_, _≤_, _<_, min, mul-assoc, arith, eqb, lt-ltb}
+use Rattle.flash.proofs.Kit.{le-ltb}
 use Rattle.flash.specs.declared.sizes.Sizes.{Sizes}
 use Rattle.flash.proofs.Bounds.{product-le}
 use Rattle.method.specs.declared.tally.Tally.{Tally}

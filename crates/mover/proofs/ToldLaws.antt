@@ -1,12 +1,5 @@
 -- What the marks tell read: the moment, and slots of the store, one at least.
-use mathlib.Core.Path.{_≡_, refl, sym, ap, _∙_}
-use mathlib.Core.Logic.{inl, inr}
-use mathlib.Core.Bool.{Bool, true, false, cond}
-use mathlib.Core.List.{List}
-use Prim.Native.Nat.{ℕ, _+_, _≤_, _<_}
-use native.Mathlib.Omega.{arith}
-use lib.Dec.{eqb}
-use lib.ListN.{length}
+use Rattle.flash.proofs.Kit.{_≡_, refl, sym, ap, _∙_, inl, inr, Bool, true, false, cond, List, ℕ, _+_, _≤_, _<_, arith, eqb, length}
 use Rattle.flash.specs.Geometry.{originalCount, slotCount}
 use Rattle.flash.specs.declared.sizes.Sizes.{Sizes}
 use Rattle.flash.proofs.Bools.{never-both}

@@ -1,13 +1,6 @@
 -- What a place holds, the step there and the next place, in the cases that the code tells apart.
-use mathlib.Core.Path.{_≡_, refl, sym, ap, _∙_, subst}
-use mathlib.Core.Logic.{_⊎_, inl, inr, ⊎-elim}
-use mathlib.Core.Bool.{Bool, true, false, _&&_}
-use Prim.Native.Nat.{ℕ, suc, _+_, _-_, _*_, _/_, _%_, _≤_, _<_}
-use native.Mathlib.Nat.{mod-lt, div-add-mod', div-lt-iff-lt-mul, suc-mul}
-use native.Mathlib.Numerals.{add-one}
-use native.Mathlib.Omega.{arith}
-use lib.Dec.{eqb}
-use borrow.Author.Tests.{eq-eqb, ne-eqb, le-ltb}
+use Rattle.flash.proofs.Kit.{_≡_, refl, sym, ap, _∙_, subst, _⊎_, inl, inr, ⊎-elim, Bool, true, false, _&&_, ℕ, suc, _+_, _-_, _*_, _/_, _%_, _≤_}
+use Rattle.flash.proofs.Kit.{_<_, mod-lt, div-add-mod', div-lt-iff-lt-mul, suc-mul, add-one, arith, eqb, eq-eqb, ne-eqb, le-ltb}
 use Rattle.flash.specs.declared.sizes.Sizes.{Sizes}
 use Rattle.flash.specs.Geometry.{Bounds}
 use Rattle.flash.proofs.Bools.{never-both}

@@ -1,9 +1,5 @@
 -- What the answer of `Place::operation` tells of the step at a place.
-use mathlib.Core.Path.{_≡_, refl, _∙_}
-use mathlib.Core.Logic.{⊎-elim}
-use mathlib.Core.Bool.{Bool, true, false}
-use Prim.Native.Nat.{ℕ, _+_, _≤_, _<_}
-use native.Mathlib.Omega.{arith}
+use Rattle.flash.proofs.Kit.{_≡_, refl, _∙_, ⊎-elim, Bool, true, false, ℕ, _+_, _≤_, _<_, arith}
 use Rattle.flash.specs.declared.sizes.Sizes.{Sizes}
 use Rattle.flash.proofs.Comparisons.{lt-cases}
 use Rattle.method.specs.Place.{Pass, forward, backward, Operation, write, erase, done, markOf, lastPlace, operationAt, passAt, filling, filled}

@@ -1,8 +1,5 @@
 -- The answer that tells the step at a place, case by case.
-use mathlib.Core.Path.{_≡_}
-use mathlib.Core.Bool.{true, false}
-use Prim.Native.Nat.{ℕ}
-use lib.Dec.{ltb}
+use Rattle.flash.proofs.Kit.{_≡_, true, false, ℕ, ltb}
 use Rattle.flash.specs.declared.sizes.Sizes.{Sizes}
 use Rattle.flash.specs.Geometry.{inRange}
 use Rattle.method.specs.Place.{Operation, operationAt, lastPlace}

@@ -1,12 +1,5 @@
 -- The answer of mend, case by case.
-use mathlib.Core.Path.{_≡_}
-use mathlib.Core.Bool.{true, false, not}
-use mathlib.Core.Option.{none, some}
-use Prim.Native.Nat.{ℕ, _+_, _*_, _≤_}
-use native.Mathlib.Omega.{arith}
-use lib.Dec.{eqb}
-use lib.ListN.{length}
-use borrow.Author.Tests.{eqb-true, not-false}
+use Rattle.flash.proofs.Kit.{_≡_, true, false, not, none, some, ℕ, _+_, _*_, _≤_, arith, eqb, length, eqb-true, not-false}
 use Rattle.flash.specs.Tables.{firstFit, numberOr0, refusal}
 use Rattle.flash.specs.declared.sizes.Sizes.{Sizes}
 use Rattle.flash.specs.Geometry.{inRange, storeLength, marksLength}

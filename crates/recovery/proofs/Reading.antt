@@ -1,14 +1,7 @@
 -- What `reading` gives: the answer of any line that fits, or none where marks of that kind cannot be.
-use mathlib.Core.Path.{_≡_, refl, ap, _∙_}
-use mathlib.Core.Logic.{_⊎_, inl, inr, ⊎-elim, _≢_}
-use mathlib.Core.Bool.{true, false}
-use mathlib.Core.List.{List, [], _∷_, _++_, map, List·Memᴰ, List·Memᴰ·head, List·Memᴰ·tail, List·Memᴰ·not-nil, List·Memᴰ·cases-cons, Memᴰ·append-left, Memᴰ·append-right}
-use mathlib.Core.Option.{none, some}
-use Prim.Native.Nat.{ℕ, zero, suc, _+_, _-_, _≤_, _<_}
-use native.Mathlib.Omega.{arith}
-use lib.Dec.{eqb, ltb}
-use lib.ListN.{length, getD}
-use borrow.Author.Tests.{eqb-true, eqb-false, ltb-true, ltb-false}
+use Rattle.flash.proofs.Kit.{_≡_, refl, ap, _∙_, _⊎_, inl, inr, ⊎-elim, _≢_, true, false, List, [], _∷_, _++_, map, List·Memᴰ, List·Memᴰ·head}
+use Rattle.flash.proofs.Kit.{List·Memᴰ·tail, List·Memᴰ·not-nil, List·Memᴰ·cases-cons, Memᴰ·append-left, Memᴰ·append-right, none, some, ℕ, zero, suc}
+use Rattle.flash.proofs.Kit.{_+_, _-_, _≤_, _<_, arith, eqb, ltb, length, getD, eqb-true, eqb-false, ltb-true, ltb-false}
 use Rattle.flash.specs.Geometry.{letter}
 use Rattle.flash.specs.Lists.{range}
 use Rattle.flash.specs.Tables.{Row, firstFit}

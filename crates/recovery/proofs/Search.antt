@@ -1,14 +1,6 @@
 -- What the search of the marks knows after some blocks, and after some pages of the next one.
-use mathlib.Core.Path.{_≡_, refl, sym, _∙_}
-use mathlib.Core.Logic.{_⊎_, inl, inr, ⊎-elim, _≢_}
-use mathlib.Core.Bool.{Bool, true, false, _&&_, _||_, not}
-use mathlib.Core.List.{List}
-use mathlib.Core.Option.{none}
-use Prim.Native.Nat.{ℕ, _+_, _-_, _*_, _≤_, _<_}
-use native.Mathlib.Omega.{arith}
-use lib.Dec.{eqb, ltb}
-use lib.ListN.{length, getD}
-use borrow.Author.Tests.{eqb-true, eqb-false, ltb-true, ltb-false, lt-ltb, not-true, not-false}
+use Rattle.flash.proofs.Kit.{_≡_, refl, sym, _∙_, _⊎_, inl, inr, ⊎-elim, _≢_, Bool, true, false, _&&_, _||_, not, List, none, ℕ, _+_, _-_, _*_, _≤_}
+use Rattle.flash.proofs.Kit.{_<_, arith, eqb, ltb, length, getD, eqb-true, eqb-false, ltb-true, ltb-false, lt-ltb, not-true, not-false}
 use Rattle.flash.specs.declared.sizes.Sizes.{Sizes}
 use Rattle.flash.specs.Geometry.{isLetter, slot, letter}
 use Rattle.flash.specs.Chip.{erased, isMark, markAt, isFull, isUnfinished}

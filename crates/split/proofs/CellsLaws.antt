@@ -1,13 +1,6 @@
 -- The tables of one end stay exact: as a page gets its set, and as two sets are exchanged at a block.
-use mathlib.Core.Path.{_≡_, refl, sym, ap, _∙_, subst}
-use mathlib.Core.Logic.{_⊎_, inl, inr, _≢_, ⊎-elim}
-use mathlib.Core.List.{List}
-use Prim.Native.Nat.{ℕ, _+_, _-_, _*_, _≤_, _<_}
-use native.Mathlib.Nat.{not-suc-le-zero}
-use native.Mathlib.Omega.{arith}
-use lib.ListN.{length, getD, replicate, set as put, length-set}
-use lib.Seq.{getD-set-same, getD-set-other}
-use borrow.Author.Tests.{ne-eqb}
+use Rattle.flash.proofs.Kit.{_≡_, refl, sym, ap, _∙_, subst, _⊎_, inl, inr, _≢_, ⊎-elim, List, ℕ, _+_, _-_, _*_, _≤_, _<_, not-suc-le-zero, arith}
+use Rattle.flash.proofs.Kit.{length, getD, replicate, set as put, length-set, getD-set-same, getD-set-other, ne-eqb}
 use Rattle.split.specs.Split.{setOf}
 use Rattle.split.specs.Rule.{End, swapped}
 use Rattle.split.specs.inner.Mask.{bitAt, FlippedAt, FlippedBoth}

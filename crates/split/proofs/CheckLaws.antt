@@ -1,14 +1,6 @@
 -- The check of a list, window by window: a table of bits tells which entries of a window were met.
-use mathlib.Core.Path.{_≡_, refl, sym, ap, _∙_, subst}
-use mathlib.Core.Logic.{inl, inr, _≢_, ⊎-elim}
-use mathlib.Core.Bool.{true, false}
-use mathlib.Core.List.{List}
-use Prim.Native.Nat.{ℕ, _+_, _*_, _/_, _%_, _≤_, _<_}
-use native.Mathlib.Omega.{arith}
-use native.Mathlib.Nat.{not-suc-le-zero}
-use lib.Dec.{eqb, ltb}
-use lib.ListN.{length, getD, replicate}
-use borrow.Author.Tests.{eq-eqb, ne-eqb, ltb-true, lt-ltb, not-true}
+use Rattle.flash.proofs.Kit.{_≡_, refl, sym, ap, _∙_, subst, inl, inr, _≢_, ⊎-elim, true, false, List, ℕ, _+_, _*_, _/_, _%_, _≤_, _<_, arith}
+use Rattle.flash.proofs.Kit.{not-suc-le-zero, eqb, ltb, length, getD, replicate, eq-eqb, ne-eqb, ltb-true, lt-ltb, not-true}
 use Rattle.split.specs.OneToOne.{isOneToOne}
 use Rattle.split.specs.inner.Window.{isGood, differWithin}
 use Rattle.split.specs.inner.Mask.{bitAt, FlippedAt}

@@ -1,8 +1,5 @@
 -- The proofs of what specs/Claims.antt claims.
-use mathlib.Core.Path.{_≡_, refl}
-use mathlib.Core.Bool.{true}
-use native.Mathlib.Omega.{arith}
-use borrow.Author.Tests.{eq-eqb}
+use Rattle.flash.proofs.Kit.{_≡_, refl, true, arith, eq-eqb}
 use Rattle.flash.specs.Lists.{range, any, first}
 use Rattle.flash.specs.Geometry.{originalCount}
 use Rattle.split.specs.OneToOne.{isOneToOne}

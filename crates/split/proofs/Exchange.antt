@@ -1,14 +1,6 @@
 -- The exchange of two sets along the walk keeps the colouring proper, and frees set a at both ends of the next page.
-use mathlib.Core.Path.{_≡_, refl, sym, ap, _∙_, subst}
-use mathlib.Core.Logic.{_⊎_, inl, inr, _≢_, ⊎-elim}
-use mathlib.Core.Bool.{true, false, cond}
-use mathlib.Core.List.{List, map}
-use Prim.Native.Nat.{ℕ, zero, suc, _+_, _<_}
-use native.Mathlib.Nat.{not-suc-le-zero, zero-add}
-use native.Mathlib.Omega.{arith}
-use lib.Dec.{eqb}
-use lib.ListN.{length, getD, length-map}
-use borrow.Author.Tests.{eqb-true, eq-eqb, ne-eqb}
+use Rattle.flash.proofs.Kit.{_≡_, refl, sym, ap, _∙_, subst, _⊎_, inl, inr, _≢_, ⊎-elim, true, false, cond, List, map, ℕ, zero, suc, _+_, _<_}
+use Rattle.flash.proofs.Kit.{not-suc-le-zero, zero-add, arith, eqb, length, getD, length-map, eqb-true, eq-eqb, ne-eqb}
 use Rattle.flash.specs.Lists.{range, any}
 use Rattle.split.specs.Split.{setOf}
 use Rattle.split.specs.Rule.{End, source, destination, otherEnd, swapped, blockAt, exchange}

@@ -1,16 +1,7 @@
 -- The rule page by page: the tables give the sets that the definition gives.
-use mathlib.Core.Path.{_≡_, refl, sym, ap, ap₂, _∙_, subst}
-use mathlib.Core.Logic.{_≢_, ⊎-elim}
-use mathlib.Core.Bool.{true, false, cond, not}
-use mathlib.Core.List.{List, [], _∷_, _++_}
-use Prim.Native.Nat.{ℕ, suc, _+_, _-_, _*_, _/_, _%_, _≤_, _<_}
-use native.Mathlib.Nat.{div-add-mod', mod-lt}
-use native.Mathlib.Numerals.{add-one}
-use native.Mathlib.Omega.{arith}
-use lib.Dec.{eqb}
-use lib.ListN.{length, getD, take, replicate, set as put, length-set}
-use lib.Seq.{getD-take, take-suc, take-suc-set, take-set-le, take-all}
-use borrow.Author.Tests.{eqb-true, eqb-false, eq-eqb, ne-eqb, not-true, not-false}
+use Rattle.flash.proofs.Kit.{_≡_, refl, sym, ap, ap₂, _∙_, subst, _≢_, ⊎-elim, true, false, cond, not, List, [], _∷_, _++_, ℕ, suc, _+_, _-_, _*_}
+use Rattle.flash.proofs.Kit.{_/_, _%_, _≤_, _<_, div-add-mod', mod-lt, add-one, arith, eqb, length, getD, take, replicate, set as put, length-set}
+use Rattle.flash.proofs.Kit.{getD-take, take-suc, take-suc-set, take-set-le, take-all, eqb-true, eqb-false, eq-eqb, ne-eqb, not-true, not-false}
 use Rattle.split.specs.Split.{setOf}
 use Rattle.split.specs.Rule.{End, source, destination, blockAt, isUsed, lowestUnused, pagesMet, exchange, giveNext, setsGiven, splitByRule}
 use Rattle.split.specs.inner.Mask.{bitAt, lowestZero, FlippedAt}

@@ -1,21 +1,10 @@
 -- Laws of the bits of a mask.
-use mathlib.Core.Path.{_≡_, refl, ap, sym, _∙_}
-use mathlib.Core.Logic.{_≢_, inl, inr, ⊎-elim}
-use mathlib.Core.Bool.{Bool, true, false, cond}
-use mathlib.Core.List.{List}
-use Prim.Native.Nat.{ℕ, zero, suc, _+_, _-_, _/_, _%_, _^_, _≤_, _<_, max}
-use native.Mathlib.Nat.{pow-suc, div-eq-of-lt, div-self, div-one, mod-lt, zero-div}
-use native.Mathlib.Numerals.{one-add}
-use native.Mathlib.Omega.{arith}
-use lib.Dec.{eqb}
-use lib.ListN.{length, getD, set, replicate}
-use lib.Seq.{getD-set-same, getD-set-other}
-use lib.Count.{trailingZeros, under}
-use lib.Pow.{pow-pos, pow-lt, pow-add, shr-shr, shl-shr}
-use lib.Bits.{bitOr, or-step, or-shr, bitXor, xor-step, xor-shr, differ}
+use Rattle.flash.proofs.Kit.{_≡_, refl, ap, sym, _∙_, _≢_, inl, inr, ⊎-elim, Bool, true, false, cond, List, ℕ, zero, suc, _+_, _-_, _/_, _%_, _^_}
+use Rattle.flash.proofs.Kit.{_≤_, _<_, max, pow-suc, div-eq-of-lt, div-self, div-one, mod-lt, zero-div, one-add, arith, eqb, length, getD, set}
+use Rattle.flash.proofs.Kit.{replicate, getD-set-same, getD-set-other, trailingZeros, under, pow-pos, pow-lt, pow-add, shr-shr, shl-shr, bitOr}
+use Rattle.flash.proofs.Kit.{or-step, or-shr, bitXor, xor-step, xor-shr, differ, eqb-true, eqb-false}
 use Rattle.flash.specs.Lists.{range, first}
 use Rattle.split.specs.inner.Mask.{bitAt, lowestZero, WithBit, Flipped, FlippedAt, FlippedBoth}
-use borrow.Author.Tests.{eqb-true, eqb-false}
 use Rattle.flash.proofs.Bools.{bool-cases}
 use Rattle.flash.proofs.Ranges.{First, Missed, first-cases}
 use Rattle.flash.proofs.Comparisons.{lt-cases, eq-cases}

@@ -1,13 +1,6 @@
 -- What the check of a list says: each entry is in range and none is met twice, so that a list of its length is a permutation.
-use mathlib.Core.Path.{_≡_, refl, sym, ap}
-use mathlib.Core.Bool.{true, false}
-use mathlib.Core.List.{List, [], _∷_}
-use Prim.Native.Nat.{ℕ, zero, suc, _<_}
-use native.Mathlib.Nat.{not-suc-le-zero}
-use native.Mathlib.Omega.{arith}
-use lib.Dec.{eqb, leb}
-use lib.ListN.{length, getD}
-use borrow.Author.Tests.{eqb-true, eq-eqb, leb-true, leb-false, not-true}
+use Rattle.flash.proofs.Kit.{_≡_, refl, sym, ap, true, false, List, [], _∷_, ℕ, zero, suc, _<_, not-suc-le-zero, arith, eqb, leb, length, getD}
+use Rattle.flash.proofs.Kit.{eqb-true, eq-eqb, leb-true, leb-false, not-true}
 use Rattle.flash.specs.Lists.{any}
 use Rattle.split.specs.OneToOne.{metTwice, badList, isOneToOne}
 use Rattle.flash.proofs.Bools.{never-both, fails, or-false-left, or-false-right}

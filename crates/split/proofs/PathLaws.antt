@@ -1,15 +1,7 @@
 -- The loop of the exchange: the tables lead along the path, and are exact again at its end.
-use mathlib.Core.Path.{_≡_, refl, sym, ap, ap₂, _∙_, subst}
-use mathlib.Core.Logic.{_⊎_, inl, _≢_, ⊎-elim}
-use mathlib.Core.Bool.{Bool, true, false}
-use mathlib.Core.List.{List}
-use Prim.Native.Nat.{ℕ, zero, suc, _+_, _-_, _*_, _/_, _%_, _≤_, _<_}
-use native.Mathlib.Nat.{div-add-mod'}
-use native.Mathlib.Omega.{arith}
-use lib.Dec.{eqb}
-use lib.ListN.{length, getD, take, set as put, length-set}
-use lib.Seq.{getD-set-same, getD-set-other}
-use borrow.Author.Tests.{eqb-true, eq-eqb, ne-eqb}
+use Rattle.flash.proofs.Kit.{_≡_, refl, sym, ap, ap₂, _∙_, subst, _⊎_, inl, _≢_, ⊎-elim, Bool, true, false, List, ℕ, zero, suc, _+_, _-_, _*_, _/_}
+use Rattle.flash.proofs.Kit.{_%_, _≤_, _<_, div-add-mod', arith, eqb, length, getD, take, set as put, length-set, getD-set-same, getD-set-other}
+use Rattle.flash.proofs.Kit.{eqb-true, eq-eqb, ne-eqb}
 use Rattle.flash.specs.Lists.{range, count}
 use Rattle.split.specs.Split.{sourceBlock, setOf}
 use Rattle.split.specs.Rule.{End, source, destination, otherEnd, blockAt, pagesMet, exchange, setsGiven}

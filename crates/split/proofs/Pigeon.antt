@@ -1,12 +1,6 @@
 -- The pigeonhole principle, and what it says of a one-to-one map of the numbers below n.
-use mathlib.Core.Path.{_≡_, sym, ap, _∙_}
-use mathlib.Core.Logic.{_⊎_, inl, inr, _≢_, ⊎-elim}
-use mathlib.Core.Bool.{Bool, true, false, cond}
-use Prim.Native.Nat.{ℕ, zero, suc, _≤_, _<_}
-use native.Mathlib.Nat.{not-suc-le-zero}
-use native.Mathlib.Omega.{arith}
-use lib.Dec.{eqb, ltb}
-use borrow.Author.Tests.{eqb-true, eqb-false, eq-eqb, ne-eqb, lt-ltb, le-ltb}
+use Rattle.flash.proofs.Kit.{_≡_, sym, ap, _∙_, _⊎_, inl, inr, _≢_, ⊎-elim, Bool, true, false, cond, ℕ, zero, suc, _≤_, _<_, not-suc-le-zero, arith}
+use Rattle.flash.proofs.Kit.{eqb, ltb, eqb-true, eqb-false, eq-eqb, ne-eqb, lt-ltb, le-ltb}
 use Rattle.flash.specs.Lists.{range, first}
 use Rattle.flash.proofs.Bools.{bool-cases}
 use Rattle.flash.proofs.Ranges.{first-hit}

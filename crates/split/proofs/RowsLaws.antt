@@ -1,15 +1,8 @@
 -- The check of set bytes by rows: what the table by destination and the bits of a row tell, and that rows with each set make a split.
-use mathlib.Core.Path.{_≡_, refl, sym, ap, _∙_, subst}
-use mathlib.Core.Logic.{_⊎_, inl, inr, _≢_, ⊎-elim}
-use mathlib.Core.Bool.{true, false, _&&_}
-use mathlib.Core.List.{List, _++_}
-use Prim.Native.Nat.{ℕ, _+_, _-_, _*_, _/_, _%_, _≤_, _<_, min}
-use native.Mathlib.Nat.{not-suc-le-zero, div-lt-iff-lt-mul, div-add-mod', mod-lt}
-use native.Mathlib.Omega.{arith}
-use lib.Dec.{eqb, ltb, leb}
-use lib.ListN.{length, getD, set, replicate, length-replicate, getD-replicate, List·getD-append}
-use lib.Seq.{getD-set-same, getD-set-other}
-use borrow.Author.Tests.{eqb-true, eq-eqb, ltb-true, lt-ltb, leb-true, le-leb}
+use Rattle.flash.proofs.Kit.{_≡_, refl, sym, ap, _∙_, subst, _⊎_, inl, inr, _≢_, ⊎-elim, true, false, _&&_, List, _++_, ℕ, _+_, _-_, _*_, _/_, _%_}
+use Rattle.flash.proofs.Kit.{_≤_, _<_, min, not-suc-le-zero, div-lt-iff-lt-mul, div-add-mod', mod-lt, arith, eqb, ltb, leb, length, getD, set}
+use Rattle.flash.proofs.Kit.{replicate, length-replicate, getD-replicate, List·getD-append, getD-set-same, getD-set-other, eqb-true, eq-eqb, ltb-true}
+use Rattle.flash.proofs.Kit.{lt-ltb, leb-true, le-leb}
 use Rattle.flash.specs.Lists.{all, any, part}
 use Rattle.flash.specs.Geometry.{blockOf}
 use Rattle.split.specs.OneToOne.{isOneToOne}

@@ -1,14 +1,7 @@
 -- The split rule ends in a split: each page in turn finds a set that is unused at its source, and at its destination after the exchange.
-use mathlib.Core.Path.{_≡_, refl, sym, ap, ap₂, _∙_, subst}
-use mathlib.Core.Logic.{_⊎_, inl, inr, _≢_, ⊎-elim}
-use mathlib.Core.Bool.{true, false, not}
-use mathlib.Core.List.{List, [], _∷_, _++_}
-use Prim.Native.Nat.{ℕ, zero, suc, _+_, _-_, _*_, _/_, _%_, _≤_, _<_}
-use native.Mathlib.Nat.{not-suc-le-zero, div-add-mod', mod-lt}
-use native.Mathlib.Omega.{arith}
-use lib.ListN.{length, getD, length-append, List·getD-append}
-use lib.Seq.{getD-at}
-use borrow.Author.Tests.{not-true, not-false}
+use Rattle.flash.proofs.Kit.{_≡_, refl, sym, ap, ap₂, _∙_, subst, _⊎_, inl, inr, _≢_, ⊎-elim, true, false, not, List, [], _∷_, _++_, ℕ, zero, suc}
+use Rattle.flash.proofs.Kit.{_+_, _-_, _*_, _/_, _%_, _≤_, _<_, not-suc-le-zero, div-add-mod', mod-lt, arith, length, getD, length-append}
+use Rattle.flash.proofs.Kit.{List·getD-append, getD-at, not-true, not-false}
 use Rattle.flash.specs.Lists.{first}
 use Rattle.flash.specs.Geometry.{blockOf}
 use Rattle.split.specs.OneToOne.{isOneToOne}

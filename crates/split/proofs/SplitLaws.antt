@@ -1,14 +1,8 @@
 -- What a split says: each set has just one page from each data block and just one page to each; and what makes one.
 -- The layer above relies on these laws and on nothing of the rule.
-use mathlib.Core.Path.{_≡_, refl, sym, ap, _∙_}
-use mathlib.Core.Bool.{Bool, true, _&&_}
-use mathlib.Core.List.{List}
-use Prim.Native.Nat.{ℕ, zero, suc, _+_, _-_, _*_, _/_, _≤_, _<_}
-use native.Mathlib.Nat.{mul-le-mul-right, suc-mul, div-lt-iff-lt-mul, mul-add-div-right, div-eq-of-lt, mul-zero}
-use native.Mathlib.Omega.{arith}
-use lib.Dec.{eqb, ltb}
-use lib.ListN.{length, getD}
-use borrow.Author.Tests.{eqb-true, eq-eqb, ltb-true, lt-ltb}
+use Rattle.flash.proofs.Kit.{_≡_, refl, sym, ap, _∙_, Bool, true, _&&_, List, ℕ, zero, suc, _+_, _-_, _*_, _/_, _≤_, _<_, mul-le-mul-right, suc-mul}
+use Rattle.flash.proofs.Kit.{div-lt-iff-lt-mul, mul-add-div-right, div-eq-of-lt, mul-zero, arith, eqb, ltb, length, getD, eqb-true, eq-eqb, ltb-true}
+use Rattle.flash.proofs.Kit.{lt-ltb}
 use Rattle.flash.specs.Lists.{range, all, count, first}
 use Rattle.flash.specs.Geometry.{blockOf}
 use Rattle.split.specs.OneToOne.{isOneToOne}

@@ -1,14 +1,7 @@
 -- The exchange page by page: what holds after i pages of the walk got their other set, and one turn more.
-use mathlib.Core.Path.{_≡_, sym, ap, _∙_, subst}
-use mathlib.Core.Logic.{_≢_, ⊎-elim}
-use mathlib.Core.Bool.{Bool, true, false, cond, _||_, or-false, or-true}
-use mathlib.Core.List.{List, [], _∷_}
-use Prim.Native.Nat.{ℕ, suc, _≤_, _<_}
-use native.Mathlib.Omega.{arith}
-use lib.Dec.{eqb}
-use lib.ListN.{length, getD, take, set, length-take}
-use lib.Seq.{getD-take, getD-set-same, getD-set-other, take-suc, take-all, ext-getD}
-use borrow.Author.Tests.{eqb-true, eq-eqb, ne-eqb}
+use Rattle.flash.proofs.Kit.{_≡_, sym, ap, _∙_, subst, _≢_, ⊎-elim, Bool, true, false, cond, _||_, or-false, or-true, List, [], _∷_, ℕ, suc, _≤_, _<_}
+use Rattle.flash.proofs.Kit.{arith, eqb, length, getD, take, set, length-take, getD-take, getD-set-same, getD-set-other, take-suc, take-all, ext-getD}
+use Rattle.flash.proofs.Kit.{eqb-true, eq-eqb, ne-eqb}
 use Rattle.flash.specs.Lists.{any}
 use Rattle.split.specs.Split.{setOf}
 use Rattle.split.specs.Rule.{End, source, destination, otherEnd, swapped, blockAt, exchange}

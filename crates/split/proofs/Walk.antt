@@ -1,16 +1,6 @@
 -- The exchange walk: an alternating path in the colouring of the pages, whose edges are the moves and whose colours are the sets.
-use mathlib.Core.Path.{_≡_, refl, sym, ap, _∙_, subst}
-use mathlib.Core.Logic.{_⊎_, inl, inr, _≢_, ⊎-elim}
-use mathlib.Core.Bool.{true}
-use mathlib.Core.List.{List, [], _∷_}
-use Prim.Native.Nat.{ℕ, zero, suc, _+_, _-_, _*_, _≤_, _<_}
-use native.Mathlib.Nat.{not-suc-le-zero, suc-add}
-use native.Mathlib.Omega.{arith}
-use native.Mathlib.Numerals.{add-one}
-use lib.Dec.{eqb}
-use lib.ListN.{length, getD, take}
-use lib.Seq.{take-all}
-use borrow.Author.Tests.{eqb-true, eq-eqb, lt-ltb, le-ltb}
+use Rattle.flash.proofs.Kit.{_≡_, refl, sym, ap, _∙_, subst, _⊎_, inl, inr, _≢_, ⊎-elim, true, List, [], _∷_, ℕ, zero, suc, _+_, _-_, _*_, _≤_, _<_}
+use Rattle.flash.proofs.Kit.{not-suc-le-zero, suc-add, arith, add-one, eqb, length, getD, take, take-all, eqb-true, eq-eqb, lt-ltb, le-ltb}
 use Rattle.flash.specs.Lists.{range, first}
 use Rattle.split.specs.Split.{setOf}
 use Rattle.split.specs.Rule.{End, source, destination, otherEnd, blockAt, isPageOf, pagesMet}

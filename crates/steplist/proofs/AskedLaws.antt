@@ -1,14 +1,6 @@
 -- The numbers of a request, cut into its list and its bytes.
-use mathlib.Core.Path.{_≡_, refl, sym, ap, ap₂, _∙_, subst}
-use mathlib.Core.Logic.{⊎-elim}
-use mathlib.Core.Bool.{Bool, true, false, _&&_}
-use mathlib.Core.List.{List, []}
-use mathlib.Core.Option.{Option, none, some}
-use Prim.Native.Nat.{ℕ, _+_, _-_, _*_, _≤_}
-use native.Mathlib.Omega.{arith}
-use lib.Dec.{eqb, leb}
-use lib.ListN.{length, take, drop, length-drop}
-use lib.Seq.{take-take, take-add, drop-at, length-take-le}
+use Rattle.flash.proofs.Kit.{_≡_, refl, sym, ap, ap₂, _∙_, subst, ⊎-elim, Bool, true, false, _&&_, List, [], Option, none, some, ℕ, _+_, _-_, _*_}
+use Rattle.flash.proofs.Kit.{_≤_, arith, eqb, leb, length, take, drop, length-drop, take-take, take-add, drop-at, length-take-le}
 use Rattle.flash.specs.Lists.{all}
 use Rattle.flash.specs.declared.sizes.Sizes.{Sizes}
 use Rattle.flash.specs.Geometry.{originalCount}

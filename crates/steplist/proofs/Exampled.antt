@@ -1,5 +1,5 @@
 -- The examples: the output computes to what is due.
-use mathlib.Core.Path.{refl}
+use Rattle.flash.proofs.Kit.{refl}
 use Rattle.method.proofs.basics.Open.{all-open}
 use Rattle.listing.specs.Numbers.{isSeparator, isDigit, ended, wordsFrom, spelled, numberOf, numbersIn, taken}
 use Rattle.listing.specs.Input.{isAllowed, exactly, requested, afterSizes, inputOf, withinLimit}

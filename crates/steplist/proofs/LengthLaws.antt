@@ -1,13 +1,5 @@
 -- How long a line can be.
-use mathlib.Core.Path.{_≡_}
-use mathlib.Core.Logic.{⊎-elim}
-use mathlib.Core.Bool.{true, false}
-use mathlib.Core.List.{List}
-use Prim.Native.Nat.{ℕ, zero, suc, _+_, _*_, _/_, _≤_, _<_}
-use native.Mathlib.Omega.{arith}
-use native.Mathlib.Nat.{mul-le-mul}
-use lib.Dec.{ltb}
-use lib.ListN.{length, length-append}
+use Rattle.flash.proofs.Kit.{_≡_, ⊎-elim, true, false, List, ℕ, zero, suc, _+_, _*_, _/_, _≤_, _<_, arith, mul-le-mul, ltb, length, length-append}
 use Rattle.flash.specs.declared.sizes.Sizes.{Sizes}
 use Rattle.flash.proofs.Bools.{bool-cases}
 use Rattle.method.specs.Place.{Pass, forward, backward, operationAt, passAt, filling, filled, lastPlace}

@@ -1,7 +1,5 @@
 -- The line of a step as the code's answer tells it.
-use mathlib.Core.Path.{_≡_, refl, sym, ap, _∙_}
-use mathlib.Core.List.{List, []}
-use Prim.Native.Nat.{ℕ}
+use Rattle.flash.proofs.Kit.{_≡_, refl, sym, ap, _∙_, List, [], ℕ}
 use Rattle.flash.specs.declared.sizes.Sizes.{Sizes}
 use Rattle.method.specs.Place.{Operation, write, erase, done}
 use Rattle.listing.specs.Lines.{writeLine, eraseLine}

@@ -1,11 +1,6 @@
 -- The listing step by step: what is shown after one step more.
-use mathlib.Core.Path.{_≡_, refl, sym, ap, _∙_, subst}
-use mathlib.Core.List.{List, _++_, append-assoc, append-nil}
-use Prim.Native.Nat.{ℕ, zero, suc, _+_, _≤_}
-use native.Mathlib.Nat.{zero-add, suc-add, add-zero}
-use native.Mathlib.Omega.{arith}
-use lib.ListN.{take}
-use lib.Seq.{take-length}
+use Rattle.flash.proofs.Kit.{_≡_, refl, sym, ap, _∙_, subst, List, _++_, append-assoc, append-nil, ℕ, zero, suc, _+_, _≤_, zero-add, suc-add}
+use Rattle.flash.proofs.Kit.{add-zero, arith, take, take-length}
 use Rattle.split.specs.Request.{Request}
 use Rattle.method.specs.declared.tally.Tally.{Tally}
 use Rattle.method.specs.Move.{Move, move}

@@ -1,10 +1,6 @@
 -- A list whose front is filled.
-use mathlib.Core.Path.{_≡_, sym, ap, _∙_}
-use mathlib.Core.List.{List, _++_, append-nil}
-use Prim.Native.Nat.{ℕ, _+_, _-_, _≤_}
-use native.Mathlib.Omega.{arith}
-use lib.ListN.{length, take, drop, replicate, length-replicate, replicate-append-replicate, length-drop, drop-of-length-le}
-use lib.Seq.{length-take-le, take-at, drop-at}
+use Rattle.flash.proofs.Kit.{_≡_, sym, ap, _∙_, List, _++_, append-nil, ℕ, _+_, _-_, _≤_, arith, length, take, drop, replicate, length-replicate}
+use Rattle.flash.proofs.Kit.{replicate-append-replicate, length-drop, drop-of-length-le, length-take-le, take-at, drop-at}
 
 drop-replicate : (m n v : ℕ) → m ≤ n → drop m (replicate n v) ≡ replicate (n - m) v
 drop-replicate m n v h =

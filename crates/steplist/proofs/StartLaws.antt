@@ -1,12 +1,7 @@
 -- The store that the program fills is at rest, and the run from it is not refused.
-use mathlib.Core.Path.{_≡_, ap, _∙_}
-use mathlib.Core.Bool.{true, not}
-use mathlib.Core.List.{List, _++_}
-use Prim.Native.Nat.{ℕ, _+_, _-_, _*_, _≤_, _<_}
-use native.Mathlib.Nat.{add-mul, mul-le-mul-right}
-use native.Mathlib.Omega.{arith}
-use lib.ListN.{length, drop, replicate, length-append, length-drop, length-replicate, getD-replicate, List·getD-append}
-use lib.Seq.{getD-append-add, take-append-le, drop-append-le}
+use Rattle.flash.proofs.Kit.{_≡_, ap, _∙_, true, not, List, _++_, ℕ, _+_, _-_, _*_, _≤_, _<_, add-mul, mul-le-mul-right, arith, length, drop}
+use Rattle.flash.proofs.Kit.{replicate, length-append, length-drop, length-replicate, getD-replicate, List·getD-append, getD-append-add}
+use Rattle.flash.proofs.Kit.{take-append-le, drop-append-le}
 use Rattle.flash.specs.Lists.{range, all, part}
 use Rattle.flash.specs.declared.sizes.Sizes.{Sizes}
 use Rattle.flash.specs.Geometry.{Bounds, slot, originalCount, storeLength, marksLength}

@@ -1,9 +1,5 @@
 -- One step more: what it leaves, counts and prints.
-use mathlib.Core.Path.{_≡_, ap, _∙_}
-use mathlib.Core.List.{List}
-use Prim.Native.Nat.{ℕ, _≤_, _<_}
-use native.Mathlib.Omega.{arith}
-use lib.ListN.{length}
+use Rattle.flash.proofs.Kit.{_≡_, ap, _∙_, List, ℕ, _≤_, _<_, arith, length}
 use Rattle.split.specs.Request.{Request}
 use Rattle.method.specs.Move.{Move, move}
 use Rattle.method.specs.Place.{operationAt, lastPlace}

@@ -1,13 +1,6 @@
 -- Going back by the rows is read's rule 2.
-use mathlib.Core.Path.{_≡_, refl, sym, ap, _∙_}
-use mathlib.Core.Logic.{_⊎_, ⊎-elim, _≢_}
-use mathlib.Core.Bool.{true, false, cond}
-use mathlib.Core.List.{List, [], _∷_}
-use Prim.Native.Nat.{ℕ, zero, suc, _-_, _≤_, _<_}
-use native.Mathlib.Nat.{not-suc-le-zero}
-use native.Mathlib.Omega.{arith}
-use lib.Dec.{eqb, leb}
-use borrow.Author.Tests.{eq-eqb, ne-eqb, le-leb, lt-leb}
+use Rattle.flash.proofs.Kit.{_≡_, refl, sym, ap, _∙_, _⊎_, ⊎-elim, _≢_, true, false, cond, List, [], _∷_, ℕ, zero, suc, _-_, _≤_, _<_}
+use Rattle.flash.proofs.Kit.{not-suc-le-zero, arith, eqb, leb, eq-eqb, ne-eqb, le-leb, lt-leb}
 use Rattle.flash.specs.declared.sizes.Sizes.{Sizes}
 use Rattle.flash.proofs.Bools.{bool-cases, never-both}
 use Rattle.method.specs.Move.{Move, AcceptedMove}

@@ -1,15 +1,7 @@
 -- The slots of a write in the backward pass: those that read gives, or the same in reverse where the block is the top.
-use mathlib.Core.Path.{_≡_, refl, sym, ap, _∙_}
-use mathlib.Core.Logic.{⊎-elim, _≢_}
-use mathlib.Core.Bool.{Bool, true, false, cond, or-false}
-use mathlib.Core.List.{List, [], _∷_, _++_, append-nil}
-use Prim.Native.Nat.{ℕ, zero, suc, _+_, _-_, _≤_, _<_}
-use native.Mathlib.Nat.{le-antisymm}
-use native.Mathlib.Numerals.{add-one}
-use native.Mathlib.Omega.{arith}
-use lib.Dec.{eqb, leb, ltb}
-use lib.ListN.{length, getD}
-use borrow.Author.Tests.{eqb-true, eq-eqb, leb-false, le-leb, lt-leb, lt-ltb, le-ltb}
+use Rattle.flash.proofs.Kit.{_≡_, refl, sym, ap, _∙_, ⊎-elim, _≢_, Bool, true, false, cond, or-false, List, [], _∷_, _++_, append-nil, ℕ, zero, suc}
+use Rattle.flash.proofs.Kit.{_+_, _-_, _≤_, _<_, le-antisymm, add-one, arith, eqb, leb, ltb, length, getD, eqb-true, eq-eqb, leb-false, le-leb}
+use Rattle.flash.proofs.Kit.{lt-leb, lt-ltb, le-ltb}
 use Rattle.flash.specs.Lists.{concatMap}
 use Rattle.flash.specs.declared.sizes.Sizes.{Sizes}
 use Rattle.flash.specs.Geometry.{blockOf, numberAt, originalCount}

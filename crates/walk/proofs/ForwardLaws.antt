@@ -1,14 +1,6 @@
 -- The slots of a write in the forward pass: D(i) lies plain in its block, and the way back tells whether i is the top.
-use mathlib.Core.Path.{_≡_, refl, sym, ap, _∙_}
-use mathlib.Core.Logic.{⊎-elim, inr, _≢_}
-use mathlib.Core.Bool.{true, false, or-true}
-use mathlib.Core.List.{List, [], _∷_, append-nil}
-use Prim.Native.Nat.{ℕ, zero, suc, _+_, _/_, _≤_, _<_}
-use native.Mathlib.Nat.{not-suc-le-zero, le-antisymm}
-use native.Mathlib.Omega.{arith}
-use lib.Dec.{eqb, leb}
-use lib.ListN.{length, getD}
-use borrow.Author.Tests.{eq-eqb, ne-eqb, leb-true, leb-false, le-leb, lt-leb}
+use Rattle.flash.proofs.Kit.{_≡_, refl, sym, ap, _∙_, ⊎-elim, inr, _≢_, true, false, or-true, List, [], _∷_, append-nil, ℕ, zero, suc, _+_, _/_, _≤_}
+use Rattle.flash.proofs.Kit.{_<_, not-suc-le-zero, le-antisymm, arith, eqb, leb, length, getD, eq-eqb, ne-eqb, leb-true, leb-false, le-leb, lt-leb}
 use Rattle.flash.specs.Lists.{concatMap}
 use Rattle.flash.specs.declared.sizes.Sizes.{Sizes}
 use Rattle.flash.proofs.Comparisons.{eq-cases}

@@ -1,11 +1,6 @@
 -- Slots that are gathered one after the other: what each that is put behind the others leaves.
-use mathlib.Core.Path.{_≡_, refl, sym, ap, _∙_}
-use mathlib.Core.List.{List, [], _∷_, _++_, append-assoc, append-nil}
-use Prim.Native.Nat.{ℕ, zero, suc, _+_, _-_, _≤_, _<_}
-use native.Mathlib.Numerals.{add-one}
-use native.Mathlib.Omega.{arith}
-use lib.ListN.{length, getD, set, take, drop, length-set}
-use lib.Seq.{take-suc-set, getD-take, length-take-le}
+use Rattle.flash.proofs.Kit.{_≡_, refl, sym, ap, _∙_, List, [], _∷_, _++_, append-assoc, append-nil, ℕ, zero, suc, _+_, _-_, _≤_, _<_, add-one, arith}
+use Rattle.flash.proofs.Kit.{length, getD, set, take, drop, length-set, take-suc-set, getD-take, length-take-le}
 use Rattle.flash.proofs.Loops.{rest-more}
 use Rattle.method.proofs.basics.EachNumber.{Each}
 use Rattle.walk.specs.inner.Slots.{slotsLength, Appends}

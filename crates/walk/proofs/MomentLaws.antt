@@ -1,12 +1,6 @@
 -- Marks that fit the move have a moment, which tells what each block is full of.
-use mathlib.Core.Path.{_≡_}
-use mathlib.Core.Logic.{_⊎_, inl, inr, ⊎-elim, _≢_}
-use mathlib.Core.Bool.{Bool, true, false, cond}
-use mathlib.Core.List.{List}
-use Prim.Native.Nat.{ℕ, _+_, _≤_, _<_}
-use native.Mathlib.Omega.{arith}
-use lib.Dec.{leb, ltb}
-use borrow.Author.Tests.{leb-true, le-leb, lt-leb, ltb-true, lt-ltb}
+use Rattle.flash.proofs.Kit.{_≡_, _⊎_, inl, inr, ⊎-elim, _≢_, Bool, true, false, cond, List, ℕ, _+_, _≤_, _<_, arith, leb, ltb, leb-true, le-leb}
+use Rattle.flash.proofs.Kit.{lt-leb, ltb-true, lt-ltb}
 use Rattle.flash.specs.declared.sizes.Sizes.{Sizes}
 use Rattle.flash.specs.Geometry.{letter}
 use Rattle.flash.proofs.Bools.{bool-eq, fails}

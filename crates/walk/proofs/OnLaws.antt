@@ -1,14 +1,6 @@
 -- Going on by the rows is read's rule 3.
-use mathlib.Core.Path.{_≡_, refl, sym, ap, _∙_}
-use mathlib.Core.Logic.{_≢_}
-use mathlib.Core.Bool.{true, false, cond}
-use mathlib.Core.List.{List, [], _∷_}
-use Prim.Native.Nat.{ℕ, zero, suc, _+_, _-_, _/_, _≤_, _<_}
-use native.Mathlib.Nat.{not-suc-le-zero}
-use native.Mathlib.Omega.{arith}
-use lib.Dec.{eqb, leb}
-use borrow.Author.Tests.{eq-eqb, ne-eqb, le-leb, lt-leb}
-use lib.ListN.{getD}
+use Rattle.flash.proofs.Kit.{_≡_, refl, sym, ap, _∙_, _≢_, true, false, cond, List, [], _∷_, ℕ, zero, suc, _+_, _-_, _/_, _≤_, _<_, not-suc-le-zero}
+use Rattle.flash.proofs.Kit.{arith, eqb, leb, eq-eqb, ne-eqb, le-leb, lt-leb, getD}
 use Rattle.flash.specs.declared.sizes.Sizes.{Sizes}
 use Rattle.flash.specs.Geometry.{numberAt}
 use Rattle.split.specs.Split.{destBlock}

@@ -1,13 +1,6 @@
 -- Read's rules at a moment: which of them is due for original k, and the slots that it gives.
-use mathlib.Core.Path.{_≡_, refl, sym, _∙_}
-use mathlib.Core.Logic.{⊎-elim, inl}
-use mathlib.Core.Bool.{Bool, true, false, _||_}
-use mathlib.Core.List.{List, [], _∷_}
-use Prim.Native.Nat.{ℕ, _+_, _-_, _*_, _≤_, _<_}
-use native.Mathlib.Omega.{arith}
-use lib.Dec.{eqb, leb, ltb}
-use lib.ListN.{getD}
-use borrow.Author.Tests.{eqb-true, eq-eqb, ne-eqb, leb-true, leb-false, le-leb, lt-leb, ltb-false}
+use Rattle.flash.proofs.Kit.{_≡_, refl, sym, _∙_, ⊎-elim, inl, Bool, true, false, _||_, List, [], _∷_, ℕ, _+_, _-_, _*_, _≤_, _<_, arith, eqb, leb}
+use Rattle.flash.proofs.Kit.{ltb, getD, eqb-true, eq-eqb, ne-eqb, leb-true, leb-false, le-leb, lt-leb, ltb-false}
 use Rattle.flash.specs.Lists.{range, any}
 use Rattle.flash.specs.declared.sizes.Sizes.{Sizes}
 use Rattle.flash.specs.Geometry.{blockOf, originalCount}

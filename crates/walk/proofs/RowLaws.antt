@@ -1,13 +1,6 @@
 -- What the rows of a set tell: where D(v) lies before the move, where it goes, and that every slot is one of the store.
-use mathlib.Core.Path.{_≡_, ap, _∙_}
-use mathlib.Core.Bool.{Bool, true, false, cond}
-use mathlib.Core.List.{List, [], _∷_}
-use Prim.Native.Nat.{ℕ, zero, suc, _+_, _-_, _*_, _/_, _≤_, _<_}
-use native.Mathlib.Nat.{not-suc-le-zero, suc-mul, div-add-mod'}
-use native.Mathlib.Numerals.{add-one}
-use native.Mathlib.Omega.{arith}
-use lib.Dec.{eqb, leb}
-use lib.ListN.{length, getD}
+use Rattle.flash.proofs.Kit.{_≡_, ap, _∙_, Bool, true, false, cond, List, [], _∷_, ℕ, zero, suc, _+_, _-_, _*_, _/_, _≤_, _<_, not-suc-le-zero}
+use Rattle.flash.proofs.Kit.{suc-mul, div-add-mod', add-one, arith, eqb, leb, length, getD}
 use Rattle.flash.specs.declared.sizes.Sizes.{Sizes}
 use Rattle.flash.specs.Geometry.{slotOf, numberAt, slotCount}
 use Rattle.flash.proofs.Bounds.{slot-in-marks}

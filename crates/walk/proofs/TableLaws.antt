@@ -1,15 +1,7 @@
 -- Rows and tables that are filled entry by entry tell the pages and the sources of each set.
-use mathlib.Core.Path.{_≡_, refl, sym, ap, _∙_}
-use mathlib.Core.Logic.{⊎-elim}
-use mathlib.Core.Bool.{Bool, true, false}
-use mathlib.Core.List.{List}
-use Prim.Native.Nat.{ℕ, zero, suc, _+_, _-_, _*_, _/_, _%_, _≤_, _<_}
-use native.Mathlib.Nat.{not-suc-le-zero, suc-mul, div-add-mod', div-lt-iff-lt-mul, mod-lt}
-use native.Mathlib.Numerals.{add-one}
-use native.Mathlib.Omega.{arith}
-use lib.Dec.{eqb}
-use lib.ListN.{length, getD, set, drop, length-set, length-drop}
-use lib.Seq.{getD-set-same, getD-set-other, getD-take, getD-drop, length-take-le}
+use Rattle.flash.proofs.Kit.{_≡_, refl, sym, ap, _∙_, ⊎-elim, Bool, true, false, List, ℕ, zero, suc, _+_, _-_, _*_, _/_, _%_, _≤_, _<_}
+use Rattle.flash.proofs.Kit.{not-suc-le-zero, suc-mul, div-add-mod', div-lt-iff-lt-mul, mod-lt, add-one, arith, eqb, length, getD, set, drop}
+use Rattle.flash.proofs.Kit.{length-set, length-drop, getD-set-same, getD-set-other, getD-take, getD-drop, length-take-le}
 use Rattle.flash.specs.Lists.{range, first, part}
 use Rattle.flash.specs.declared.sizes.Sizes.{Sizes}
 use Rattle.flash.specs.Geometry.{numberAt}

@@ -1,5 +1,5 @@
 -- The claims about marks and sizes hold.
-use borrow.Author.Tests.{lt-ltb, le-ltb}
+use Rattle.flash.proofs.Kit.{lt-ltb, le-ltb}
 use Rattle.flash.specs.Geometry.{isLetter}
 use Rattle.flash.specs.Chip.{markAt, isWhole}
 use Rattle.flash.specs.Claims.{WholeByLetter, RangeIsBounds}

@@ -1,13 +1,6 @@
 -- What a call that is not refused was given; and what is enough for a call not to be refused.
-use mathlib.Core.Path.{_≡_, ap}
-use mathlib.Core.Logic.{_⊎_, inl, inr}
-use mathlib.Core.Bool.{Bool, true, false, _&&_, _||_, not}
-use mathlib.Core.List.{List, []}
-use Prim.Native.Nat.{ℕ, _≤_, _<_}
-use native.Mathlib.Omega.{arith}
-use lib.Dec.{eqb, ltb}
-use lib.ListN.{length}
-use borrow.Author.Tests.{eqb-true, eq-eqb, ltb-false, le-ltb, not-true, not-false}
+use Rattle.flash.proofs.Kit.{_≡_, ap, _⊎_, inl, inr, Bool, true, false, _&&_, _||_, not, List, [], ℕ, _≤_, _<_, arith, eqb, ltb, length, eqb-true}
+use Rattle.flash.proofs.Kit.{eq-eqb, ltb-false, le-ltb, not-true, not-false}
 use Rattle.flash.specs.Lists.{range, any, isSame}
 use Rattle.flash.specs.Tables.{Row, refusal}
 use Rattle.flash.specs.declared.sizes.Sizes.{Sizes}

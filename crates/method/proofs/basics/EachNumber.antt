@@ -1,11 +1,5 @@
 -- What holds of each number of a list.
-use mathlib.Core.Path.{refl, sym, ap}
-use mathlib.Core.Logic.{_≢_}
-use mathlib.Core.List.{List, [], _∷_}
-use Prim.Native.Nat.{ℕ, zero, suc, _<_}
-use native.Mathlib.Nat.{not-suc-le-zero}
-use native.Mathlib.Omega.{arith}
-use lib.ListN.{length, getD}
+use Rattle.flash.proofs.Kit.{refl, sym, ap, _≢_, List, [], _∷_, ℕ, zero, suc, _<_, not-suc-le-zero, arith, length, getD}
 use Rattle.split.proofs.OneToOneLaws.{Distinct}
 
 abbrev pub Each : (Q : ℕ → Type 0) → List ℕ → Type 0

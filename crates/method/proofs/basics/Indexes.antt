@@ -1,15 +1,8 @@
 -- Numbers as indexes: two in order, one taken apart into block and page or into turn and step, and elements of lists by index.
-use mathlib.Core.Path.{_≡_, sym, ap, _∙_, subst}
-use mathlib.Core.Logic.{_≢_, ⊎-elim}
-use mathlib.Core.Bool.{true, false}
-use mathlib.Core.List.{List, [], _∷_, map}
-use Prim.Native.Nat.{ℕ, zero, suc, _+_, _-_, _*_, _/_, _%_, _<_}
-use native.Mathlib.Nat.{not-suc-le-zero, le-of-suc-le-suc, mul-add-div-right, div-eq-of-lt, mul-add-mod-self-right, mod-eq-of-lt, add-zero, mul-le-mul-right, suc-mul, div-add-mod', mod-lt, div-lt-iff-lt-mul}
-use native.Mathlib.Omega.{arith}
-use lib.Dec.{eqb, ltb}
-use lib.ListN.{length, getD, List·getD-append}
-use lib.Seq.{getD-append-add}
-use borrow.Author.Tests.{eqb-true, eqb-false, ltb-true, ltb-false}
+use Rattle.flash.proofs.Kit.{_≡_, sym, ap, _∙_, subst, _≢_, ⊎-elim, true, false, List, [], _∷_, map, ℕ, zero, suc, _+_, _-_, _*_, _/_, _%_, _<_}
+use Rattle.flash.proofs.Kit.{not-suc-le-zero, le-of-suc-le-suc, mul-add-div-right, div-eq-of-lt, mul-add-mod-self-right, mod-eq-of-lt, add-zero}
+use Rattle.flash.proofs.Kit.{mul-le-mul-right, suc-mul, div-add-mod', mod-lt, div-lt-iff-lt-mul, arith, eqb, ltb, length, getD, List·getD-append}
+use Rattle.flash.proofs.Kit.{getD-append-add, eqb-true, eqb-false, ltb-true, ltb-false}
 use Rattle.flash.specs.Lists.{range, downFrom, concatMap}
 use Rattle.flash.proofs.Bools.{bool-cases}
 

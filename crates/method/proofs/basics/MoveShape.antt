@@ -1,9 +1,5 @@
 -- What the proofs about a move start from: marks of some shape, and what whole pages hold.
-use mathlib.Core.Path.{_≡_}
-use mathlib.Core.Logic.{_⊎_}
-use mathlib.Core.List.{List}
-use Prim.Native.Nat.{ℕ, _-_, _≤_, _<_}
-use lib.ListN.{getD}
+use Rattle.flash.proofs.Kit.{_≡_, _⊎_, List, ℕ, _-_, _≤_, _<_, getD}
 use Rattle.flash.specs.Lists.{part}
 use Rattle.flash.specs.declared.sizes.Sizes.{Sizes}
 use Rattle.flash.specs.Geometry.{slot, slotOf, originalCount, letter}

@@ -1,10 +1,6 @@
 -- A one-to-one map of the data blocks, followed from a block on: it comes back within n steps.
-use mathlib.Core.Path.{_≡_, refl, sym, ap, _∙_}
-use mathlib.Core.Logic.{⊎-elim}
-use Prim.Native.Nat.{ℕ, zero, suc, _+_, _-_, _≤_, _<_}
-use native.Mathlib.Nat.{not-suc-le-zero, zero-add, suc-add}
-use native.Mathlib.Omega.{arith}
-use lib.ListN.{length, getD}
+use Rattle.flash.proofs.Kit.{_≡_, refl, sym, ap, _∙_, ⊎-elim, ℕ, zero, suc, _+_, _-_, _≤_, _<_, not-suc-le-zero, zero-add, suc-add, arith, length}
+use Rattle.flash.proofs.Kit.{getD}
 use Rattle.flash.specs.Lists.{iterates}
 use Rattle.flash.proofs.Comparisons.{lt-cases}
 use Rattle.split.proofs.Pigeon.{pigeon}

@@ -1,11 +1,6 @@
 -- The pages of a set in an accepted move: D, dest and pred are what their names say, and so is sentTo.
-use mathlib.Core.Path.{_≡_, sym, ap, _∙_}
-use Prim.Native.Nat.{ℕ, _+_, _-_, _*_, _/_, _%_, _<_}
-use native.Mathlib.Nat.{div-add-mod', div-lt-iff-lt-mul, mod-lt}
-use native.Mathlib.Omega.{arith}
-use lib.Dec.{eqb}
-use lib.ListN.{getD}
-use borrow.Author.Tests.{eqb-true, eq-eqb}
+use Rattle.flash.proofs.Kit.{_≡_, sym, ap, _∙_, ℕ, _+_, _-_, _*_, _/_, _%_, _<_, div-add-mod', div-lt-iff-lt-mul, mod-lt, arith, eqb, getD, eqb-true}
+use Rattle.flash.proofs.Kit.{eq-eqb}
 use Rattle.flash.specs.declared.sizes.Sizes.{Sizes}
 use Rattle.flash.specs.Geometry.{blockOf, originalCount}
 use Rattle.flash.proofs.Ranges.{First, first-hit}

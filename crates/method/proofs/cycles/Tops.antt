@@ -1,13 +1,6 @@
 -- The top of a cycle in an accepted move: it is the highest block that is reached from any block of the cycle.
-use mathlib.Core.Path.{_≡_, refl, sym, ap, _∙_}
-use mathlib.Core.Logic.{_⊎_, inl, inr, ⊎-elim}
-use mathlib.Core.Bool.{true}
-use mathlib.Core.List.{List, [], _∷_}
-use Prim.Native.Nat.{ℕ, zero, suc, _+_, _≤_, _<_, max}
-use native.Mathlib.Nat.{not-suc-le-zero, le-antisymm}
-use native.Mathlib.Omega.{arith}
-use lib.ListN.{length, getD}
-use borrow.Author.Tests.{eqb-true, eq-eqb}
+use Rattle.flash.proofs.Kit.{_≡_, refl, sym, ap, _∙_, _⊎_, inl, inr, ⊎-elim, true, List, [], _∷_, ℕ, zero, suc, _+_, _≤_, _<_, max, not-suc-le-zero}
+use Rattle.flash.proofs.Kit.{le-antisymm, arith, length, getD, eqb-true, eq-eqb}
 use Rattle.flash.specs.Lists.{iterates}
 use Rattle.flash.specs.declared.sizes.Sizes.{Sizes}
 use Rattle.flash.proofs.Comparisons.{lt-cases}

@@ -1,15 +1,6 @@
 -- Demand 3: every list of events keeps what is kept, so the claim holds at each of its moments.
-use mathlib.Core.Path.{_≡_, refl, sym, ap, subst}
-use mathlib.Core.Logic.{⊎-elim, _≢_}
-use mathlib.Core.Bool.{Bool, true, false, cond, true≢false}
-use mathlib.Core.List.{List, [], _∷_, _++_, map}
-use mathlib.Core.Option.{Option, none as nothing, some}
-use Prim.Native.Nat.{ℕ, zero, suc, _+_, _*_, _≤_, _<_}
-use native.Mathlib.Nat.{zero-mod}
-use native.Mathlib.Omega.{arith}
-use lib.Dec.{eqb}
-use lib.ListN.{length}
-use borrow.Author.Tests.{eqb-true, eqb-false, ne-eqb}
+use Rattle.flash.proofs.Kit.{_≡_, refl, sym, ap, subst, ⊎-elim, _≢_, Bool, true, false, cond, true≢false, List, [], _∷_, _++_, map, Option}
+use Rattle.flash.proofs.Kit.{none as nothing, some, ℕ, zero, suc, _+_, _*_, _≤_, _<_, zero-mod, arith, eqb, length, eqb-true, eqb-false, ne-eqb}
 use Rattle.flash.specs.Lists.{range, count}
 use Rattle.flash.specs.Tables.{refusal}
 use Rattle.flash.specs.declared.sizes.Sizes.{Sizes}

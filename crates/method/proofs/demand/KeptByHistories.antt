@@ -1,12 +1,6 @@
 -- What a list of calls and cuts keeps, and that demand 3 holds of a moment that has it.
-use mathlib.Core.Path.{_≡_, refl, sym, ap, _∙_, subst}
-use mathlib.Core.Bool.{Bool, true}
-use mathlib.Core.List.{List, []}
-use Prim.Native.Nat.{ℕ, suc, _+_, _-_, _*_, _≤_, _<_, min}
-use native.Mathlib.Nat.{mod-lt}
-use native.Mathlib.Omega.{arith}
-use lib.ListN.{length, getD, take, drop, take-append-drop}
-use borrow.Author.Tests.{eq-eqb, lt-leb}
+use Rattle.flash.proofs.Kit.{_≡_, refl, sym, ap, _∙_, subst, Bool, true, List, [], ℕ, suc, _+_, _-_, _*_, _≤_, _<_, min, mod-lt, arith, length, getD}
+use Rattle.flash.proofs.Kit.{take, drop, take-append-drop, eq-eqb, lt-leb}
 use Rattle.flash.specs.Lists.{count, part}
 use Rattle.flash.specs.Tables.{refusal}
 use Rattle.flash.specs.declared.sizes.Sizes.{Sizes}

@@ -1,12 +1,6 @@
 -- A mend with the shared sizes keeps what is kept: before and after its erase, once it has returned, and where it is cut.
-use mathlib.Core.Path.{_≡_, refl, sym, ap, _∙_, subst}
-use mathlib.Core.Bool.{Bool, true, false, cond, _||_}
-use mathlib.Core.List.{List, [], _∷_, _++_, append-nil}
-use mathlib.Core.Option.{none, some}
-use Prim.Native.Nat.{ℕ, zero, suc, _+_, _≤_}
-use native.Mathlib.Omega.{arith}
-use lib.Dec.{eqb}
-use lib.ListN.{length, getD, take}
+use Rattle.flash.proofs.Kit.{_≡_, refl, sym, ap, _∙_, subst, Bool, true, false, cond, _||_, List, [], _∷_, _++_, append-nil, none, some, ℕ, zero, suc}
+use Rattle.flash.proofs.Kit.{_+_, _≤_, arith, eqb, length, getD, take}
 use Rattle.flash.specs.Lists.{count}
 use Rattle.flash.specs.declared.sizes.Sizes.{Sizes}
 use Rattle.flash.specs.Chip.{Chip}

@@ -1,15 +1,7 @@
 -- A run that is not refused keeps what is kept: after each of its steps, once it has returned, and where it is cut.
-use mathlib.Core.Path.{_≡_, refl, sym, ap, _∙_, subst}
-use mathlib.Core.Logic.{_⊎_, inl, inr, ⊎-elim}
-use mathlib.Core.Bool.{Bool, true, false, cond, _||_, true≢false}
-use mathlib.Core.List.{List, [], _∷_, _++_}
-use Prim.Native.Nat.{ℕ, suc, _+_, _-_, _*_, _≤_, _<_, min}
-use native.Mathlib.Nat.{div-add-mod'}
-use native.Mathlib.Omega.{arith}
-use lib.Dec.{eqb}
-use lib.ListN.{length, getD, take, drop, length-take, length-drop}
-use lib.Seq.{take-add, take-take, getD-take, getD-drop}
-use borrow.Author.Tests.{eqb-true}
+use Rattle.flash.proofs.Kit.{_≡_, refl, sym, ap, _∙_, subst, _⊎_, inl, inr, ⊎-elim, Bool, true, false, cond, _||_, true≢false, List, [], _∷_, _++_, ℕ}
+use Rattle.flash.proofs.Kit.{suc, _+_, _-_, _*_, _≤_, _<_, min, div-add-mod', arith, eqb, length, getD, take, drop, length-take, length-drop}
+use Rattle.flash.proofs.Kit.{take-add, take-take, getD-take, getD-drop, eqb-true}
 use Rattle.flash.specs.Lists.{count}
 use Rattle.flash.specs.Tables.{refusal}
 use Rattle.flash.specs.declared.sizes.Sizes.{Sizes}

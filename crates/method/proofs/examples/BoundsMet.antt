@@ -1,5 +1,5 @@
 -- The bounds are met, by computing.
-use mathlib.Core.Path.{refl}
+use Rattle.flash.proofs.Kit.{refl}
 use Rattle.method.specs.Step.{erasesBlock}
 use Rattle.method.specs.BoundsMet.{BoundsMet}
 use Rattle.method.proofs.examples.Example.{events-open}

@@ -1,6 +1,5 @@
 -- The worked cases hold: each by computing the definitions.
-use mathlib.Core.Path.{refl}
-use Prim.Native.Nat.{ℕ}
+use Rattle.flash.proofs.Kit.{refl, ℕ}
 use Rattle.method.specs.Place.{erase}
 use Rattle.method.specs.Cut.{CutInside, touches, isTornMark}
 use Rattle.method.specs.Cases.{nil, _then_, listing, lineOf, figure, writtenAt, chipsFrom, sumOfBits, three, threeBeforeErase, threeTorn, cases, CasesHold}

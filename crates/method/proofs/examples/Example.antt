@@ -1,10 +1,5 @@
 -- The example is allowed, and demand 3 is applied to it.
-use mathlib.Core.Path.{_≡_, refl}
-use mathlib.Core.Logic.{inl}
-use mathlib.Core.List.{[], _∷_}
-use Prim.Native.Nat.{ℕ}
-use lib.Dec.{lit<}
-use lib.ListN.{length}
+use Rattle.flash.proofs.Kit.{_≡_, refl, inl, [], _∷_, ℕ, lit<, length}
 use Rattle.flash.specs.Chip.{Chip}
 use Rattle.method.specs.Place.{forward, write, erase}
 use Rattle.method.specs.Cut.{CutInside, touches, isTornMark}

@@ -1,10 +1,5 @@
 -- What a cut leaves on a chip of a few slots, slot by slot: how the examples show that a cut obeys the rule.
-use mathlib.Core.Path.{_≡_, sym, _∙_, subst}
-use mathlib.Core.Bool.{true, false, true≢false}
-use mathlib.Core.Logic.{inl, inr}
-use Prim.Native.Nat.{ℕ, zero, suc, _+_, _≤_, _<_}
-use native.Mathlib.Omega.{arith}
-use lib.ListN.{length}
+use Rattle.flash.proofs.Kit.{_≡_, sym, _∙_, subst, true, false, true≢false, inl, inr, ℕ, zero, suc, _+_, _≤_, _<_, arith, length}
 use Rattle.flash.specs.declared.sizes.Sizes.{Sizes}
 use Rattle.flash.specs.Geometry.{slotCount, storeLength, marksLength}
 use Rattle.flash.specs.Chip.{Chip, pageAt, markAt}

@@ -1,9 +1,5 @@
 -- The list of events with two pages a block is allowed, and leaves what it says.
-use mathlib.Core.Path.{_≡_, refl}
-use mathlib.Core.List.{[], _∷_}
-use Prim.Native.Nat.{ℕ, _≤_}
-use lib.Dec.{lit<}
-use native.Mathlib.Omega.{arith}
+use Rattle.flash.proofs.Kit.{_≡_, refl, [], _∷_, ℕ, _≤_, lit<, arith}
 use Rattle.method.specs.Place.{forward, write, erase}
 use Rattle.method.specs.Cut.{CutInside}
 use Rattle.method.specs.Runs.{Start}

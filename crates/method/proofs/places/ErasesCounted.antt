@@ -1,14 +1,6 @@
 -- How often each block is erased, and how many writes and erases there are in all.
-use mathlib.Core.Path.{_≡_, refl, sym, ap, ap₂, _∙_}
-use mathlib.Core.Logic.{⊎-elim}
-use mathlib.Core.Bool.{Bool, true, false, cond}
-use mathlib.Core.List.{List, [], _∷_, _++_, map}
-use Prim.Native.Nat.{ℕ, zero, suc, _+_, _-_, _*_, _/_, _≤_, _<_}
-use native.Mathlib.Nat.{zero-div, mul-div-cancel}
-use native.Mathlib.Omega.{arith}
-use lib.Dec.{eqb, ltb}
-use lib.Seq.{take-all}
-use borrow.Author.Tests.{eqb-true, eq-eqb, ne-eqb, lt-ltb, le-ltb}
+use Rattle.flash.proofs.Kit.{_≡_, refl, sym, ap, ap₂, _∙_, ⊎-elim, Bool, true, false, cond, List, [], _∷_, _++_, map, ℕ, zero, suc, _+_, _-_, _*_}
+use Rattle.flash.proofs.Kit.{_/_, _≤_, _<_, zero-div, mul-div-cancel, arith, eqb, ltb, take-all, eqb-true, eq-eqb, ne-eqb, lt-ltb, le-ltb}
 use Rattle.flash.specs.Lists.{range, downFrom, concatMap, count}
 use Rattle.flash.specs.declared.sizes.Sizes.{Sizes}
 use Rattle.flash.proofs.Bools.{bool-cases}

@@ -1,15 +1,6 @@
 -- What each page holds at a place, what the step there changes of it, and the marks that say so.
-use mathlib.Core.Path.{_≡_, refl, sym, ap, ap₂, _∙_, subst}
-use mathlib.Core.Logic.{_≢_, ⊎-elim}
-use mathlib.Core.Bool.{true, false}
-use mathlib.Core.List.{List}
-use Prim.Native.Nat.{ℕ, suc, _+_, _/_, _%_, _≤_, _<_}
-use native.Mathlib.Nat.{div-add-mod', mod-lt, div-lt-iff-lt-mul}
-use native.Mathlib.Omega.{arith}
-use lib.Dec.{ltb}
-use lib.ListN.{length, getD, length-map}
-use lib.Seq.{ext-getD}
-use borrow.Author.Tests.{ltb-true, ltb-false, lt-ltb, le-ltb}
+use Rattle.flash.proofs.Kit.{_≡_, refl, sym, ap, ap₂, _∙_, subst, _≢_, ⊎-elim, true, false, List, ℕ, suc, _+_, _/_, _%_, _≤_, _<_, div-add-mod'}
+use Rattle.flash.proofs.Kit.{mod-lt, div-lt-iff-lt-mul, arith, ltb, length, getD, length-map, ext-getD, ltb-true, ltb-false, lt-ltb, le-ltb}
 use Rattle.flash.specs.Lists.{range}
 use Rattle.flash.specs.declared.sizes.Sizes.{Sizes}
 use Rattle.flash.specs.Geometry.{slot, slotCount, marksLength, letter}

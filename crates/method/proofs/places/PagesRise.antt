@@ -1,9 +1,5 @@
 -- A block's pages are filled upwards, and none that is not blank.
-use mathlib.Core.Path.{_≡_, sym, ap, ap₂, _∙_}
-use mathlib.Core.Logic.{_≢_, _⊎_, inl, inr}
-use Prim.Native.Nat.{ℕ, suc, _+_, _-_, _*_, _≤_, _<_}
-use native.Mathlib.Nat.{suc-mul, mul-le-mul-right}
-use native.Mathlib.Omega.{arith}
+use Rattle.flash.proofs.Kit.{_≡_, sym, ap, ap₂, _∙_, _≢_, _⊎_, inl, inr, ℕ, suc, _+_, _-_, _*_, _≤_, _<_, suc-mul, mul-le-mul-right, arith}
 use Rattle.flash.specs.declared.sizes.Sizes.{Sizes}
 use Rattle.method.specs.Place.{Pass, forward, backward, write, erase, lastPlace, operationAt, filled}
 use Rattle.method.specs.Claims.{PagesRise}

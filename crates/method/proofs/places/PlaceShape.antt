@@ -1,9 +1,5 @@
 -- The shape of the marks that a place has.
-use mathlib.Core.Path.{_≡_, refl, ap, _∙_}
-use mathlib.Core.Logic.{_⊎_, inl, inr}
-use mathlib.Core.List.{List}
-use Prim.Native.Nat.{ℕ, suc, _≤_, _<_}
-use native.Mathlib.Omega.{arith}
+use Rattle.flash.proofs.Kit.{_≡_, refl, ap, _∙_, _⊎_, inl, inr, List, ℕ, suc, _≤_, _<_, arith}
 use Rattle.flash.specs.declared.sizes.Sizes.{Sizes}
 use Rattle.flash.specs.Geometry.{slot, letter}
 use Rattle.flash.specs.Chip.{erased, markAt}

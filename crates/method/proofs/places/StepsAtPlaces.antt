@@ -1,15 +1,7 @@
 -- Places: the pass, the block that is being filled and its pages; the step at each place, and the place that it leads to.
-use mathlib.Core.Path.{_≡_, refl, sym, ap, ap₂, _∙_, subst}
-use mathlib.Core.Logic.{_⊎_, inl, inr, ⊎-elim}
-use mathlib.Core.Bool.{true, false}
-use mathlib.Core.List.{List, [], _∷_, _++_}
-use Prim.Native.Nat.{ℕ, suc, _+_, _-_, _*_, _/_, _%_, _≤_, _<_}
-use native.Mathlib.Nat.{suc-mul, div-add-mod', mod-lt, div-lt-iff-lt-mul, add-mul}
-use native.Mathlib.Omega.{arith}
-use lib.Dec.{ltb}
-use lib.ListN.{length, getD, List·getD-append, List·getD-eq-default}
-use lib.Seq.{getD-append-add, getD-at}
-use borrow.Author.Tests.{ltb-true, ltb-false, lt-ltb, le-ltb}
+use Rattle.flash.proofs.Kit.{_≡_, refl, sym, ap, ap₂, _∙_, subst, _⊎_, inl, inr, ⊎-elim, true, false, List, [], _∷_, _++_, ℕ, suc, _+_, _-_, _*_, _/_}
+use Rattle.flash.proofs.Kit.{_%_, _≤_, _<_, suc-mul, div-add-mod', mod-lt, div-lt-iff-lt-mul, add-mul, arith, ltb, length, getD, List·getD-append}
+use Rattle.flash.proofs.Kit.{List·getD-eq-default, getD-append-add, getD-at, ltb-true, ltb-false, lt-ltb, le-ltb}
 use Rattle.flash.specs.Lists.{range, downFrom, concatMap}
 use Rattle.flash.specs.declared.sizes.Sizes.{Sizes}
 use Rattle.flash.proofs.Bools.{bool-cases}

@@ -1,10 +1,6 @@
 -- There are 2 × n × (m + 1) steps.
-use mathlib.Core.Path.{_≡_, refl, ap, ap₂, _∙_}
-use mathlib.Core.List.{List, [], _∷_, _++_}
-use Prim.Native.Nat.{ℕ, zero, suc, _+_, _-_, _*_}
-use native.Mathlib.Nat.{suc-mul}
-use native.Mathlib.Omega.{arith}
-use lib.ListN.{length, length-append, length-map}
+use Rattle.flash.proofs.Kit.{_≡_, refl, ap, ap₂, _∙_, List, [], _∷_, _++_, ℕ, zero, suc, _+_, _-_, _*_, suc-mul, arith, length, length-append}
+use Rattle.flash.proofs.Kit.{length-map}
 use Rattle.flash.specs.Lists.{range, downFrom, concatMap}
 use Rattle.flash.specs.declared.sizes.Sizes.{Sizes}
 use Rattle.flash.proofs.Ranges.{length-range}

@@ -1,12 +1,6 @@
 -- What is counted of the steps: over a list in two parts, over the steps from one place to another.
-use mathlib.Core.Path.{_≡_, refl, ap, _∙_}
-use mathlib.Core.Logic.{⊎-elim}
-use mathlib.Core.List.{List, [], _∷_, _++_}
-use Prim.Native.Nat.{ℕ, zero, suc, _+_, _*_, _/_, _%_, _≤_, _<_}
-use native.Mathlib.Nat.{suc-mul, div-add-mod', add-zero}
-use native.Mathlib.Omega.{arith}
-use lib.ListN.{take, drop}
-use lib.Seq.{drop-cons, take-add, drop-drop}
+use Rattle.flash.proofs.Kit.{_≡_, refl, ap, _∙_, ⊎-elim, List, [], _∷_, _++_, ℕ, zero, suc, _+_, _*_, _/_, _%_, _≤_, _<_, suc-mul, div-add-mod'}
+use Rattle.flash.proofs.Kit.{add-zero, arith, take, drop, drop-cons, take-add, drop-drop}
 use Rattle.flash.specs.declared.sizes.Sizes.{Sizes}
 use Rattle.method.specs.declared.tally.Tally.{Tally}
 use Rattle.method.specs.Place.{Operation, write, erase, done, operations, lastPlace, operationAt, filled}

@@ -1,12 +1,6 @@
 -- Turns: a turn is the m writes of a block and an erase, so its number tells how many erases lie behind a place.
-use mathlib.Core.Path.{_≡_, sym, ap, _∙_, subst}
-use mathlib.Core.Logic.{⊎-elim}
-use mathlib.Core.Bool.{cond}
-use Prim.Native.Nat.{ℕ, suc, _+_, _*_, _/_, _≤_, _<_}
-use native.Mathlib.Nat.{suc-mul, add-zero, div-add-mod', div-lt-iff-lt-mul, mul-div-cancel}
-use native.Mathlib.Omega.{arith}
-use lib.Dec.{ltb}
-use borrow.Author.Tests.{lt-ltb, le-ltb}
+use Rattle.flash.proofs.Kit.{_≡_, sym, ap, _∙_, subst, ⊎-elim, cond, ℕ, suc, _+_, _*_, _/_, _≤_, _<_, suc-mul, add-zero, div-add-mod'}
+use Rattle.flash.proofs.Kit.{div-lt-iff-lt-mul, mul-div-cancel, arith, ltb, lt-ltb, le-ltb}
 use Rattle.flash.specs.declared.sizes.Sizes.{Sizes}
 use Rattle.method.specs.Place.{lastPlace, passAt, filling, filled}
 use Rattle.method.proofs.basics.Indexes.{slot-div}

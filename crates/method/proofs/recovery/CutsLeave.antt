@@ -1,13 +1,6 @@
 -- What a cut inside a step leaves: a moment of the same turn or, where an erase has taken a mark, of the next.
-use mathlib.Core.Path.{_≡_, sym, ap, _∙_, subst}
-use mathlib.Core.Logic.{_⊎_, inl, inr, _≢_, ⊎-elim}
-use mathlib.Core.Bool.{Bool, true, false}
-use mathlib.Core.List.{List}
-use Prim.Native.Nat.{ℕ, suc, _≤_, _<_}
-use native.Mathlib.Omega.{arith}
-use lib.Dec.{eqb}
-use lib.ListN.{length}
-use borrow.Author.Tests.{eqb-true, eqb-false, eq-eqb, ne-eqb}
+use Rattle.flash.proofs.Kit.{_≡_, sym, ap, _∙_, subst, _⊎_, inl, inr, _≢_, ⊎-elim, Bool, true, false, List, ℕ, suc, _≤_, _<_, arith, eqb, length}
+use Rattle.flash.proofs.Kit.{eqb-true, eqb-false, eq-eqb, ne-eqb}
 use Rattle.flash.specs.Lists.{all}
 use Rattle.flash.specs.declared.sizes.Sizes.{Sizes}
 use Rattle.flash.specs.Geometry.{isLetter, slot, marksLength}

@@ -1,11 +1,5 @@
 -- The block that mend erases is the one that is written next.
-use mathlib.Core.Path.{_≡_, sym, ap, subst, _∙_}
-use mathlib.Core.Logic.{inl, inr, ⊎-elim}
-use mathlib.Core.Bool.{true, false}
-use mathlib.Core.List.{List}
-use mathlib.Core.Option.{none, some}
-use Prim.Native.Nat.{ℕ, _+_, _-_, _*_, _≤_, _<_}
-use native.Mathlib.Omega.{arith}
+use Rattle.flash.proofs.Kit.{_≡_, sym, ap, subst, _∙_, inl, inr, ⊎-elim, true, false, List, none, some, ℕ, _+_, _-_, _*_, _≤_, _<_, arith}
 use Rattle.flash.specs.Tables.{Row}
 use Rattle.flash.specs.declared.sizes.Sizes.{Sizes}
 use Rattle.flash.proofs.Bools.{bool-cases}

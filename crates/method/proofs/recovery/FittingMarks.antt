@@ -1,11 +1,6 @@
 -- Marks that mend reads have a shape.
-use mathlib.Core.Path.{_≡_, refl}
-use mathlib.Core.Logic.{inl, inr, ⊎-elim}
-use mathlib.Core.Bool.{true, false}
-use mathlib.Core.Option.{none, some}
-use mathlib.Core.List.{List, [], _∷_, List·Memᴰ, List·Memᴰ·head, List·Memᴰ·tail}
-use Prim.Native.Nat.{ℕ, suc, _<_}
-use native.Mathlib.Omega.{arith}
+use Rattle.flash.proofs.Kit.{_≡_, refl, inl, inr, ⊎-elim, true, false, none, some, List, [], _∷_, List·Memᴰ, List·Memᴰ·head, List·Memᴰ·tail, ℕ, suc}
+use Rattle.flash.proofs.Kit.{_<_, arith}
 use Rattle.flash.specs.Geometry.{letter}
 use Rattle.flash.specs.Tables.{Row, firstFit}
 use Rattle.flash.specs.declared.sizes.Sizes.{Sizes}

@@ -1,13 +1,7 @@
 -- Two of mend's four lines that fit give the same answer.
-use mathlib.Core.Path.{_≡_, sym, ap, ap₂, _∙_, subst}
-use mathlib.Core.Logic.{_⊎_, inl, inr, ⊎-elim, _≢_}
-use mathlib.Core.Bool.{Bool, true, false, _&&_}
-use mathlib.Core.Option.{some}
-use mathlib.Core.List.{List, map, List·Memᴰ, List·Memᴰ·not-nil, List·Memᴰ·cases-cons, List·Memᴰ·append-cases}
-use Prim.Native.Nat.{ℕ, zero, suc, _+_, _-_, _*_, _≤_, _<_}
-use native.Mathlib.Omega.{arith}
-use lib.Dec.{ltb}
-use borrow.Author.Tests.{ltb-true, ltb-false}
+use Rattle.flash.proofs.Kit.{_≡_, sym, ap, ap₂, _∙_, subst, _⊎_, inl, inr, ⊎-elim, _≢_, Bool, true, false, _&&_, some, List, map, List·Memᴰ}
+use Rattle.flash.proofs.Kit.{List·Memᴰ·not-nil, List·Memᴰ·cases-cons, List·Memᴰ·append-cases, ℕ, zero, suc, _+_, _-_, _*_, _≤_, _<_, arith, ltb}
+use Rattle.flash.proofs.Kit.{ltb-true, ltb-false}
 use Rattle.flash.specs.Geometry.{letter}
 use Rattle.flash.specs.Lists.{range}
 use Rattle.flash.specs.Tables.{Row}

@@ -1,12 +1,6 @@
 -- Recovery: what mend answers at a moment. It leaves store and marks as a place has them, so a run from there is not refused.
-use mathlib.Core.Path.{_≡_, refl, sym, ap, _∙_, subst}
-use mathlib.Core.Bool.{true, false, not}
-use mathlib.Core.Option.{some, none}
-use mathlib.Core.List.{List, []}
-use Prim.Native.Nat.{ℕ, suc, _+_, _*_, _≤_, _<_}
-use native.Mathlib.Omega.{arith}
-use lib.ListN.{length}
-use borrow.Author.Tests.{eq-eqb}
+use Rattle.flash.proofs.Kit.{_≡_, refl, sym, ap, _∙_, subst, true, false, not, some, none, List, [], ℕ, suc, _+_, _*_, _≤_, _<_, arith, length}
+use Rattle.flash.proofs.Kit.{eq-eqb}
 use Rattle.flash.specs.Tables.{refusal}
 use Rattle.flash.specs.declared.sizes.Sizes.{Sizes}
 use Rattle.flash.specs.Geometry.{Bounds, slot, storeLength, marksLength, letter}

@@ -1,13 +1,7 @@
 -- What mend reads at a moment: the place by which it goes, so marks are moments of one place only.
-use mathlib.Core.Path.{_≡_, refl, sym, ap, _∙_, subst}
-use mathlib.Core.Logic.{_≢_, ⊎-elim}
-use mathlib.Core.Bool.{true, false, _&&_}
-use mathlib.Core.Option.{Option, none, some}
-use mathlib.Core.List.{List, [], _∷_, map, List·Memᴰ, List·Memᴰ·head, List·Memᴰ·tail, List·Memᴰ·not-nil, List·Memᴰ·cases-cons, Memᴰ·append-left, Memᴰ·append-right}
-use Prim.Native.Nat.{ℕ, zero, suc, _+_, _-_, _*_, _≤_, _<_}
-use native.Mathlib.Omega.{arith}
-use lib.Dec.{eqb}
-use borrow.Author.Tests.{eqb-true, eqb-false}
+use Rattle.flash.proofs.Kit.{_≡_, refl, sym, ap, _∙_, subst, _≢_, ⊎-elim, true, false, _&&_, Option, none, some, List, [], _∷_, map, List·Memᴰ}
+use Rattle.flash.proofs.Kit.{List·Memᴰ·head, List·Memᴰ·tail, List·Memᴰ·not-nil, List·Memᴰ·cases-cons, Memᴰ·append-left, Memᴰ·append-right, ℕ, zero}
+use Rattle.flash.proofs.Kit.{suc, _+_, _-_, _*_, _≤_, _<_, arith, eqb, eqb-true, eqb-false}
 use Rattle.flash.specs.Geometry.{Bounds, letter}
 use Rattle.flash.specs.Lists.{range, all}
 use Rattle.flash.specs.Tables.{Row, firstFit}

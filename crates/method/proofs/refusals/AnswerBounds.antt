@@ -1,14 +1,6 @@
 -- The numbers that the calls return are small, so that they fit 32 bits.
-use mathlib.Core.Path.{_≡_, refl}
-use mathlib.Core.Logic.{⊎-elim}
-use mathlib.Core.Bool.{Bool, true, false, _&&_}
-use mathlib.Core.Option.{Option, none, some}
-use mathlib.Core.List.{List, [], _∷_}
-use Prim.Native.Nat.{ℕ, _+_, _-_, _*_, _≤_}
-use native.Mathlib.Nat.{mul-le-mul}
-use native.Mathlib.Omega.{arith}
-use lib.Dec.{eqb, leb}
-use borrow.Author.Tests.{eqb-true, leb-true, not-false}
+use Rattle.flash.proofs.Kit.{_≡_, refl, ⊎-elim, Bool, true, false, _&&_, Option, none, some, List, [], _∷_, ℕ, _+_, _-_, _*_, _≤_, mul-le-mul, arith}
+use Rattle.flash.proofs.Kit.{eqb, leb, eqb-true, leb-true, not-false}
 use Rattle.flash.specs.Tables.{Row, refusal}
 use Rattle.flash.specs.declared.sizes.Sizes.{Sizes}
 use Rattle.flash.specs.Geometry.{Bounds, inRange}

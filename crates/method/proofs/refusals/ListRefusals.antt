@@ -1,12 +1,5 @@
 -- A list of another length: it is refused alike whatever its entries.
-use mathlib.Core.Path.{_≡_, refl}
-use mathlib.Core.Logic.{⊎-elim, _≢_}
-use mathlib.Core.Bool.{Bool, true, false, cond}
-use mathlib.Core.List.{List}
-use Prim.Native.Nat.{ℕ}
-use lib.Dec.{eqb}
-use lib.ListN.{length}
-use borrow.Author.Tests.{ne-eqb}
+use Rattle.flash.proofs.Kit.{_≡_, refl, ⊎-elim, _≢_, Bool, true, false, cond, List, ℕ, eqb, length, ne-eqb}
 use Rattle.flash.specs.Tables.{Row, refusal, firstFit, numberOr0}
 use Rattle.flash.specs.Geometry.{inRange, listLength}
 use Rattle.flash.specs.Chip.{Chip}

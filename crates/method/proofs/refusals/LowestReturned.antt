@@ -1,5 +1,5 @@
 -- The rows of each call rise in number, so the first that fits is the lowest that applies.
-use mathlib.Core.Path.{refl}
+use Rattle.flash.proofs.Kit.{refl}
 use Rattle.flash.proofs.Tables.{lowest-first}
 use Rattle.split.specs.Answer.{splitRows}
 use Rattle.method.specs.Answers.{moveRows, runRows, mendRows, readRows}

@@ -1,12 +1,6 @@
 -- A store at rest stands at place 0, and its pages are the originals.
-use mathlib.Core.Path.{_≡_, sym, ap, _∙_, subst}
-use mathlib.Core.Bool.{true}
-use mathlib.Core.List.{List}
-use Prim.Native.Nat.{ℕ, zero, suc, _+_, _-_, _*_, _%_, _≤_, _<_}
-use native.Mathlib.Nat.{add-zero, mod-eq-of-lt, div-add-mod', mod-lt, add-mul}
-use native.Mathlib.Omega.{arith}
-use lib.ListN.{length, getD, take, drop, length-drop}
-use lib.Seq.{drop-drop}
+use Rattle.flash.proofs.Kit.{_≡_, sym, ap, _∙_, subst, true, List, ℕ, zero, suc, _+_, _-_, _*_, _%_, _≤_, _<_, add-zero, mod-eq-of-lt, div-add-mod'}
+use Rattle.flash.proofs.Kit.{mod-lt, add-mul, arith, length, getD, take, drop, length-drop, drop-drop}
 use Rattle.flash.specs.Lists.{range, all, part}
 use Rattle.flash.specs.declared.sizes.Sizes.{Sizes}
 use Rattle.flash.specs.Geometry.{Bounds, slot, slotOf, blockOf, pageOf, originalCount, slotCount, storeLength, marksLength, letter}

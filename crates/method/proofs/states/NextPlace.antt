@@ -1,12 +1,6 @@
 -- A step leads from what a place has to what the next place has, whatever bytes are stored.
-use mathlib.Core.Path.{_≡_, sym, ap, ap₂, _∙_, subst}
-use mathlib.Core.Logic.{_≢_}
-use mathlib.Core.Bool.{true}
-use mathlib.Core.List.{List}
-use Prim.Native.Nat.{ℕ, suc, _+_, _*_, _/_, _%_, _≤_, _<_}
-use native.Mathlib.Nat.{div-lt-iff-lt-mul, mod-lt, div-add-mod'}
-use native.Mathlib.Omega.{arith}
-use lib.ListN.{length, replicate}
+use Rattle.flash.proofs.Kit.{_≡_, sym, ap, ap₂, _∙_, subst, _≢_, true, List, ℕ, suc, _+_, _*_, _/_, _%_, _≤_, _<_, div-lt-iff-lt-mul, mod-lt}
+use Rattle.flash.proofs.Kit.{div-add-mod', arith, length, replicate}
 use Rattle.flash.specs.declared.sizes.Sizes.{Sizes}
 use Rattle.flash.specs.Geometry.{Bounds, slot, slotCount, letter}
 use Rattle.flash.specs.Chip.{Chip, erased, pageAt, markAt, isBlank, eraseBlock, writePage}

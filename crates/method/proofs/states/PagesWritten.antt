@@ -1,12 +1,6 @@
 -- What a write stores: a page of P bytes, and the sum of its originals where whole pages hold what they should.
-use mathlib.Core.Path.{_≡_, refl, ap, _∙_}
-use mathlib.Core.Logic.{_⊎_, ⊎-elim}
-use mathlib.Core.Bool.{true, false}
-use mathlib.Core.List.{List, [], _∷_}
-use Prim.Native.Nat.{ℕ, zero, suc, _-_, _*_, _≤_, _<_}
-use native.Mathlib.Nat.{mul-le-mul-right, suc-mul}
-use native.Mathlib.Omega.{arith}
-use lib.ListN.{length, getD}
+use Rattle.flash.proofs.Kit.{_≡_, refl, ap, _∙_, _⊎_, ⊎-elim, true, false, List, [], _∷_, ℕ, zero, suc, _-_, _*_, _≤_, _<_, mul-le-mul-right, suc-mul}
+use Rattle.flash.proofs.Kit.{arith, length, getD}
 use Rattle.flash.specs.Lists.{part, concatMap}
 use Rattle.flash.specs.declared.sizes.Sizes.{Sizes}
 use Rattle.flash.specs.Geometry.{numberAt, originalCount, storeLength}

@@ -1,8 +1,5 @@
 -- Runs add up.
-use mathlib.Core.Path.{_≡_, sym, ap, ap₂, _∙_}
-use Prim.Native.Nat.{ℕ, zero, suc, _+_}
-use native.Mathlib.Nat.{zero-add, suc-add, add-zero, add-suc}
-use native.Mathlib.Omega.{arith}
+use Rattle.flash.proofs.Kit.{_≡_, sym, ap, ap₂, _∙_, ℕ, zero, suc, _+_, zero-add, suc-add, add-zero, add-suc, arith}
 use Rattle.flash.specs.declared.sizes.Sizes.{Sizes}
 use Rattle.method.specs.Move.{Move}
 use Rattle.method.specs.Step.{Running, step, steps}

@@ -1,10 +1,5 @@
 -- Each step of an accepted move leads from one place to the next, and keeps what whole pages hold.
-use mathlib.Core.Path.{_≡_, refl, sym, subst}
-use mathlib.Core.List.{List}
-use Prim.Native.Nat.{ℕ, zero, suc, _+_, _*_, _≤_, _<_}
-use native.Mathlib.Nat.{add-zero}
-use native.Mathlib.Omega.{arith}
-use lib.ListN.{length}
+use Rattle.flash.proofs.Kit.{_≡_, refl, sym, subst, List, ℕ, zero, suc, _+_, _*_, _≤_, _<_, add-zero, arith, length}
 use Rattle.flash.specs.Lists.{part}
 use Rattle.flash.specs.declared.sizes.Sizes.{Sizes}
 use Rattle.flash.specs.Geometry.{numberAt, originalCount}

@@ -1,11 +1,6 @@
 -- Read's rules 2 and 3: a walk over the coded pages of a cycle sums to the original that it was begun for.
-use mathlib.Core.Path.{_≡_, refl, sym, ap, _∙_}
-use mathlib.Core.Logic.{⊎-elim, _≢_}
-use mathlib.Core.Bool.{Bool, true, false}
-use mathlib.Core.List.{List, [], _∷_}
-use Prim.Native.Nat.{ℕ, zero, suc, _+_, _-_, _/_, _≤_, _<_}
-use native.Mathlib.Nat.{not-suc-le-zero, zero-add, suc-add}
-use native.Mathlib.Omega.{arith}
+use Rattle.flash.proofs.Kit.{_≡_, refl, sym, ap, _∙_, ⊎-elim, _≢_, Bool, true, false, List, [], _∷_, ℕ, zero, suc, _+_, _-_, _/_, _≤_, _<_}
+use Rattle.flash.proofs.Kit.{not-suc-le-zero, zero-add, suc-add, arith}
 use Rattle.flash.specs.Geometry.{letter}
 use Rattle.flash.specs.declared.sizes.Sizes.{Sizes}
 use Rattle.flash.proofs.Bools.{bool-cases, or-false-left, fails}

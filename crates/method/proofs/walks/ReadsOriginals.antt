@@ -1,11 +1,5 @@
 -- Read's rules on marks that fit: every original is the sum of at most n pages of full blocks.
-use mathlib.Core.Path.{_≡_, refl}
-use mathlib.Core.Logic.{_⊎_, ⊎-elim, _≢_}
-use mathlib.Core.Bool.{true, false, _||_, or-true}
-use mathlib.Core.List.{List, [], _∷_}
-use Prim.Native.Nat.{ℕ, _+_, _-_, _*_, _≤_, _<_}
-use native.Mathlib.Omega.{arith}
-use lib.ListN.{length}
+use Rattle.flash.proofs.Kit.{_≡_, refl, _⊎_, ⊎-elim, _≢_, true, false, _||_, or-true, List, [], _∷_, ℕ, _+_, _-_, _*_, _≤_, _<_, arith, length}
 use Rattle.flash.specs.Lists.{range, any, part}
 use Rattle.flash.specs.declared.sizes.Sizes.{Sizes}
 use Rattle.flash.specs.Geometry.{blockOf, originalCount, letter}

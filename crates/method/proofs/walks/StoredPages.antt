@@ -1,13 +1,6 @@
 -- Slots of full blocks and what their pages hold, and lists of such slots that sum to an original.
-use mathlib.Core.Path.{_≡_, sym, ap, ap₂, _∙_}
-use mathlib.Core.Logic.{_⊎_, inl, inr, ⊎-elim, _≢_}
-use mathlib.Core.Bool.{true}
-use mathlib.Core.List.{List, [], _∷_}
-use Prim.Native.Nat.{ℕ, suc, _+_, _-_, _*_, _/_, _%_, _≤_, _<_}
-use native.Mathlib.Nat.{mod-lt}
-use native.Mathlib.Omega.{arith}
-use lib.ListN.{length, getD}
-use borrow.Author.Tests.{lt-ltb}
+use Rattle.flash.proofs.Kit.{_≡_, sym, ap, ap₂, _∙_, _⊎_, inl, inr, ⊎-elim, _≢_, true, List, [], _∷_, ℕ, suc, _+_, _-_, _*_, _/_, _%_, _≤_, _<_}
+use Rattle.flash.proofs.Kit.{mod-lt, arith, length, getD, lt-ltb}
 use Rattle.flash.specs.Lists.{part}
 use Rattle.flash.specs.declared.sizes.Sizes.{Sizes}
 use Rattle.flash.specs.Geometry.{isLetter, slot, blockOf, originalCount, slotCount, letter}

@@ -1,9 +1,5 @@
 -- The bounds of read's walks are never what ends them.
-use mathlib.Core.Path.{_≡_, sym, ap, _∙_}
-use mathlib.Core.Bool.{true, false}
-use mathlib.Core.List.{List}
-use Prim.Native.Nat.{ℕ, zero, suc, _+_, _<_}
-use native.Mathlib.Omega.{arith}
+use Rattle.flash.proofs.Kit.{_≡_, sym, ap, _∙_, true, false, List, ℕ, zero, suc, _+_, _<_, arith}
 use Rattle.flash.specs.declared.sizes.Sizes.{Sizes}
 use Rattle.flash.proofs.Bools.{never-both}
 use Rattle.method.specs.Move.{Move, AcceptedMove}

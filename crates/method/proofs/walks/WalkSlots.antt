@@ -1,11 +1,6 @@
 -- A walk from block to block that takes a slot at each, until a test ends it. Read's rules 2 and 3 are two such walks.
-use mathlib.Core.Path.{_≡_, refl, sym, ap, _∙_}
-use mathlib.Core.Logic.{_≢_}
-use mathlib.Core.Bool.{Bool, true, false, cond, _||_}
-use mathlib.Core.List.{List, [], _∷_}
-use Prim.Native.Nat.{ℕ, zero, suc, _+_, _-_, _≤_, _<_}
-use native.Mathlib.Nat.{not-suc-le-zero}
-use native.Mathlib.Omega.{arith}
+use Rattle.flash.proofs.Kit.{_≡_, refl, sym, ap, _∙_, _≢_, Bool, true, false, cond, _||_, List, [], _∷_, ℕ, zero, suc, _+_, _-_, _≤_, _<_}
+use Rattle.flash.proofs.Kit.{not-suc-le-zero, arith}
 use Rattle.flash.specs.Lists.{range, first}
 use Rattle.flash.proofs.Bools.{never-both}
 use Rattle.flash.proofs.Ranges.{first-hit}

@@ -1,7 +1,5 @@
 -- The claims on tops and walks.
-use mathlib.Core.Path.{_≡_, refl, sym, ap, _∙_, subst}
-use Prim.Native.Nat.{ℕ, zero, suc}
-use native.Mathlib.Omega.{arith}
+use Rattle.flash.proofs.Kit.{_≡_, refl, sym, ap, _∙_, subst, ℕ, zero, suc, arith}
 use Rattle.flash.specs.Geometry.{blockOf, letter}
 use Rattle.flash.proofs.Blocks.{full-finished}
 use Rattle.split.specs.Split.{setOf}

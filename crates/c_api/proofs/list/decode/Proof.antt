@@ -1,12 +1,5 @@
 -- `decode` meets its contract: the entries passed are those of the bytes, and behind them the area is as it was.
-use mathlib.Core.Path.{_≡_, refl, _∙_}
-use mathlib.Core.List.{_++_}
-use mathlib.Core.Bool.{false, _||_}
-use Prim.Native.Nat.{_/_, _-_, _≤_}
-use native.Mathlib.Omega.{arith}
-use borrow.Author.Needs.{needs}
-use lib.Dec.{ltb}
-use lib.ListN.{length, take, drop, length-set}
+use Rattle.flash.proofs.Kit.{_≡_, refl, _∙_, _++_, false, _||_, _/_, _-_, _≤_, arith, needs, ltb, length, take, drop, length-set}
 use Rattle.c_api.specs.Bytes.{entriesOf, isOdd}
 use Rattle.c_api.proofs.BytesLaws.{entries-length, decode-more, all-entries, no-entries, entries-within, within}
 use Rattle.c_api.proofs.list.decode.Statement.{statement}

@@ -1,6 +1,5 @@
 -- `mover_mend` meets its contract: the call's numbers are small, so nothing is lost.
-use native.Mathlib.Omega.{arith}
-use borrow.Author.Needs.{needs}
+use Rattle.flash.proofs.Kit.{arith, needs}
 use Rattle.c_api.proofs.MendLaws.{small}
 use Rattle.c_api.proofs.mend.mover_mend.Statement.{statement}
 use Rattle.c_api.proofs.mend.mover_mend.Tie as tie

@@ -1,8 +1,5 @@
 -- `mover_run` meets its contract: it hands on what the call returned for the entries decoded.
-use mathlib.Core.Path.{sym}
-use native.Mathlib.Omega.{arith}
-use borrow.Author.Needs.{needs}
-use lib.Seq.{length-take-le}
+use Rattle.flash.proofs.Kit.{sym, arith, needs, length-take-le}
 use Rattle.c_api.proofs.BytesLaws.{count-fits, front-is}
 use Rattle.c_api.proofs.RunLaws.{exported}
 use Rattle.c_api.proofs.run.mover_run.Statement.{statement}

@@ -1,6 +1,5 @@
 -- `erase_block` meets its contract: both parts are filled and come back.
-use native.Mathlib.Omega.{arith}
-use Prim.Native.Nat.{_*_}
+use Rattle.flash.proofs.Kit.{arith, _*_}
 use Rattle.flash.specs.Chip.{erased, eraseBlock}
 use Rattle.flash.proofs.Parts.{filled-back}
 use Rattle.flash.proofs.Chips.{chip-eq}

@@ -1,9 +1,5 @@
 -- `is_full` meets its contract: the marks of a block are a part.
-use mathlib.Core.Path.{sym, ap, _∙_}
-use mathlib.Core.List.{List}
-use Prim.Native.Nat.{ℕ}
-use lib.Dec.{eqb}
-use native.Mathlib.Omega.{arith}
+use Rattle.flash.proofs.Kit.{sym, ap, _∙_, List, ℕ, eqb, arith}
 use Rattle.flash.specs.Lists.{all}
 use Rattle.flash.proofs.Parts.{lent-part}
 use Rattle.flash.proofs.Blocks.{full-part}

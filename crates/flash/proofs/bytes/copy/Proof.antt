@@ -1,10 +1,5 @@
 -- `copy` leaves in one part the bytes of another: a page that goes into its slot.
-use mathlib.Core.Path.{_≡_, refl, _∙_}
-use mathlib.Core.List.{_++_, append-nil}
-use Prim.Native.Nat.{_-_, _≤_}
-use native.Mathlib.Omega.{arith}
-use lib.ListN.{length, take, drop, length-set}
-use lib.Seq.{drop-length, take-all}
+use Rattle.flash.proofs.Kit.{_≡_, refl, _∙_, _++_, append-nil, _-_, _≤_, arith, length, take, drop, length-set, drop-length, take-all}
 use Rattle.flash.proofs.Loops.{front-more}
 use Rattle.flash.proofs.bytes.copy.Statement.{statement}
 use Rattle.flash.proofs.bytes.copy.Tie as tie

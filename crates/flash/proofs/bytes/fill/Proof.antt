@@ -1,11 +1,5 @@
 -- `fill` meets its contract: the bytes passed are the value.
-use mathlib.Core.Path.{_≡_, refl, _∙_}
-use mathlib.Core.List.{_++_, append-nil}
-use Prim.Native.Nat.{_≤_, _-_}
-use native.Mathlib.Omega.{arith}
-use lib.ListN.{length, drop, replicate, length-set}
-use lib.Seq.{drop-length}
-use borrow.Author.Fill.{fill-more}
+use Rattle.flash.proofs.Kit.{_≡_, refl, _∙_, _++_, append-nil, _≤_, _-_, arith, length, drop, replicate, length-set, drop-length, fill-more}
 use Rattle.flash.proofs.bytes.fill.Statement.{statement}
 use Rattle.flash.proofs.bytes.fill.Tie as tie
 

@@ -1,10 +1,5 @@
 -- `is_filled` meets its contract: the gathered bits are 0 while each byte is the value.
-use mathlib.Core.Path.{_≡_, refl, _∙_}
-use Prim.Native.Nat.{_≤_, _<_, _-_}
-use native.Mathlib.Omega.{arith}
-use lib.Dec.{eqb}
-use lib.ListN.{length, take}
-use lib.Seq.{take-length}
+use Rattle.flash.proofs.Kit.{_≡_, refl, _∙_, _≤_, _<_, _-_, arith, eqb, length, take, take-length}
 use Rattle.flash.specs.Lists.{all}
 use Rattle.flash.proofs.Loops.{filled-more}
 use Rattle.flash.proofs.bytes.is_filled.Statement.{statement}

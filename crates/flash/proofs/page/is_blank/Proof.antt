@@ -1,10 +1,5 @@
 -- `is_blank` meets its contract.
-use mathlib.Core.Path.{_≡_, sym, ap, _∙_}
-use mathlib.Core.Logic.{_≢_}
-use mathlib.Core.List.{List}
-use Prim.Native.Nat.{ℕ}
-use native.Mathlib.Omega.{arith}
-use lib.Dec.{eqb}
+use Rattle.flash.proofs.Kit.{_≡_, sym, ap, _∙_, _≢_, List, ℕ, arith, eqb}
 use Rattle.flash.specs.Lists.{all}
 use Rattle.flash.specs.Chip.{erased, markAt}
 use Rattle.flash.proofs.Parts.{lent-part}

@@ -1,7 +1,5 @@
 -- `write_page` meets its contract: a plain copy, and the mark.
-use mathlib.Core.Path.{refl, ap, _∙_}
-use native.Mathlib.Omega.{arith}
-use lib.ListN.{length-set}
+use Rattle.flash.proofs.Kit.{refl, ap, _∙_, arith, length-set}
 use Rattle.flash.specs.Lists.{setPart}
 use Rattle.flash.specs.Chip.{writePage}
 use Rattle.flash.proofs.Parts.{lent-back}

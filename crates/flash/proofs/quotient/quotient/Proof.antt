@@ -1,8 +1,6 @@
 -- `quotient` meets its contract: the product with the reciprocal is neither too small nor too large.
-use mathlib.Core.Path.{_≡_, ap, _∙_}
-use Prim.Native.Nat.{ℕ, _+_, _*_, _/_, _%_, _≤_, _<_}
-use native.Mathlib.Nat.{div-add-mod', mod-lt, div-le-self, le-div-iff-mul-le, mul-le-mul, mul-le-mul-left, mul-le-mul-right}
-use native.Mathlib.Omega.{arith}
+use Rattle.flash.proofs.Kit.{_≡_, ap, _∙_, ℕ, _+_, _*_, _/_, _%_, _≤_, _<_, div-add-mod', mod-lt, div-le-self, le-div-iff-mul-le, mul-le-mul}
+use Rattle.flash.proofs.Kit.{mul-le-mul-left, mul-le-mul-right, arith}
 use Rattle.flash.specs.inner.Reciprocal.{scale, reciprocalOf}
 use Rattle.flash.proofs.quotient.quotient.Statement.{statement}
 use Rattle.flash.proofs.quotient.quotient.Tie as tie

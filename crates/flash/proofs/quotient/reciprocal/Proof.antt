@@ -1,8 +1,5 @@
 -- `reciprocal` meets its contract.
-use mathlib.Core.Path.{refl}
-use native.Mathlib.Nat.{div-le-self}
-use native.Mathlib.Omega.{arith}
-use borrow.Author.Needs.{needs}
+use Rattle.flash.proofs.Kit.{refl, div-le-self, arith, needs}
 use Rattle.flash.specs.inner.Reciprocal.{scale, reciprocalOf}
 use Rattle.flash.proofs.quotient.reciprocal.Statement.{statement}
 use Rattle.flash.proofs.quotient.reciprocal.Tie as tie

@@ -1,5 +1,5 @@
 -- `in_range` meets its contract.
-use borrow.Author.Needs.{needs}
+use Rattle.flash.proofs.Kit.{needs}
 use Rattle.flash.specs.Geometry.{inRange, isLetter}
 use Rattle.flash.proofs.sizes.in_range.Statement.{statement}
 use Rattle.flash.proofs.sizes.in_range.Tie as tie

@@ -1,5 +1,5 @@
 -- `letter_after` meets its contract.
-use borrow.Author.Needs.{needs}
+use Rattle.flash.proofs.Kit.{needs}
 use Rattle.flash.specs.Geometry.{letter}
 use Rattle.flash.proofs.sizes.letter_after.Statement.{statement}
 use Rattle.flash.proofs.sizes.letter_after.Tie as tie

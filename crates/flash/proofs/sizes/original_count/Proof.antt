@@ -1,5 +1,5 @@
 -- `original_count` meets its contract.
-use native.Mathlib.Omega.{arith}
+use Rattle.flash.proofs.Kit.{arith}
 use Rattle.flash.proofs.Bounds.{product-le}
 use Rattle.flash.proofs.sizes.original_count.Statement.{statement}
 use Rattle.flash.proofs.sizes.original_count.Tie as tie

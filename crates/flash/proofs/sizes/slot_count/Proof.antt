@@ -1,7 +1,6 @@
 -- `slot_count` meets its contract.
-use native.Mathlib.Omega.{arith}
+use Rattle.flash.proofs.Kit.{arith, _+_}
 use Rattle.flash.proofs.Bounds.{product-le}
-use Prim.Native.Nat.{_+_}
 use Rattle.flash.proofs.sizes.slot_count.Statement.{statement}
 use Rattle.flash.proofs.sizes.slot_count.Tie as tie
 

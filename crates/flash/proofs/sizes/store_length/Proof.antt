@@ -1,7 +1,5 @@
 -- `store_length` meets its contract.
-use mathlib.Core.Path.{ap}
-use Prim.Native.Nat.{ℕ, _+_, _*_, _≤_}
-use native.Mathlib.Omega.{arith}
+use Rattle.flash.proofs.Kit.{ap, ℕ, _+_, _*_, _≤_, arith}
 use Rattle.flash.proofs.Bounds.{product-le}
 use Rattle.flash.proofs.sizes.store_length.Statement.{statement}
 use Rattle.flash.proofs.sizes.store_length.Tie as tie

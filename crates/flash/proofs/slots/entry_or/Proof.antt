@@ -1,11 +1,6 @@
 -- `entry_or` reads an entry of the array, or gives another number behind the last: for passes that are not full.
-use mathlib.Core.Path.{_≡_, sym, _∙_}
-use Prim.Native.Nat.{_≤_}
-use native.Mathlib.Omega.{arith}
-use lib.ListN.{length, take, List·getD-eq-default}
-use lib.Seq.{getD-take, length-take-le}
+use Rattle.flash.proofs.Kit.{_≡_, sym, _∙_, _≤_, arith, length, take, List·getD-eq-default, getD-take, length-take-le, needs}
 use Rattle.flash.proofs.PassLaws.{getD-any}
-use borrow.Author.Needs.{needs}
 use Rattle.flash.proofs.slots.entry_or.Statement.{statement}
 use Rattle.flash.proofs.slots.entry_or.Tie as tie
 

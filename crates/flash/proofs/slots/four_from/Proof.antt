@@ -1,8 +1,5 @@
 -- `four_from` gathers the slots of one pass.
-use mathlib.Core.Path.{_≡_, sym}
-use native.Mathlib.Omega.{arith}
-use lib.Seq.{getD-take}
-use borrow.Author.Needs.{needs}
+use Rattle.flash.proofs.Kit.{_≡_, sym, arith, getD-take, needs}
 use Rattle.flash.proofs.slots.four_from.Statement.{statement}
 use Rattle.flash.proofs.slots.four_from.Tie as tie
 

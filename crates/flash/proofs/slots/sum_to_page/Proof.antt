@@ -1,20 +1,12 @@
 -- `sum_to_page` leaves the sum of the pages of all slots in a page: a read.
-use mathlib.Core.Path.{_≡_, refl, sym, ap, _∙_}
-use mathlib.Core.Bool.{cond}
-use mathlib.Core.List.{List, []}
-use Prim.Native.Nat.{ℕ, _+_, _-_, _*_, _≤_, _<_}
-use native.Mathlib.Omega.{arith}
-use lib.Dec.{ltb}
-use lib.ListN.{length, getD, take}
-use lib.Seq.{length-take-le, take-all}
-use borrow.Author.Tests.{lt-ltb}
+use Rattle.flash.proofs.Kit.{_≡_, refl, sym, ap, _∙_, cond, List, [], ℕ, _+_, _-_, _*_, _≤_, _<_, arith, ltb, length, getD, take}
+use Rattle.flash.proofs.Kit.{length-take-le, take-all, lt-ltb, needs}
 use Rattle.flash.specs.Lists.{part}
 use Rattle.flash.specs.PageSum.{_⊕_, sum}
 use Rattle.flash.specs.inner.Terms.{termsSum}
 use Rattle.flash.specs.inner.Passes.{fourFrom}
 use Rattle.flash.proofs.Sums.{putOrAdd-is}
 use Rattle.flash.proofs.PassLaws.{pass-more, taken-each, four-each}
-use borrow.Author.Needs.{needs}
 use Rattle.flash.proofs.slots.sum_to_page.Statement.{statement}
 use Rattle.flash.proofs.slots.sum_to_page.Tie as tie
 

@@ -1,6 +1,5 @@
 -- `added` adds a byte to another, or leaves it.
-use mathlib.Core.Path.{sym}
-use lib.Bits.{xor-zero-l}
+use Rattle.flash.proofs.Kit.{sym, xor-zero-l}
 use Rattle.flash.proofs.terms.added.Statement.{statement}
 use Rattle.flash.proofs.terms.added.Tie as tie
 

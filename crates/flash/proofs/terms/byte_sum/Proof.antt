@@ -1,6 +1,5 @@
 -- `byte_sum` adds the first of four bytes, as many as are asked for.
-use mathlib.Core.Path.{_≡_, sym, _∙_}
-use native.Mathlib.Omega.{arith}
+use Rattle.flash.proofs.Kit.{_≡_, sym, _∙_, arith}
 use Rattle.flash.proofs.TermLaws.{one-term, two-terms, three-terms, four-terms}
 use Rattle.flash.proofs.terms.byte_sum.Statement.{statement}
 use Rattle.flash.proofs.terms.byte_sum.Tie as tie

@@ -1,13 +1,6 @@
 -- `sum_from` leaves the sum of pages of the store in a page outside it: what read puts into the work page.
-use mathlib.Core.Path.{_≡_, refl, sym, ap, ap₂, _∙_}
-use mathlib.Core.Bool.{cond}
-use mathlib.Core.List.{_++_, append-nil}
-use Prim.Native.Nat.{ℕ, _+_, _-_, _*_, _≤_, _<_}
-use native.Mathlib.Omega.{arith}
-use lib.Bits.{bitXor}
-use lib.ListN.{length, getD, set, take, drop, length-set}
-use lib.Seq.{drop-length, take-all}
-use borrow.Author.Needs.{needs}
+use Rattle.flash.proofs.Kit.{_≡_, refl, sym, ap, ap₂, _∙_, cond, _++_, append-nil, ℕ, _+_, _-_, _*_, _≤_, _<_, arith, bitXor, length, getD}
+use Rattle.flash.proofs.Kit.{set, take, drop, length-set, drop-length, take-all, needs}
 use Rattle.flash.specs.PageSum.{putOrAdd}
 use Rattle.flash.proofs.Loops.{front-at, front-more}
 use Rattle.flash.proofs.TermLaws.{summed, pageSum, length-pageSum, pageSum-at}

@@ -1,10 +1,7 @@
 -- `count_places` counts the decimal digits of a number, for the space that a printed number takes.
 use Rattle.listing.specs.Digits.{places, placesUpTo}
 use Rattle.listing.proofs.DigitLaws.{one-place, more-places}
-use mathlib.Core.Path.{_≡_}
-use Prim.Native.Nat.{_+_, _-_, _≤_}
-use native.Mathlib.Omega.{arith}
-use borrow.Author.Needs.{needs}
+use Rattle.flash.proofs.Kit.{_≡_, _+_, _-_, _≤_, arith, needs}
 use Rattle.listing.proofs.digits.count_places.Statement.{statement}
 use Rattle.listing.proofs.digits.count_places.Tie as tie
 

@@ -1,7 +1,6 @@
 -- `digit_of` gives the character of a digit, decimal or hexadecimal.
-use borrow.Author.Tests.{lt-ltb, le-ltb}
+use Rattle.flash.proofs.Kit.{lt-ltb, le-ltb, needs}
 use Rattle.listing.specs.Digits.{digitOf}
-use borrow.Author.Needs.{needs}
 use Rattle.listing.proofs.digits.digit_of.Statement.{statement}
 use Rattle.listing.proofs.digits.digit_of.Tie as tie
 

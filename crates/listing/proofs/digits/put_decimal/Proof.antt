@@ -1,8 +1,7 @@
 -- `put_decimal` prints a number in decimal and leaves the rest of the area.
 use Rattle.listing.specs.Digits.{places, decimal}
 use Rattle.listing.proofs.DigitLaws.{length-digits}
-use native.Mathlib.Omega.{arith}
-use borrow.Author.Needs.{needs}
+use Rattle.flash.proofs.Kit.{arith, needs}
 use Rattle.listing.proofs.digits.put_decimal.Statement.{statement}
 use Rattle.listing.proofs.digits.put_decimal.Tie as tie
 

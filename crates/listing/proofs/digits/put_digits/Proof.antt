@@ -1,15 +1,9 @@
 -- `put_digits` prints so many digits of a number, lowest first from the right, and leaves the rest of the area.
-use mathlib.Core.List.{_++_}
-use native.Mathlib.Nat.{mod-lt}
-use lib.ListN.{length, take, drop, take-append-drop, length-set}
-use lib.Seq.{take-set-le, take-take, drop-set-lt}
+use Rattle.flash.proofs.Kit.{_++_, mod-lt, length, take, drop, take-append-drop, length-set, take-set-le, take-take, drop-set-lt, _≡_, refl, sym, _∙_}
+use Rattle.flash.proofs.Kit.{_+_, _-_, _≤_, arith, needs}
 use Rattle.listing.proofs.PrintLaws.{printed}
 use Rattle.listing.specs.Digits.{digits}
 use Rattle.listing.proofs.DigitLaws.{length-digits, digits-start, digits-more}
-use mathlib.Core.Path.{_≡_, refl, sym, _∙_}
-use Prim.Native.Nat.{_+_, _-_, _≤_}
-use native.Mathlib.Omega.{arith}
-use borrow.Author.Needs.{needs}
 use Rattle.listing.proofs.digits.put_digits.Statement.{statement}
 use Rattle.listing.proofs.digits.put_digits.Tie as tie
 

@@ -1,8 +1,6 @@
 -- `put_field` prints a text and a number behind it: the parts of a line.
-use native.Mathlib.Omega.{arith}
-use lib.ListN.{length-append}
+use Rattle.flash.proofs.Kit.{arith, length-append, needs}
 use Rattle.listing.proofs.PrintLaws.{printed-then}
-use borrow.Author.Needs.{needs}
 use Rattle.listing.proofs.digits.put_field.Statement.{statement}
 use Rattle.listing.proofs.digits.put_field.Tie as tie
 

@@ -1,14 +1,9 @@
 -- `put_hex` prints a byte as two hexadecimal digits.
-use lib.Seq.{length-take-le, take-length}
+use Rattle.flash.proofs.Kit.{length-take-le, take-length, length, take, _≡_, refl, _-_, _≤_, _<_, arith, needs}
 use Rattle.listing.proofs.PrintLaws.{nothing-printed, printed-then, hex-more, length-hex}
-use lib.ListN.{length, take}
 use Rattle.flash.specs.Lists.{concatMap}
 use Rattle.listing.specs.Digits.{hex}
 use Rattle.listing.specs.Lines.{Printed}
-use mathlib.Core.Path.{_≡_, refl}
-use Prim.Native.Nat.{_-_, _≤_, _<_}
-use native.Mathlib.Omega.{arith}
-use borrow.Author.Needs.{needs}
 use Rattle.listing.proofs.digits.put_hex.Statement.{statement}
 use Rattle.listing.proofs.digits.put_hex.Tie as tie
 

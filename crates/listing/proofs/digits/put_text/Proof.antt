@@ -1,13 +1,7 @@
 -- `put_text` copies a text into the area and leaves the rest of it.
-use mathlib.Core.List.{_++_, append-nil}
-use lib.ListN.{length, take, drop, length-set}
-use lib.Seq.{take-length}
+use Rattle.flash.proofs.Kit.{_++_, append-nil, length, take, drop, length-set, take-length, _≡_, refl, sym, _∙_, _+_, _-_, _≤_, arith, needs}
 use Rattle.listing.proofs.PrintLaws.{printed, printed-byte}
 use Rattle.flash.proofs.Loops.{rest-more}
-use mathlib.Core.Path.{_≡_, refl, sym, _∙_}
-use Prim.Native.Nat.{_+_, _-_, _≤_}
-use native.Mathlib.Omega.{arith}
-use borrow.Author.Needs.{needs}
 use Rattle.listing.proofs.digits.put_text.Statement.{statement}
 use Rattle.listing.proofs.digits.put_text.Tie as tie
 

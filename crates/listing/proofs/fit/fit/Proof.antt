@@ -1,14 +1,6 @@
 -- `fit` tells whether every number is at most `most`, before numbers are cut to fewer bits.
-use native.Mathlib.Omega.{arith}
-use mathlib.Core.Path.{_≡_, sym}
-use mathlib.Core.Bool.{true}
-use Prim.Native.Nat.{ℕ, _-_, _≤_, _<_}
-use lib.Dec.{leb}
-use lib.ListN.{length, getD}
-use borrow.Author.Count.{below-more}
-use borrow.Author.Tests.{le-leb, lt-leb}
+use Rattle.flash.proofs.Kit.{arith, _≡_, sym, true, ℕ, _-_, _≤_, _<_, leb, length, getD, below-more, le-leb, lt-leb, needs}
 use Rattle.flash.proofs.Searches.{all-of, all-fails}
-use borrow.Author.Needs.{needs}
 use Rattle.listing.proofs.fit.fit.Statement.{statement}
 use Rattle.listing.proofs.fit.fit.Tie as tie
 

@@ -1,15 +1,8 @@
 -- `put_bytes` copies numbers that fit into bytes: the originals of the store.
-use native.Mathlib.Omega.{arith}
-use mathlib.Core.Path.{_≡_, refl, _∙_}
-use mathlib.Core.List.{_++_, append-nil}
-use Prim.Native.Nat.{_-_, _≤_}
-use lib.Dec.{leb}
-use lib.ListN.{length, getD, take, drop, length-set}
-use lib.Seq.{drop-length, take-length}
-use borrow.Author.Tests.{leb-true}
+use Rattle.flash.proofs.Kit.{arith, _≡_, refl, _∙_, _++_, append-nil, _-_, _≤_, leb, length, getD, take, drop, length-set, drop-length, take-length}
+use Rattle.flash.proofs.Kit.{leb-true, needs}
 use Rattle.flash.proofs.Searches.{all-at}
 use Rattle.flash.proofs.Loops.{front-more}
-use borrow.Author.Needs.{needs}
 use Rattle.listing.proofs.fit.put_bytes.Statement.{statement}
 use Rattle.listing.proofs.fit.put_bytes.Tie as tie
 

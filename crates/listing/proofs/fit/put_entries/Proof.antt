@@ -1,15 +1,8 @@
 -- `put_entries` copies numbers that fit into entries of 16 bits: the list.
-use native.Mathlib.Omega.{arith}
-use mathlib.Core.Path.{_≡_, refl, _∙_}
-use mathlib.Core.List.{_++_, append-nil}
-use Prim.Native.Nat.{_-_, _≤_}
-use lib.Dec.{leb}
-use lib.ListN.{length, getD, take, drop, length-set}
-use lib.Seq.{drop-length, take-length}
-use borrow.Author.Tests.{leb-true}
+use Rattle.flash.proofs.Kit.{arith, _≡_, refl, _∙_, _++_, append-nil, _-_, _≤_, leb, length, getD, take, drop, length-set, drop-length, take-length}
+use Rattle.flash.proofs.Kit.{leb-true, needs}
 use Rattle.flash.proofs.Searches.{all-at}
 use Rattle.flash.proofs.Loops.{front-more}
-use borrow.Author.Needs.{needs}
 use Rattle.listing.proofs.fit.put_entries.Statement.{statement}
 use Rattle.listing.proofs.fit.put_entries.Tie as tie
 

@@ -1,16 +1,10 @@
 -- `fill` reads numbers into the area until it is full or the input has no further number.
-use native.Mathlib.Omega.{arith}
-use mathlib.Core.Path.{_≡_, refl, sym, ap, _∙_}
-use mathlib.Core.List.{[], _++_}
-use Prim.Native.Nat.{suc, _+_, _-_, _≤_, _<_}
-use native.Mathlib.Numerals.{add-one}
-use lib.ListN.{length, take, drop, length-set}
-use lib.Seq.{take-suc-set, take-length}
+use Rattle.flash.proofs.Kit.{arith, _≡_, refl, sym, ap, _∙_, [], _++_, suc, _+_, _-_, _≤_, _<_, add-one, length, take, drop, length-set, take-suc-set}
+use Rattle.flash.proofs.Kit.{take-length, needs}
 use Rattle.listing.specs.Numbers.{numbersIn, taken, numbersMet}
 use Rattle.listing.specs.ReaderAnswers.{toldAs}
 use Rattle.listing.proofs.TakeLaws.{went-on, stopped, taken-more, met-stopped, met-more, met-all}
 use Rattle.flash.proofs.Loops.{rest-more}
-use borrow.Author.Needs.{needs}
 use Rattle.listing.proofs.input.fill.Statement.{statement}
 use Rattle.listing.proofs.input.fill.Tie as tie
 

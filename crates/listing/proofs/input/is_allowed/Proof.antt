@@ -1,7 +1,7 @@
 -- `is_allowed` tests the program's own limits of the sizes.
 use Rattle.flash.specs.Geometry.{isLetter}
 use Rattle.listing.specs.Input.{isAllowed}
-use borrow.Author.Needs.{needs}
+use Rattle.flash.proofs.Kit.{needs}
 use Rattle.listing.proofs.input.is_allowed.Statement.{statement}
 use Rattle.listing.proofs.input.is_allowed.Tie as tie
 

@@ -1,11 +1,9 @@
 -- `is_end` tells whether no word is left behind a position.
-use mathlib.Core.Path.{sym, ap, _∙_}
-use lib.ListN.{drop}
+use Rattle.flash.proofs.Kit.{sym, ap, _∙_, drop, needs}
 use Rattle.listing.specs.declared.number.Word.{Word}
 use Rattle.listing.specs.Numbers.{numbersIn}
 use Rattle.listing.specs.ReaderAnswers.{toldAs}
 use Rattle.listing.proofs.TakeLaws.{isEnd, none-left}
-use borrow.Author.Needs.{needs}
 use Rattle.listing.proofs.input.is_end.Statement.{statement}
 use Rattle.listing.proofs.input.is_end.Tie as tie
 

@@ -1,5 +1,5 @@
 -- `limit` leaves of an input what counts: longer input ends in a byte that no number has.
-use borrow.Author.Needs.{needs}
+use Rattle.flash.proofs.Kit.{needs}
 use Rattle.listing.proofs.InputLaws.{limit-kept, limit-cut}
 use Rattle.listing.proofs.input.limit.Statement.{statement}
 use Rattle.listing.proofs.input.limit.Tie as tie

@@ -1,8 +1,5 @@
 -- `numbers_due` is the number of entries and bytes that follow the sizes.
-use native.Mathlib.Omega.{arith}
-use mathlib.Core.Path.{refl}
-use Prim.Native.Nat.{ℕ, _*_, _≤_}
-use native.Mathlib.Nat.{mul-le-mul}
+use Rattle.flash.proofs.Kit.{arith, refl, ℕ, _*_, _≤_, mul-le-mul}
 use Rattle.listing.proofs.input.numbers_due.Statement.{statement}
 use Rattle.listing.proofs.input.numbers_due.Tie as tie
 

@@ -1,11 +1,7 @@
 -- `read` answers for every text what its input asks for, and leaves its numbers in the area.
-use native.Mathlib.Omega.{arith}
-use mathlib.Core.Path.{sym, ap, _∙_}
-use mathlib.Core.Bool.{true, false}
-use borrow.Author.Tests.{not-true, not-false}
+use Rattle.flash.proofs.Kit.{arith, sym, ap, _∙_, true, false, not-true, not-false, needs}
 use Rattle.listing.specs.ReaderAnswers.{sizesAs}
 use Rattle.listing.proofs.InputLaws.{bounded, few-originals, no-sizes, not-allowed, as-asked, none-put, none-put-refused, all-put}
-use borrow.Author.Needs.{needs}
 use Rattle.listing.proofs.input.read.Statement.{statement}
 use Rattle.listing.proofs.input.read.Tie as tie
 

@@ -1,17 +1,10 @@
 -- `read_numbers` tells whether exactly the numbers due stand in the input, bytes to 255.
-use native.Mathlib.Omega.{arith}
-use mathlib.Core.Path.{_≡_, sym, ap, _∙_}
-use mathlib.Core.List.{_++_}
-use Prim.Native.Nat.{_+_, _*_}
-use lib.Dec.{leb}
-use lib.ListN.{drop}
-use lib.Seq.{length-take-le}
+use Rattle.flash.proofs.Kit.{arith, _≡_, sym, ap, _∙_, _++_, _+_, _*_, leb, drop, length-take-le, needs}
 use Rattle.flash.specs.Lists.{all}
 use Rattle.listing.specs.Numbers.{numbersIn, numbersMet}
 use Rattle.listing.specs.Area.{over}
 use Rattle.listing.specs.ReaderAnswers.{filledAs}
 use Rattle.listing.proofs.InputLaws.{none-found, bytes-are, all-found, too-large, due-put}
-use borrow.Author.Needs.{needs}
 use Rattle.listing.proofs.input.read_numbers.Statement.{statement}
 use Rattle.listing.proofs.input.read_numbers.Tie as tie
 

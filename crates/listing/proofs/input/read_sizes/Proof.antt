@@ -1,8 +1,7 @@
 -- `read_sizes` reads the four sizes, or tells that they cannot be read.
-use mathlib.Core.Path.{sym, ap, _∙_}
+use Rattle.flash.proofs.Kit.{sym, ap, _∙_, needs}
 use Rattle.listing.specs.ReaderAnswers.{filledAs}
 use Rattle.listing.proofs.TakeLaws.{four-are}
-use borrow.Author.Needs.{needs}
 use Rattle.listing.proofs.input.read_sizes.Statement.{statement}
 use Rattle.listing.proofs.input.read_sizes.Tie as tie
 

@@ -1,7 +1,6 @@
 -- `put_bytes` prints a space and the bytes of a page.
-use native.Mathlib.Omega.{arith}
+use Rattle.flash.proofs.Kit.{arith, needs}
 use Rattle.listing.proofs.PrintLaws.{printed-then}
-use borrow.Author.Needs.{needs}
 use Rattle.listing.proofs.lines.put_bytes.Statement.{statement}
 use Rattle.listing.proofs.lines.put_bytes.Tie as tie
 

@@ -1,9 +1,7 @@
 -- `put_erase` prints the line of an erase.
-use native.Mathlib.Omega.{arith}
-use lib.ListN.{length-append}
+use Rattle.flash.proofs.Kit.{arith, length-append, needs}
 use Rattle.listing.specs.Lines.{eraseLine}
 use Rattle.listing.proofs.PrintLaws.{printed-then}
-use borrow.Author.Needs.{needs}
 use Rattle.listing.proofs.lines.put_erase.Statement.{statement}
 use Rattle.listing.proofs.lines.put_erase.Tie as tie
 

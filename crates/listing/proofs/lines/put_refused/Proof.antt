@@ -1,9 +1,7 @@
 -- `put_refused` prints the line of a refusal with its number.
-use native.Mathlib.Omega.{arith}
-use lib.ListN.{length-append}
+use Rattle.flash.proofs.Kit.{arith, length-append, needs}
 use Rattle.listing.specs.Lines.{refusedLine}
 use Rattle.listing.proofs.PrintLaws.{printed-then}
-use borrow.Author.Needs.{needs}
 use Rattle.listing.proofs.lines.put_refused.Statement.{statement}
 use Rattle.listing.proofs.lines.put_refused.Tie as tie
 

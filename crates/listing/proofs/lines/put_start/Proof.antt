@@ -1,8 +1,6 @@
 -- `put_start` prints what the lines of all steps begin with.
-use native.Mathlib.Omega.{arith}
-use lib.ListN.{length-append}
+use Rattle.flash.proofs.Kit.{arith, length-append, needs}
 use Rattle.listing.proofs.PrintLaws.{printed-then}
-use borrow.Author.Needs.{needs}
 use Rattle.listing.proofs.lines.put_start.Statement.{statement}
 use Rattle.listing.proofs.lines.put_start.Tie as tie
 

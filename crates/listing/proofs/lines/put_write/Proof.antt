@@ -1,9 +1,7 @@
 -- `put_write` prints the line of a write with the page's bytes.
-use native.Mathlib.Omega.{arith}
-use lib.ListN.{length-append}
+use Rattle.flash.proofs.Kit.{arith, length-append, needs}
 use Rattle.listing.specs.Lines.{writeLine}
 use Rattle.listing.proofs.PrintLaws.{printed-then}
-use borrow.Author.Needs.{needs}
 use Rattle.listing.proofs.lines.put_write.Statement.{statement}
 use Rattle.listing.proofs.lines.put_write.Tie as tie
 

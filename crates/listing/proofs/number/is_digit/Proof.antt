@@ -1,6 +1,6 @@
 -- `is_digit` tells the ten digits from all other bytes.
 use Rattle.listing.specs.Numbers.{isDigit}
-use borrow.Author.Needs.{needs}
+use Rattle.flash.proofs.Kit.{needs}
 use Rattle.listing.proofs.number.is_digit.Statement.{statement}
 use Rattle.listing.proofs.number.is_digit.Tie as tie
 

@@ -1,6 +1,6 @@
 -- `is_separator` tells spaces and line feeds from all other bytes.
 use Rattle.listing.specs.Numbers.{isSeparator}
-use borrow.Author.Needs.{needs}
+use Rattle.flash.proofs.Kit.{needs}
 use Rattle.listing.proofs.number.is_separator.Statement.{statement}
 use Rattle.listing.proofs.number.is_separator.Tie as tie
 

@@ -1,7 +1,6 @@
 -- `number` finds the next word from a position on and tells whether it is a number.
-use mathlib.Core.Path.{ap, _∙_}
+use Rattle.flash.proofs.Kit.{ap, _∙_, needs}
 use Rattle.listing.specs.Numbers.{next}
-use borrow.Author.Needs.{needs}
 use Rattle.listing.proofs.number.number.Statement.{statement}
 use Rattle.listing.proofs.number.number.Tie as tie
 

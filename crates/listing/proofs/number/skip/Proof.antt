@@ -1,12 +1,7 @@
 -- `skip` finds the next byte that is no separator.
-use native.Mathlib.Omega.{arith}
-use mathlib.Core.Path.{_≡_, refl, sym, _∙_}
-use Prim.Native.Nat.{_-_}
-use lib.ListN.{length, drop}
-use borrow.Author.Tests.{not-true, not-false}
+use Rattle.flash.proofs.Kit.{arith, _≡_, refl, sym, _∙_, _-_, length, drop, not-true, not-false, needs}
 use Rattle.listing.specs.Numbers.{numbersIn}
 use Rattle.listing.proofs.WordLaws.{separator-skipped}
-use borrow.Author.Needs.{needs}
 use Rattle.listing.proofs.number.skip.Statement.{statement}
 use Rattle.listing.proofs.number.skip.Tie as tie
 

@@ -1,15 +1,8 @@
 -- `spelled` reads the word at a position as a number of at most five digits.
-use native.Mathlib.Omega.{arith}
-use mathlib.Core.Path.{_≡_, sym, _∙_}
-use mathlib.Core.Bool.{true, false}
-use mathlib.Core.Logic.{⊎-elim}
-use Prim.Native.Nat.{_+_, _-_, _≤_}
-use lib.Dec.{ltb}
-use lib.ListN.{length, getD}
-use borrow.Author.Tests.{ltb-true, ltb-false, not-true, not-false}
+use Rattle.flash.proofs.Kit.{arith, _≡_, sym, _∙_, true, false, ⊎-elim, _+_, _-_, _≤_, ltb, length, getD, ltb-true, ltb-false, not-true, not-false}
+use Rattle.flash.proofs.Kit.{needs}
 use Rattle.flash.proofs.Bools.{bool-cases, never-both}
 use Rattle.listing.proofs.NumberLaws.{Spelling, begun, few, digit-low, digit-high, more, at-end, at-separator, sixth, other-byte, no-text}
-use borrow.Author.Needs.{needs}
 use Rattle.listing.proofs.number.spelled.Statement.{statement}
 use Rattle.listing.proofs.number.spelled.Tie as tie
 

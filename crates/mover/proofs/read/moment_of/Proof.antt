@@ -1,7 +1,5 @@
 -- The moment is told case by case.
-use mathlib.Core.Path.{sym, ap, _∙_}
-use native.Mathlib.Omega.{arith}
-use borrow.Author.Needs.{needs}
+use Rattle.flash.proofs.Kit.{sym, ap, _∙_, arith, needs}
 use Rattle.mover.specs.inner.Told.{momentBy}
 use Rattle.mover.proofs.read.moment_of.Statement.{statement}
 use Rattle.mover.proofs.read.moment_of.Tie as tie

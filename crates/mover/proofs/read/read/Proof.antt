@@ -1,10 +1,5 @@
 -- The read answers as its definition does: refused by a row of the table, or with the page rebuilt.
-use mathlib.Core.Path.{_≡_, sym, ap, _∙_}
-use mathlib.Core.List.{[]}
-use native.Mathlib.Omega.{arith}
-use borrow.Author.Needs.{needs}
-use lib.Dec.{leb}
-use borrow.Author.Tests.{leb-false}
+use Rattle.flash.proofs.Kit.{_≡_, sym, ap, _∙_, [], arith, needs, leb, leb-false}
 use Rattle.split.specs.Request.{requestOf}
 use Rattle.flash.specs.Chip.{Chip}
 use Rattle.method.proofs.basics.AcceptedCalls.{move-accepted}

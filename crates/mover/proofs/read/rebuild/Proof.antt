@@ -1,8 +1,5 @@
 -- The original rebuilt in the work page is the sum that read's rules name, and the count is theirs.
-use mathlib.Core.Path.{_≡_, sym, ap, _∙_}
-use Prim.Native.Nat.{_<_}
-use native.Mathlib.Omega.{arith}
-use borrow.Author.Needs.{needs}
+use Rattle.flash.proofs.Kit.{_≡_, sym, ap, _∙_, _<_, arith, needs}
 use Rattle.flash.specs.Lists.{part}
 use Rattle.flash.specs.Geometry.{slotCount}
 use Rattle.flash.specs.PageSum.{sum}

@@ -1,5 +1,5 @@
 -- A lent part is found to be of another length just where number 2 is due.
-use borrow.Author.Needs.{needs}
+use Rattle.flash.proofs.Kit.{needs}
 use Rattle.method.specs.Answers.{badChip, badParts}
 use Rattle.mover.proofs.refusals.bad_parts.Statement.{statement}
 use Rattle.mover.proofs.refusals.bad_parts.Tie as tie

@@ -1,12 +1,5 @@
 -- `move_refusal` gives the first number of rows 1 to 4 that fits, and leaves the sets by destination where none does.
-use mathlib.Core.Path.{_≡_, sym, _∙_}
-use mathlib.Core.Bool.{false, cond, not}
-use mathlib.Core.List.{[]}
-use Prim.Native.Nat.{_*_, _≤_}
-use native.Mathlib.Omega.{arith}
-use lib.ListN.{length}
-use borrow.Author.Needs.{needs}
-use borrow.Author.Tests.{not-true, not-false}
+use Rattle.flash.proofs.Kit.{_≡_, sym, _∙_, false, cond, not, [], _*_, _≤_, arith, length, needs, not-true, not-false}
 use Rattle.split.specs.Request.{requestOf}
 use Rattle.flash.specs.Tables.{refusal}
 use Rattle.flash.specs.Geometry.{Bounds, inRange}

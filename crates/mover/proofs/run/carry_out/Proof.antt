@@ -1,8 +1,5 @@
 -- A run that passed its tests does the steps that its definition has, pass by pass, and tells them.
-use mathlib.Core.Path.{_≡_, refl, sym, _∙_}
-use Prim.Native.Nat.{_+_, _/_, _≤_, _<_}
-use native.Mathlib.Omega.{arith}
-use borrow.Author.Needs.{needs}
+use Rattle.flash.proofs.Kit.{_≡_, refl, sym, _∙_, _+_, _/_, _≤_, _<_, arith, needs}
 use Rattle.method.specs.Move.{moveOf}
 use Rattle.method.specs.Place.{lastPlace}
 use Rattle.method.specs.Step.{runningOf}

@@ -1,7 +1,5 @@
 -- The table that a pass needs is filled for it.
-use mathlib.Core.Path.{sym, ap, _∙_}
-use native.Mathlib.Omega.{arith}
-use borrow.Author.Needs.{needs}
+use Rattle.flash.proofs.Kit.{sym, ap, _∙_, arith, needs}
 use Rattle.flash.proofs.Bools.{never-both}
 use Rattle.flash.proofs.Bounds.{product-le}
 use Rattle.method.specs.Move.{moveOf}

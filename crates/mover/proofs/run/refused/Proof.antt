@@ -1,7 +1,7 @@
 -- A refused run returns its number, and 0 in all else.
 use Rattle.mover.proofs.run.refused.Statement.{statement}
 use Rattle.mover.proofs.run.refused.Tie as tie
-use borrow.Author.Needs.{needs}
+use Rattle.flash.proofs.Kit.{needs}
 
 nothing-done-requires : tie.Need-nothing-done-requires
 nothing-done-requires c κs = search needs

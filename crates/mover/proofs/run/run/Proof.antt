@@ -1,7 +1,5 @@
 -- The run answers as its definition does: refused by a row of the table, or carried out.
-use mathlib.Core.Path.{sym, _∙_}
-use mathlib.Core.List.{[]}
-use borrow.Author.Needs.{needs}
+use Rattle.flash.proofs.Kit.{sym, _∙_, [], needs}
 use Rattle.split.specs.Request.{requestOf}
 use Rattle.flash.specs.Chip.{Chip}
 use Rattle.method.proofs.basics.AcceptedCalls.{move-accepted}

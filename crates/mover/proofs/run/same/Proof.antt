@@ -1,5 +1,5 @@
 -- 1 just where two numbers are equal.
-use borrow.Author.Tests.{eq-eqb, ne-eqb}
+use Rattle.flash.proofs.Kit.{eq-eqb, ne-eqb}
 use Rattle.mover.proofs.run.same.Statement.{statement}
 use Rattle.mover.proofs.run.same.Tie as tie
 

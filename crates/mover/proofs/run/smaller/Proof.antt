@@ -1,5 +1,5 @@
 -- The smaller of two numbers.
-use native.Mathlib.Omega.{arith}
+use Rattle.flash.proofs.Kit.{arith}
 use Rattle.mover.proofs.run.smaller.Statement.{statement}
 use Rattle.mover.proofs.run.smaller.Tie as tie
 

@@ -1,6 +1,5 @@
 -- The steps of one pass are taken with its tables; without a step nothing is done.
-use mathlib.Core.Path.{sym, ap, _∙_}
-use borrow.Author.Needs.{needs}
+use Rattle.flash.proofs.Kit.{sym, ap, _∙_, needs}
 use Rattle.mover.proofs.RunLaws.{none-taken, none-counted}
 use Rattle.mover.proofs.run.take_pass.Statement.{statement}
 use Rattle.mover.proofs.run.take_pass.Tie as tie

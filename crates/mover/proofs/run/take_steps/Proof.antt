@@ -1,8 +1,5 @@
 -- So many steps leave what the definition's steps leave, and are counted as they are; for the loop of a run.
-use mathlib.Core.Path.{_≡_, sym, ap, _∙_}
-use Prim.Native.Nat.{_+_, _-_, _≤_, _<_}
-use native.Mathlib.Omega.{arith}
-use borrow.Author.Needs.{needs}
+use Rattle.flash.proofs.Kit.{_≡_, sym, ap, _∙_, _+_, _-_, _≤_, _<_, arith, needs}
 use Rattle.method.specs.Move.{moveOf}
 use Rattle.method.specs.Step.{runningOf, steps, tallyOf, operationsFrom}
 use Rattle.method.specs.Place.{lastPlace}

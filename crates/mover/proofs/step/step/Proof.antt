@@ -1,6 +1,5 @@
 -- A step does the operation of its place, and counts it.
-use mathlib.Core.Path.{refl, sym, _∙_}
-use borrow.Author.Needs.{needs}
+use Rattle.flash.proofs.Kit.{refl, sym, _∙_, needs}
 use Rattle.method.specs.Move.{moveOf}
 use Rattle.flash.proofs.Bounds.{block-in-marks, block-in-store}
 use Rattle.method.specs.Place.{write, erase, done, operationAt}

@@ -1,8 +1,5 @@
 -- A write stores the page that the method writes there, by way of the work page.
-use mathlib.Core.Path.{sym}
-use Prim.Native.Nat.{_+_, _*_, _<_}
-use native.Mathlib.Omega.{arith}
-use borrow.Author.Needs.{needs}
+use Rattle.flash.proofs.Kit.{sym, _+_, _*_, _<_, arith, needs}
 use Rattle.method.specs.Move.{moveOf}
 use Rattle.flash.proofs.Bounds.{slot-in-marks, slot-in-store, product-le}
 use Rattle.places.specs.inner.Place.{passOf}

@@ -1,8 +1,5 @@
 -- The slots of a write, gathered by the rows of its set in the pass that it is of.
-use mathlib.Core.Path.{_≡_, refl, _∙_}
-use Prim.Native.Nat.{ℕ, _+_, _-_, _*_, _≤_, _<_}
-use native.Mathlib.Omega.{arith}
-use borrow.Author.Needs.{needs}
+use Rattle.flash.proofs.Kit.{_≡_, refl, _∙_, ℕ, _+_, _-_, _*_, _≤_, _<_, arith, needs}
 use Rattle.flash.specs.Geometry.{slotCount, numberAt}
 use Rattle.flash.proofs.Bounds.{product-le}
 use Rattle.split.specs.Split.{setOf}

@@ -1,11 +1,5 @@
 -- `operation` meets its contract: two refusals, and the three kinds of step.
-use mathlib.Core.Path.{_≡_, sym, ap, _∙_}
-use mathlib.Core.Bool.{true, false}
-use Prim.Native.Nat.{ℕ}
-use native.Mathlib.Omega.{arith}
-use borrow.Author.Needs.{needs}
-use borrow.Author.Tests.{not-true, not-false, lt-ltb, le-ltb}
-use lib.Dec.{ltb}
+use Rattle.flash.proofs.Kit.{_≡_, sym, ap, _∙_, true, false, ℕ, arith, needs, not-true, not-false, lt-ltb, le-ltb, ltb}
 use Rattle.flash.specs.Geometry.{inRange}
 use Rattle.flash.proofs.Bounds.{in-range}
 use Rattle.method.specs.Place.{write, erase, done, operationAt, lastPlace}

@@ -1,7 +1,5 @@
 -- `last_place` meets its contract.
-use Prim.Native.Nat.{_+_, _*_}
-use native.Mathlib.Omega.{arith}
-use borrow.Author.Needs.{needs}
+use Rattle.flash.proofs.Kit.{_+_, _*_, arith, needs}
 use Rattle.flash.proofs.Bounds.{product-le}
 use Rattle.method.specs.Place.{lastPlace}
 use Rattle.places.proofs.place.last_place.Statement.{statement}

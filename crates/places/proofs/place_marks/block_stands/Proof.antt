@@ -1,11 +1,5 @@
 -- `block_stands` meets its contract: each page is looked at, or all at once where the block is due full.
-use mathlib.Core.Path.{_≡_, sym, _∙_}
-use mathlib.Core.Bool.{cond}
-use Prim.Native.Nat.{ℕ, _+_, _-_, _*_, _≤_, _<_}
-use native.Mathlib.Omega.{arith}
-use borrow.Author.Count.{below-more}
-use borrow.Author.Needs.{needs}
-use lib.Dec.{ltb}
+use Rattle.flash.proofs.Kit.{_≡_, sym, _∙_, cond, ℕ, _+_, _-_, _*_, _≤_, _<_, arith, below-more, needs, ltb}
 use Rattle.flash.specs.Geometry.{slot}
 use Rattle.flash.specs.Chip.{erased, markAt}
 use Rattle.flash.proofs.Blocks.{mark-is}

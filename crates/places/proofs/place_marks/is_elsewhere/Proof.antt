@@ -1,8 +1,5 @@
 -- `is_elsewhere` meets its contract: the three grounds of number 5.
-use mathlib.Core.Path.{_≡_, sym, ap, _∙_}
-use Prim.Native.Nat.{ℕ}
-use native.Mathlib.Omega.{arith}
-use borrow.Author.Tests.{not-true, not-false}
+use Rattle.flash.proofs.Kit.{_≡_, sym, ap, _∙_, ℕ, arith, not-true, not-false}
 use Rattle.flash.specs.Lists.{isSame}
 use Rattle.method.specs.Place.{marksOf}
 use Rattle.places.proofs.PlaceLaws.{number-is, is-place}

@@ -1,5 +1,5 @@
 -- `mark_due` meets its contract.
-use borrow.Author.Tests.{lt-ltb, le-ltb}
+use Rattle.flash.proofs.Kit.{lt-ltb, le-ltb}
 use Rattle.places.proofs.place_marks.mark_due.Statement.{statement}
 use Rattle.places.proofs.place_marks.mark_due.Tie as tie
 

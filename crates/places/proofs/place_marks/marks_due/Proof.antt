@@ -1,7 +1,5 @@
 -- `marks_due` meets its contract: below, in and above the block that is being filled.
-use mathlib.Core.Logic.{⊎-elim}
-use borrow.Author.Tests.{ltb-true, ltb-false}
-use borrow.Author.Needs.{needs}
+use Rattle.flash.proofs.Kit.{⊎-elim, ltb-true, ltb-false, needs}
 use Rattle.method.specs.Place.{heldMark, above, written}
 use Rattle.places.proofs.MarkLaws.{due-below, due-above, due-here}
 use Rattle.places.proofs.place_marks.marks_due.Statement.{statement}

@@ -1,11 +1,5 @@
 -- `marks_stand` meets its contract: every block looked at has the marks of the place.
-use mathlib.Core.Path.{_≡_, sym, _∙_}
-use mathlib.Core.Bool.{true}
-use Prim.Native.Nat.{ℕ, _+_, _-_, _≤_, _<_}
-use native.Mathlib.Omega.{arith}
-use borrow.Author.Count.{below-more}
-use borrow.Author.Needs.{needs}
-use borrow.Author.Tests.{not-true, not-false}
+use Rattle.flash.proofs.Kit.{_≡_, sym, _∙_, true, ℕ, _+_, _-_, _≤_, _<_, arith, below-more, needs, not-true, not-false}
 use Rattle.flash.proofs.Bounds.{block-in-marks}
 use Rattle.places.specs.inner.BlockMarks.{blockStands}
 use Rattle.places.proofs.MarkLaws.{all-stand, one-falls}

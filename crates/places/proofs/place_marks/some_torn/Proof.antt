@@ -1,12 +1,5 @@
 -- `some_torn` meets its contract: no slot so far is marked 255 and not blank.
-use mathlib.Core.Path.{_≡_, sym, _∙_}
-use mathlib.Core.Logic.{⊎-elim}
-use mathlib.Core.Bool.{false, _&&_, not}
-use Prim.Native.Nat.{_-_, _≤_}
-use native.Mathlib.Omega.{arith}
-use borrow.Author.Needs.{needs}
-use lib.Dec.{eqb}
-use lib.ListN.{length}
+use Rattle.flash.proofs.Kit.{_≡_, sym, _∙_, ⊎-elim, false, _&&_, not, _-_, _≤_, arith, needs, eqb, length}
 use Rattle.flash.specs.Lists.{range, any}
 use Rattle.flash.specs.Chip.{Chip, erased, markAt, isBlank}
 use Rattle.flash.proofs.Blocks.{mark-is}

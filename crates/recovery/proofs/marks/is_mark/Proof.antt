@@ -1,5 +1,5 @@
 -- `is_mark` meets its contract.
-use borrow.Author.Needs.{needs}
+use Rattle.flash.proofs.Kit.{needs}
 use Rattle.flash.specs.Geometry.{isLetter}
 use Rattle.flash.specs.Chip.{isMark}
 use Rattle.recovery.proofs.marks.is_mark.Statement.{statement}

@@ -1,6 +1,5 @@
 -- `moment` meets its contract: it asks in the order of the definition.
-use borrow.Author.Needs.{needs}
-use borrow.Author.Tests.{eq-eqb, ne-eqb}
+use Rattle.flash.proofs.Kit.{needs, eq-eqb, ne-eqb}
 use Rattle.recovery.specs.inner.Gathered.{momentOf}
 use Rattle.recovery.proofs.marks.moment.Statement.{statement}
 use Rattle.recovery.proofs.marks.moment.Tie as tie

@@ -1,8 +1,5 @@
 -- `pages_known` meets its contract: only a letter is looked for.
-use mathlib.Core.Path.{_≡_, sym, _∙_}
-use mathlib.Core.Bool.{true, false}
-use native.Mathlib.Omega.{arith}
-use borrow.Author.Tests.{lt-ltb, le-ltb}
+use Rattle.flash.proofs.Kit.{_≡_, sym, _∙_, true, false, arith, lt-ltb, le-ltb}
 use Rattle.flash.specs.Geometry.{isLetter}
 use Rattle.flash.specs.Chip.{isFull}
 use Rattle.recovery.specs.inner.Gathered.{pagesKnown}

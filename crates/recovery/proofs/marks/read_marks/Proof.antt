@@ -1,13 +1,6 @@
 -- `read_marks` meets its contract: the search knows what it has met, and what that tells at its end.
-use borrow.Author.Needs.{needs}
-use mathlib.Core.Path.{_≡_, sym, _∙_}
-use mathlib.Core.Logic.{⊎-elim}
-use mathlib.Core.Bool.{true, false}
-use Prim.Native.Nat.{_+_, _-_, _*_, _≤_, _<_}
-use native.Mathlib.Omega.{arith}
-use lib.Dec.{eqb}
-use lib.ListN.{length, getD}
-use borrow.Author.Tests.{eqb-true, eqb-false, not-true, not-false}
+use Rattle.flash.proofs.Kit.{needs, _≡_, sym, _∙_, ⊎-elim, true, false, _+_, _-_, _*_, _≤_, _<_, arith, eqb, length, getD, eqb-true, eqb-false}
+use Rattle.flash.proofs.Kit.{not-true, not-false}
 use Rattle.flash.specs.Geometry.{letter}
 use Rattle.flash.specs.Chip.{isMark}
 use Rattle.flash.proofs.Bounds.{block-in-marks}

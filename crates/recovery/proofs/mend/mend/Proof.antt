@@ -1,13 +1,5 @@
 -- `mend` meets its contract: each of its five ways out is a case of the definition.
-use borrow.Author.Needs.{needs}
-use mathlib.Core.Path.{_≡_, sym, ap, _∙_}
-use mathlib.Core.Bool.{true, false, _||_, not}
-use mathlib.Core.List.{List}
-use Prim.Native.Nat.{ℕ, _≤_}
-use native.Mathlib.Omega.{arith}
-use lib.Dec.{eqb}
-use lib.ListN.{length}
-use borrow.Author.Tests.{not-true, not-false}
+use Rattle.flash.proofs.Kit.{needs, _≡_, sym, ap, _∙_, true, false, _||_, not, List, ℕ, _≤_, arith, eqb, length, not-true, not-false}
 use Rattle.flash.specs.Geometry.{inRange}
 use Rattle.flash.specs.Chip.{Chip}
 use Rattle.flash.proofs.Bounds.{in-range, block-in-store, block-in-marks}

@@ -1,8 +1,5 @@
 -- `place_if_torn` meets its contract: a turn is one of 2 × n, so that the product is small.
-use borrow.Author.Needs.{needs}
-use mathlib.Core.Logic.{⊎-elim}
-use Prim.Native.Nat.{_≤_}
-use native.Mathlib.Omega.{arith}
+use Rattle.flash.proofs.Kit.{needs, ⊎-elim, _≤_, arith}
 use Rattle.recovery.specs.MarksRead.{placeIfTorn}
 use Rattle.recovery.proofs.Answer.{turn-in}
 use Rattle.recovery.proofs.mend.place_if_torn.Statement.{statement}

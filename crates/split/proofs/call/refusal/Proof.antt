@@ -1,11 +1,8 @@
 -- The number that the split call's tests give is that of the table's first row that fits.
-use mathlib.Core.Path.{_≡_, sym, _∙_}
-use mathlib.Core.Bool.{true}
-use borrow.Author.Tests.{not-true, not-false}
+use Rattle.flash.proofs.Kit.{_≡_, sym, _∙_, true, not-true, not-false, needs}
 use Rattle.flash.specs.Geometry.{inRange}
 use Rattle.flash.proofs.Bounds.{in-range}
 use Rattle.split.proofs.Answers.{gives-1, gives-2-list, gives-2-sets, gives-3, gives-0}
-use borrow.Author.Needs.{needs}
 use Rattle.split.proofs.call.refusal.Statement.{statement}
 use Rattle.split.proofs.call.refusal.Tie as tie
 

@@ -1,7 +1,6 @@
 -- The split call answers as its definition does: by the rule where no row fits, else with the row's number and nothing changed.
-use mathlib.Core.Path.{sym, _∙_}
+use Rattle.flash.proofs.Kit.{sym, _∙_, needs}
 use Rattle.split.proofs.Answers.{accepted, answered-0, answered-refused}
-use borrow.Author.Needs.{needs}
 use Rattle.split.proofs.call.split.Statement.{statement}
 use Rattle.split.proofs.call.split.Tie as tie
 

@@ -1,8 +1,5 @@
 -- `target` gives the destination block of a page, from 0.
-use native.Mathlib.Omega.{arith}
-use borrow.Author.Needs.{needs}
-use mathlib.Core.Path.{ap, _∙_}
-use Prim.Native.Nat.{ℕ, _/_}
+use Rattle.flash.proofs.Kit.{arith, needs, ap, _∙_, ℕ, _/_}
 use Rattle.split.specs.Split.{destBlock}
 use Rattle.split.specs.Rule.{blockAt}
 use Rattle.split.proofs.ends.target.Statement.{statement}

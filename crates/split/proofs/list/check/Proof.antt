@@ -1,9 +1,5 @@
 -- `check` tells whether a list is one-to-one, window by window.
-use mathlib.Core.Path.{_≡_, sym, _∙_}
-use Prim.Native.Nat.{_+_, _-_, _≤_}
-use native.Mathlib.Omega.{arith}
-use borrow.Author.Needs.{needs}
-use borrow.Author.Tests.{not-true, not-false}
+use Rattle.flash.proofs.Kit.{_≡_, sym, _∙_, _+_, _-_, _≤_, arith, needs, not-true, not-false}
 use Rattle.split.proofs.CheckLaws.{Passed, one-passed, one-fails, all-differ}
 use Rattle.split.proofs.list.check.Statement.{statement}
 use Rattle.split.proofs.list.check.Tie as tie

@@ -1,11 +1,5 @@
 -- `differ_within` tells whether the entries of a window differ: the bits tell which were met.
-use mathlib.Core.Path.{_≡_, refl, sym, ap, _∙_, subst}
-use mathlib.Core.Logic.{⊎-elim}
-use Prim.Native.Nat.{ℕ, _-_, _/_, _%_}
-use native.Mathlib.Omega.{arith}
-use borrow.Author.Needs.{needs}
-use borrow.Author.Tests.{eqb-true, eqb-false}
-use lib.ListN.{length}
+use Rattle.flash.proofs.Kit.{_≡_, refl, sym, ap, _∙_, subst, ⊎-elim, ℕ, _-_, _/_, _%_, arith, needs, eqb-true, eqb-false, length}
 use Rattle.split.specs.inner.Mask.{FlippedAt}
 use Rattle.split.proofs.CheckLaws.{bitOf, Seen, nothing-seen, all-good, too-large, repeated, one-beside, one-more}
 use Rattle.split.proofs.list.differ_within.Statement.{statement}

@@ -1,6 +1,5 @@
 -- `flip` changes one bit of one mask of a table, and tells what it was.
-use borrow.Author.Needs.{needs}
-use native.Mathlib.Omega.{arith}
+use Rattle.flash.proofs.Kit.{needs, arith}
 use Rattle.split.proofs.MaskLaws.{flipped-at}
 use Rattle.split.proofs.mask.flip.Statement.{statement}
 use Rattle.split.proofs.mask.flip.Tie as tie

@@ -1,6 +1,6 @@
 -- `flip_both` changes two bits of one mask of a table.
 use Rattle.split.proofs.MaskLaws.{flipped-both}
-use borrow.Author.Needs.{needs}
+use Rattle.flash.proofs.Kit.{needs}
 use Rattle.split.proofs.mask.flip_both.Statement.{statement}
 use Rattle.split.proofs.mask.flip_both.Tie as tie
 

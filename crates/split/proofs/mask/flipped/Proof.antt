@@ -1,8 +1,5 @@
 -- `flipped` changes one bit.
-use borrow.Author.Needs.{needs}
-use native.Mathlib.Nat.{one-mul}
-use native.Mathlib.Omega.{arith}
-use lib.Pow.{shl-exact}
+use Rattle.flash.proofs.Kit.{needs, one-mul, arith, shl-exact}
 use Rattle.split.proofs.MaskLaws.{flipped-power}
 use Rattle.split.proofs.mask.flipped.Statement.{statement}
 use Rattle.split.proofs.mask.flipped.Tie as tie

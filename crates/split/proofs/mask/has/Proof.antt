@@ -1,9 +1,5 @@
 -- `has` tells a bit.
-use borrow.Author.Needs.{needs}
-use mathlib.Core.Path.{ap}
-use Prim.Native.Nat.{ℕ, _/_, _^_}
-use lib.Bits.{and-mask}
-use lib.Dec.{eqb}
+use Rattle.flash.proofs.Kit.{needs, ap, ℕ, _/_, _^_, and-mask, eqb}
 use Rattle.split.proofs.mask.has.Statement.{statement}
 use Rattle.split.proofs.mask.has.Tie as tie
 

@@ -1,7 +1,5 @@
 -- `lowest_free` gives the lowest bit that is 0.
-use native.Mathlib.Omega.{arith}
-use Prim.Native.Nat.{_-_, _^_}
-use lib.Count.{trailing-le}
+use Rattle.flash.proofs.Kit.{arith, _-_, _^_, trailing-le}
 use Rattle.split.specs.inner.Mask.{lowestZero}
 use Rattle.split.proofs.MaskLaws.{lowest-zero}
 use Rattle.split.proofs.mask.lowest_free.Statement.{statement}

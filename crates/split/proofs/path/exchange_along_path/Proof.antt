@@ -1,9 +1,5 @@
 -- `exchange_along_path` exchanges the two sets along the path and leaves the tables exact.
-use mathlib.Core.Path.{_≡_, refl, sym, ap, _∙_}
-use Prim.Native.Nat.{ℕ, _+_, _≤_, _<_}
-use native.Mathlib.Omega.{arith}
-use borrow.Author.Tests.{eqb-true, eqb-false, not-true, not-false}
-use lib.ListN.{length, getD, length-set}
+use Rattle.flash.proofs.Kit.{_≡_, refl, sym, ap, _∙_, ℕ, _+_, _≤_, _<_, arith, eqb-true, eqb-false, not-true, not-false, length, getD, length-set}
 use Rattle.flash.specs.inner.Reciprocal.{reciprocalOf}
 use Rattle.split.specs.Rule.{source, destination, setsGiven}
 use Rattle.split.specs.inner.Mask.{bitAt}

@@ -1,9 +1,5 @@
 -- `has_each` tells whether a row has each number below its length: the bits tell which numbers are met.
-use Prim.Native.Nat.{_-_}
-use native.Mathlib.Omega.{arith}
-use borrow.Author.Needs.{needs}
-use mathlib.Core.Path.{sym}
-use lib.ListN.{length}
+use Rattle.flash.proofs.Kit.{_-_, arith, needs, sym, length}
 use Rattle.split.proofs.RowsLaws.{Met, none-met, one-met, too-large, all-met}
 use Rattle.split.proofs.rows.has_each.Statement.{statement}
 use Rattle.split.proofs.rows.has_each.Tie as tie

@@ -1,7 +1,5 @@
 -- `is_split_by_rows` tells whether the sets are a split of a list whose sets the table has by destination.
-use mathlib.Core.Path.{ap₂, _∙_}
-use mathlib.Core.Bool.{_&&_}
-use borrow.Author.Needs.{needs}
+use Rattle.flash.proofs.Kit.{ap₂, _∙_, _&&_, needs}
 use Rattle.split.proofs.RowsLaws.{rows-split}
 use Rattle.split.proofs.rows.is_split_by_rows.Statement.{statement}
 use Rattle.split.proofs.rows.is_split_by_rows.Tie as tie

@@ -1,12 +1,5 @@
 -- `rows_have_each` tells whether each row has each number below m.
-use lib.ListN.{length}
-use Prim.Native.Nat.{ℕ, _+_, _-_, _*_, _≤_, _<_}
-use mathlib.Core.Path.{_≡_, sym, _∙_}
-use mathlib.Core.Bool.{true}
-use borrow.Author.Count.{below-more}
-use borrow.Author.Needs.{needs}
-use borrow.Author.Tests.{not-true, not-false}
-use native.Mathlib.Omega.{arith}
+use Rattle.flash.proofs.Kit.{length, ℕ, _+_, _-_, _*_, _≤_, _<_, _≡_, sym, _∙_, true, below-more, needs, not-true, not-false, arith}
 use Rattle.flash.specs.Lists.{part}
 use Rattle.flash.proofs.Ranges.{all-is, all-not}
 use Rattle.flash.proofs.Parts.{part-fits, lent-part}

@@ -1,10 +1,5 @@
 -- `sets_by_destination` tells whether the list is one-to-one, and then leaves the sets by destination.
-use lib.ListN.{length, take, drop, length-set, length-take, length-drop}
-use Prim.Native.Nat.{_-_}
-use mathlib.Core.Path.{_≡_, refl, sym}
-use mathlib.Core.Bool.{false≢true}
-use borrow.Author.Needs.{needs}
-use native.Mathlib.Omega.{arith}
+use Rattle.flash.proofs.Kit.{length, take, drop, length-set, length-take, length-drop, _-_, _≡_, refl, sym, false≢true, needs, arith}
 use Rattle.split.proofs.RowsLaws.{Entering, clear-front, none-entered, all-entered, no-entry, entry-twice, one-entered}
 use Rattle.split.proofs.rows.sets_by_destination.Statement.{statement}
 use Rattle.split.proofs.rows.sets_by_destination.Tie as tie

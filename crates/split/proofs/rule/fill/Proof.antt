@@ -1,9 +1,5 @@
 -- `fill` fills the set bytes by the rule.
-use mathlib.Core.Path.{_≡_, refl}
-use Prim.Native.Nat.{_-_, _≤_}
-use native.Mathlib.Omega.{arith}
-use borrow.Author.Needs.{needs}
-use lib.ListN.{length}
+use Rattle.flash.proofs.Kit.{_≡_, refl, _-_, _≤_, arith, needs, length}
 use Rattle.split.specs.inner.Work.{Working}
 use Rattle.split.proofs.Filling.{work-starts, work-done}
 use Rattle.split.proofs.rule.fill.Statement.{statement}

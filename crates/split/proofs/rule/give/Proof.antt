@@ -1,9 +1,5 @@
 -- `give` gives page k the set of the rule, and the tables stay exact.
-use mathlib.Core.Path.{refl, sym, _∙_}
-use Prim.Native.Nat.{_-_, _*_, _≤_, _<_}
-use native.Mathlib.Omega.{arith}
-use borrow.Author.Needs.{needs}
-use lib.ListN.{length-set}
+use Rattle.flash.proofs.Kit.{refl, sym, _∙_, _-_, _*_, _≤_, _<_, arith, needs, length-set}
 use Rattle.flash.proofs.Bounds.{product-le}
 use Rattle.split.proofs.Filling.{rooms, number-is, other-lt, plain, blocked}
 use Rattle.split.proofs.rule.give.Statement.{statement}

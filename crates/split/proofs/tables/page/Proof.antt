@@ -1,6 +1,5 @@
 -- `page` gives the page that has a number within a source block.
-use native.Mathlib.Omega.{arith}
-use borrow.Author.Needs.{needs}
+use Rattle.flash.proofs.Kit.{arith, needs}
 use Rattle.flash.proofs.Bounds.{product-le}
 use Rattle.split.proofs.tables.page.Statement.{statement}
 use Rattle.split.proofs.tables.page.Tie as tie

@@ -1,7 +1,5 @@
 -- The bytes written for an input are its output, whatever the input.
-use native.Mathlib.Omega.{arith}
-use mathlib.Core.Path.{_≡_, sym, ap, _∙_}
-use lib.Seq.{length-take-le}
+use Rattle.flash.proofs.Kit.{arith, _≡_, sym, ap, _∙_, length-take-le, needs}
 use Rattle.listing.specs.Lines.{unreadableLine}
 use Rattle.listing.specs.Input.{inputOf, withinLimit}
 use Rattle.listing.specs.ReaderAnswers.{askedAs}
@@ -10,7 +8,6 @@ use Rattle.steplist.proofs.LengthLaws.{refused-short}
 use Rattle.listing.proofs.AreaLaws.{over-front, over-room}
 use Rattle.listing.proofs.PrintLaws.{first-printed}
 use Rattle.steplist.proofs.AskedLaws.{asked, answers}
-use borrow.Author.Needs.{needs}
 use Rattle.steplist.proofs.answer.answer.Statement.{statement}
 use Rattle.steplist.proofs.answer.answer.Tie as tie
 

@@ -1,11 +1,8 @@
 -- An accepted input is listed; here the lent parts get their lengths.
-use native.Mathlib.Omega.{arith}
-use mathlib.Core.Path.{sym, _∙_}
-use Prim.Native.Nat.{_+_, _*_, _≤_}
+use Rattle.flash.proofs.Kit.{arith, sym, _∙_, _+_, _*_, _≤_, needs}
 use Rattle.flash.proofs.Bounds.{product-le}
 use Rattle.listing.proofs.InputLaws.{Bounded, bounded}
 use Rattle.steplist.proofs.RestLaws.{zeros-taken, zeros-length}
-use borrow.Author.Needs.{needs}
 use Rattle.steplist.proofs.answer.put_accepted.Statement.{statement}
 use Rattle.steplist.proofs.answer.put_accepted.Tie as tie
 

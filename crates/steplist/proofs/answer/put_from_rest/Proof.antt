@@ -1,14 +1,10 @@
 -- The store that is filled is at rest, and its move is listed.
-use mathlib.Core.Path.{_≡_}
-use native.Mathlib.Omega.{arith}
-use Prim.Native.Nat.{ℕ}
-use lib.ListN.{replicate, length-replicate}
+use Rattle.flash.proofs.Kit.{_≡_, arith, ℕ, replicate, length-replicate, needs}
 use Rattle.method.specs.State.{atRest}
 use Rattle.method.specs.Step.{runningOf, Running}
 use Rattle.listing.proofs.InputLaws.{bounded}
 use Rattle.steplist.specs.Output.{listed}
 use Rattle.steplist.proofs.StartLaws.{listable, filled}
-use borrow.Author.Needs.{needs}
 use Rattle.steplist.proofs.answer.put_from_rest.Statement.{statement}
 use Rattle.steplist.proofs.answer.put_from_rest.Tie as tie
 

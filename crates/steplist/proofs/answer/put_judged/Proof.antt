@@ -1,14 +1,11 @@
 -- A list is refused or listed as the output has it, and judged before it is cut to 16 bits.
-use native.Mathlib.Omega.{arith}
-use mathlib.Core.Path.{_≡_, sym, ap, _∙_}
-use borrow.Author.Tests.{not-true, not-false}
+use Rattle.flash.proofs.Kit.{arith, _≡_, sym, ap, _∙_, not-true, not-false, needs}
 use Rattle.split.specs.Request.{requestOf}
 use Rattle.split.specs.Answer.{SplitAnswer, splitAnswer}
 use Rattle.steplist.specs.inner.Given.{judgedList, judgedSets}
 use Rattle.listing.proofs.PrintLaws.{first-printed}
 use Rattle.steplist.proofs.LengthLaws.{refused-short}
 use Rattle.steplist.proofs.JudgeLaws.{too-large, not-split, is-split, is-listed}
-use borrow.Author.Needs.{needs}
 use Rattle.steplist.proofs.answer.put_judged.Statement.{statement}
 use Rattle.steplist.proofs.answer.put_judged.Tie as tie
 

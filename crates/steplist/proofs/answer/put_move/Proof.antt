@@ -1,12 +1,8 @@
 -- The numbers of a request are cut into its list and its bytes as its reading says.
-use native.Mathlib.Omega.{arith}
-use mathlib.Core.Path.{sym, _∙_}
-use Prim.Native.Nat.{_≤_}
-use lib.Seq.{length-take-le}
+use Rattle.flash.proofs.Kit.{arith, sym, _∙_, _≤_, length-take-le, needs}
 use Rattle.listing.proofs.InputLaws.{Bounded, bounded, few-originals}
 use Rattle.steplist.proofs.RestLaws.{zeros-length}
 use Rattle.steplist.proofs.AskedLaws.{room, readable, same-request}
-use borrow.Author.Needs.{needs}
 use Rattle.steplist.proofs.answer.put_move.Statement.{statement}
 use Rattle.steplist.proofs.answer.put_move.Tie as tie
 

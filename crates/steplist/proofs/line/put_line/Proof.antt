@@ -1,8 +1,5 @@
 -- `put_line` meets its contract: the line of each kind of step.
-use mathlib.Core.Path.{_≡_, ap, _∙_}
-use Prim.Native.Nat.{ℕ}
-use native.Mathlib.Omega.{arith}
-use borrow.Author.Needs.{needs}
+use Rattle.flash.proofs.Kit.{_≡_, ap, _∙_, ℕ, arith, needs}
 use Rattle.method.specs.Place.{operationAt}
 use Rattle.listing.proofs.PrintLaws.{nothing-printed}
 use Rattle.places.specs.declared.place.Op.{Op}

@@ -1,7 +1,5 @@
 -- The lines of all steps and the end line are the listing of the move.
-use native.Mathlib.Omega.{arith}
-use Prim.Native.Nat.{_+_, _≤_}
-use lib.ListN.{length}
+use Rattle.flash.proofs.Kit.{arith, _+_, _≤_, length, needs}
 use Rattle.method.specs.Move.{moveOf}
 use Rattle.method.specs.Place.{lastPlace}
 use Rattle.method.specs.Step.{runningOf}
@@ -9,7 +7,6 @@ use Rattle.listing.specs.Lines.{endLine}
 use Rattle.steplist.specs.inner.Listing.{mostOutput}
 use Rattle.steplist.proofs.LengthLaws.{few-steps, end-short}
 use Rattle.steplist.proofs.ListingLaws.{few-counted, all-shown}
-use borrow.Author.Needs.{needs}
 use Rattle.steplist.proofs.listed.put_listing.Statement.{statement}
 use Rattle.steplist.proofs.listed.put_listing.Tie as tie
 

@@ -1,12 +1,10 @@
 -- One step is taken as the run takes it, and its line printed.
-use mathlib.Core.Path.{_∙_}
-use native.Mathlib.Omega.{arith}
+use Rattle.flash.proofs.Kit.{_∙_, arith, needs}
 use Rattle.split.specs.Request.{requestOf}
 use Rattle.method.specs.Move.{moveOf}
 use Rattle.method.specs.Step.{runningOf}
 use Rattle.method.proofs.basics.AcceptedCalls.{run-taken}
 use Rattle.steplist.proofs.StepLaws.{OneStep, one-step}
-use borrow.Author.Needs.{needs}
 use Rattle.steplist.proofs.listed.put_step.Statement.{statement}
 use Rattle.steplist.proofs.listed.put_step.Tie as tie
 

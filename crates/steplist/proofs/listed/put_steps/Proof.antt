@@ -1,14 +1,10 @@
 -- The loop over the places shows every step once, and counts them.
-use mathlib.Core.Path.{_≡_, refl}
-use Prim.Native.Nat.{_+_, _-_, _≤_}
-use native.Mathlib.Omega.{arith}
-use lib.ListN.{length}
+use Rattle.flash.proofs.Kit.{_≡_, refl, _+_, _-_, _≤_, arith, length, needs}
 use Rattle.split.specs.Request.{requestOf}
 use Rattle.method.specs.Move.{moveOf}
 use Rattle.steplist.proofs.LengthLaws.{few-steps}
 use Rattle.method.specs.Place.{lastPlace}
 use Rattle.method.specs.Step.{runningOf}
-use borrow.Author.Needs.{needs}
 use Rattle.steplist.specs.inner.Listing.{Shows}
 use Rattle.steplist.proofs.ListingLaws.{listable-at, few-counted, shows-none, shows-more}
 use Rattle.steplist.proofs.listed.put_steps.Statement.{statement}

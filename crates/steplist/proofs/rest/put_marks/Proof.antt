@@ -1,10 +1,6 @@
 -- The marks filled are those at rest.
-use native.Mathlib.Omega.{arith}
-use mathlib.Core.Path.{sym}
-use lib.ListN.{length}
-use lib.Seq.{length-take-le}
+use Rattle.flash.proofs.Kit.{arith, sym, length, length-take-le, needs}
 use Rattle.steplist.proofs.RestLaws.{marks-filled}
-use borrow.Author.Needs.{needs}
 use Rattle.steplist.proofs.rest.put_marks.Statement.{statement}
 use Rattle.steplist.proofs.rest.put_marks.Tie as tie
 

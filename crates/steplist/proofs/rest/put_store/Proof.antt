@@ -1,6 +1,6 @@
 -- The store filled is the blank spare and the originals.
 use Rattle.steplist.proofs.RestLaws.{spare-is, store-filled}
-use borrow.Author.Needs.{needs}
+use Rattle.flash.proofs.Kit.{needs}
 use Rattle.steplist.proofs.rest.put_store.Statement.{statement}
 use Rattle.steplist.proofs.rest.put_store.Tie as tie
 

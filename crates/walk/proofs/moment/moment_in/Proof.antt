@@ -1,5 +1,5 @@
 -- Which of the two numbers is n + 1 goes by the pass.
-use borrow.Author.Needs.{needs}
+use Rattle.flash.proofs.Kit.{needs}
 use Rattle.walk.proofs.moment.moment_in.Statement.{statement}
 use Rattle.walk.proofs.moment.moment_in.Tie as tie
 

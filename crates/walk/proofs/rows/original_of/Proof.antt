@@ -1,11 +1,5 @@
 -- The search finds the first original of the set.
-use mathlib.Core.Path.{_≡_, refl, sym, _∙_}
-use Prim.Native.Nat.{_+_, _≤_}
-use native.Mathlib.Omega.{arith}
-use borrow.Author.Needs.{needs}
-use borrow.Author.Tests.{eq-eqb, ne-eqb}
-use lib.Dec.{eqb}
-use lib.ListN.{length}
+use Rattle.flash.proofs.Kit.{_≡_, refl, sym, _∙_, _+_, _≤_, arith, needs, eq-eqb, ne-eqb, eqb, length}
 use Rattle.flash.specs.Lists.{range, first}
 use Rattle.split.specs.Split.{setOf}
 use Rattle.walk.proofs.TableLaws.{first-here, first-next}

@@ -1,9 +1,5 @@
 -- The table of pages is filled original by original.
-use mathlib.Core.Path.{_≡_, refl, sym, ap, _∙_}
-use Prim.Native.Nat.{ℕ, _+_, _-_, _*_, _/_, _%_, _≤_, _<_}
-use native.Mathlib.Omega.{arith}
-use borrow.Author.Needs.{needs}
-use lib.ListN.{length, set}
+use Rattle.flash.proofs.Kit.{_≡_, refl, sym, ap, _∙_, ℕ, _+_, _-_, _*_, _/_, _%_, _≤_, _<_, arith, needs, length, set}
 use Rattle.split.specs.Split.{setOf}
 use Rattle.walk.specs.inner.Rows.{rowLength}
 use Rattle.walk.specs.inner.Tables.{filledBy, pagesBy}

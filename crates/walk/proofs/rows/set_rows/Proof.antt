@@ -1,11 +1,5 @@
 -- The rows of one set are filled block by block.
-use mathlib.Core.Path.{_≡_, refl, sym, ap, _∙_}
-use Prim.Native.Nat.{ℕ, _+_, _-_, _*_, _/_, _≤_, _<_}
-use native.Mathlib.Nat.{suc-mul}
-use native.Mathlib.Numerals.{add-one}
-use native.Mathlib.Omega.{arith}
-use borrow.Author.Needs.{needs}
-use lib.Dec.{eqb}
+use Rattle.flash.proofs.Kit.{_≡_, refl, sym, ap, _∙_, ℕ, _+_, _-_, _*_, _/_, _≤_, _<_, suc-mul, add-one, arith, needs, eqb}
 use Rattle.flash.specs.Lists.{range, first}
 use Rattle.flash.proofs.Bounds.{product-le}
 use Rattle.split.specs.Split.{setOf}

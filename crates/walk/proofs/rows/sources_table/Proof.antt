@@ -1,9 +1,5 @@
 -- The table of sources is filled original by original.
-use mathlib.Core.Path.{_≡_, refl, ap, _∙_}
-use Prim.Native.Nat.{ℕ, _+_, _-_, _*_, _/_, _≤_, _<_}
-use native.Mathlib.Omega.{arith}
-use borrow.Author.Needs.{needs}
-use lib.ListN.{length, getD, set}
+use Rattle.flash.proofs.Kit.{_≡_, refl, ap, _∙_, ℕ, _+_, _-_, _*_, _/_, _≤_, _<_, arith, needs, length, getD, set}
 use Rattle.flash.proofs.Bounds.{product-le}
 use Rattle.split.specs.Split.{setOf}
 use Rattle.walk.specs.inner.Rows.{rowLength}

@@ -1,10 +1,5 @@
 -- The slots of a write in the backward pass are those of `backwardBy`.
-use mathlib.Core.Path.{_≡_, ap, _∙_}
-use mathlib.Core.List.{List}
-use Prim.Native.Nat.{ℕ, _+_, _-_, _*_, _≤_, _<_}
-use native.Mathlib.Omega.{arith}
-use borrow.Author.Needs.{needs}
-use lib.ListN.{length-set}
+use Rattle.flash.proofs.Kit.{_≡_, ap, _∙_, List, ℕ, _+_, _-_, _*_, _≤_, _<_, arith, needs, length-set}
 use Rattle.flash.proofs.Bounds.{product-le}
 use Rattle.method.proofs.basics.Indexes.{slot-lt}
 use Rattle.walk.specs.inner.Walks.{backwardBy}

@@ -1,9 +1,5 @@
 -- The slots of a write in the forward pass are those of `forwardBy`.
-use mathlib.Core.Path.{_≡_, sym, _∙_}
-use Prim.Native.Nat.{_+_, _*_}
-use native.Mathlib.Omega.{arith}
-use borrow.Author.Needs.{needs}
-use lib.ListN.{length-set}
+use Rattle.flash.proofs.Kit.{_≡_, sym, _∙_, _+_, _*_, arith, needs, length-set}
 use Rattle.flash.proofs.Bounds.{product-le}
 use Rattle.walk.specs.inner.Walks.{plainAt}
 use Rattle.walk.proofs.ForwardLaws.{forward-alone, forward-all}

@@ -1,8 +1,5 @@
 -- Going back gathers the slots of `backBy`.
-use mathlib.Core.Path.{_≡_, refl, ap}
-use Prim.Native.Nat.{ℕ, _+_, _-_, _*_, _≤_, _<_}
-use native.Mathlib.Omega.{arith}
-use borrow.Author.Needs.{needs}
+use Rattle.flash.proofs.Kit.{_≡_, refl, ap, ℕ, _+_, _-_, _*_, _≤_, _<_, arith, needs}
 use Rattle.flash.proofs.Bounds.{product-le}
 use Rattle.walk.specs.inner.Rows.{entryOf}
 use Rattle.walk.specs.inner.Walks.{backBy}

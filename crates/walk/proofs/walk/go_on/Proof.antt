@@ -1,10 +1,5 @@
 -- Going on gathers the slots of `onBy`.
-use mathlib.Core.Path.{_≡_, refl, ap}
-use mathlib.Core.List.{List}
-use Prim.Native.Nat.{ℕ, _+_, _-_, _*_, _≤_, _<_}
-use native.Mathlib.Omega.{arith}
-use borrow.Author.Needs.{needs}
-use lib.ListN.{getD}
+use Rattle.flash.proofs.Kit.{_≡_, refl, ap, List, ℕ, _+_, _-_, _*_, _≤_, _<_, arith, needs, getD}
 use Rattle.flash.proofs.Bounds.{product-le}
 use Rattle.split.proofs.SplitLaws.{block-range}
 use Rattle.method.proofs.basics.Indexes.{slot-lt}

@@ -1,9 +1,5 @@
 -- Read's rules are taken in their order, by the moment in place of the marks.
-use mathlib.Core.Path.{_≡_, refl, sym, ap, _∙_}
-use mathlib.Core.List.{List}
-use Prim.Native.Nat.{ℕ, _+_, _-_, _*_, _/_, _≤_, _<_}
-use native.Mathlib.Omega.{arith}
-use borrow.Author.Needs.{needs}
+use Rattle.flash.proofs.Kit.{_≡_, refl, sym, ap, _∙_, List, ℕ, _+_, _-_, _*_, _/_, _≤_, _<_, arith, needs}
 use Rattle.flash.specs.Geometry.{blockOf}
 use Rattle.flash.proofs.Bounds.{product-le}
 use Rattle.split.specs.Split.{destBlock, setOf}

@@ -1,9 +1,5 @@
 -- The loop takes the highest block of the way back, as `topBy` does.
-use mathlib.Core.Path.{_≡_, refl, sym, ap, _∙_}
-use mathlib.Core.Logic.{⊎-elim}
-use Prim.Native.Nat.{ℕ, _≤_, max}
-use native.Mathlib.Omega.{arith}
-use borrow.Author.Needs.{needs}
+use Rattle.flash.proofs.Kit.{_≡_, refl, sym, ap, _∙_, ⊎-elim, ℕ, _≤_, max, arith, needs}
 use Rattle.walk.specs.inner.Walks.{topBy}
 use Rattle.walk.proofs.RoundLaws.{top-round, top-goes}
 use Rattle.walk.proofs.walk.top_of.Statement.{statement}

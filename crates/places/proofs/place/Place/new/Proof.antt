@@ -1,5 +1,5 @@
 -- `Place::new` meets its contract: the turn tells the pass and the block.
-use borrow.Author.Needs.{needs}
+use Rattle.flash.proofs.Kit.{needs}
 use Rattle.places.proofs.PlaceLaws.{new-forward, turns-in, new-backward}
 use Rattle.places.proofs.place.Place.new.Statement.{statement}
 use Rattle.places.proofs.place.Place.new.Tie as tie

@@ -1,6 +1,5 @@
 -- `Place::next` meets its contract: a page on, or a turn on in the same pass or from the forward pass to the backward one.
-use native.Mathlib.Omega.{arith}
-use borrow.Author.Needs.{needs}
+use Rattle.flash.proofs.Kit.{arith, needs}
 use Rattle.places.proofs.PlaceLaws.{low, high, next-page, next-back, next-forth, last-small}
 use Rattle.places.proofs.place.Place.next.Statement.{statement}
 use Rattle.places.proofs.place.Place.next.Tie as tie

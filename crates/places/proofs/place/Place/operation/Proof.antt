@@ -1,10 +1,5 @@
 -- `Place::operation` meets its contract: what the place holds tells the step.
-use mathlib.Core.Path.{_≡_, sym, ap, _∙_}
-use mathlib.Core.Logic.{⊎-elim}
-use Prim.Native.Nat.{_<_}
-use native.Mathlib.Numerals.{add-one}
-use native.Mathlib.Omega.{arith}
-use borrow.Author.Tests.{eqb-true}
+use Rattle.flash.proofs.Kit.{_≡_, sym, ap, _∙_, ⊎-elim, _<_, add-one, arith, eqb-true}
 use Rattle.flash.proofs.Bools.{both}
 use Rattle.method.specs.Place.{markOf, lastPlace}
 use Rattle.places.specs.declared.place.Op.the-variants.{Write}
