@@ -1,5 +1,5 @@
 -- Rule 5.1: what a cut inside a step may leave, in a run or in the erase of a mend. This is the one relation among the definitions, since marks and
--- bytes that a cut leaves are all that the document leaves open. A cut between steps leaves what the steps left.
+-- bytes that a cut leaves are all that the rules leave open. A cut between steps leaves what the steps left.
 use mathlib.Core.Bool.{Bool, true, false}
 use mathlib.Core.Path.{_≡_}
 use mathlib.Core.Logic.{_⊎_}

@@ -1,4 +1,4 @@
-//! The cases P1 to P11 that the document checks by hand.
+//! The worked cases P1 to P11 (docs/RULES.md, section 10).
 
 use super::tally::{ensure, same, Tally};
 use crate::scene::Scene;

@@ -1,4 +1,4 @@
-//! Inputs of the step program with the output that the document asks for.
+//! Inputs of the step program with the output that the rules ask for.
 
 use super::tally::{ensure, same, Tally};
 use crate::simulator::step_program::step_program;

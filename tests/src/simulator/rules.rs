@@ -1,4 +1,4 @@
-//! The points of the document where a mover can easily differ.
+//! The points of the rules where a mover can easily differ.
 //!
 //! `Correct` takes them all as written. A seeded fault overrides one of them,
 //! which keeps it a single difference from the simulator.
