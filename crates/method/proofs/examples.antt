@@ -3,4 +3,3 @@ pub mod ExampleCuts
 pub mod Cases
 pub mod Example
 pub mod TwoPages
-pub mod BoundsMet

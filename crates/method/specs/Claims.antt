@@ -23,8 +23,7 @@ use Rattle.method.specs.Mend.{Reading, lines, reading}
 use Rattle.method.specs.Answers.{runRows, mendRows, readRows}
 use Rattle.method.specs.Runs.{RunsAddUp, StatesReached}
 use Rattle.method.specs.Demand3.{Demand3}
-use Rattle.method.specs.Example.{ExampleHolds}
-use Rattle.method.specs.BoundsMet.{BoundsMet}
+use Rattle.method.specs.Example.{ExampleHolds, BoundsMet}
 use Rattle.method.specs.TwoPages.{TwoPagesHold}
 use Rattle.method.specs.Cases.{CasesHold}
 
@@ -125,7 +124,7 @@ pub record LowestReturned : Type 0 where
   pub by-read : (R : Request) (chip : Chip) (work : List ℕ) (k : ℕ) → Lowest (readRows R chip work k) (refusal (readRows R chip work k))
 
 pub record Claims : Type 0 where
-  pub cases : CasesHold
+  pub cases : (byte : ℕ) → CasesHold byte
   pub runs : RunsAddUp
   pub states : StatesReached
   pub steps : StepsCounted

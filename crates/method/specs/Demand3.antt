@@ -47,9 +47,9 @@ pub record Allowed (R : Request) (event : Event) (h : History) : Type 0 where
   pub cut-obeys : CutObeys (event .call) (event .cut) (h .chip)
 
 -- each event of a list is allowed where it comes
-pub data AllAllowed (R : Request) : List Event → History → Type 0 where
-  ends : {h : History} → AllAllowed R [] h
-  goes : {event : Event} {events : List Event} {h : History} → Allowed R event h → AllAllowed R events (after event h) → AllAllowed R (event ∷ events) h
+unfoldable pub AllAllowed : Request → List Event → History → Type 0
+AllAllowed R [] h = Unit {0}
+AllAllowed R (event ∷ events) h = Allowed R event h × AllAllowed R events (after event h)
 
 -- ---- the claim
 -- Of one original, whose bytes are `page`, at a moment: it is the sum of at most n whole pages, and a read gives it.
@@ -79,9 +79,9 @@ pub record Keeps (R : Request) (chip₀ : Chip) (h : History) : Type 0 where
   pub goes-on : (work : List ℕ) → length work ≡ workLength (R .sizes) → (budget : ℕ) → lastPlace (R .sizes) ≤ budget
       → runAnswer R (mendAnswer (R .sizes) (h .chip) .chip) work (mendAnswer (R .sizes) (h .chip) .place) budget .finished ≡ 1
 
-pub data AtEach (P : History → Type 0) : List History → Type 0 where
-  none : AtEach P []
-  more : {h : History} {hs : List History} → P h → AtEach P hs → AtEach P (h ∷ hs)
+unfoldable pub AtEach : (History → Type 0) → List History → Type 0
+AtEach P [] = Unit {0}
+AtEach P (h ∷ hs) = P h × AtEach P hs
 
 -- One claim: what holds at every moment of a list of events, and that equal marks mean the same pages summed.
 pub record Demand3 : Type 0 where

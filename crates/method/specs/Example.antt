@@ -1,48 +1,50 @@
 -- Demand 3 is not empty: a list of events with a cut write, a cut recovery, a cut erase and the finish. It is allowed, and the bound
--- on erases is met exactly.
+-- on erases is met exactly. Each other bound is met as well, so that no smaller one would hold (that of the split's walk: crate `split`).
 use mathlib.Core.Bool.{true}
 use mathlib.Core.Path.{_≡_}
 use mathlib.Core.List.{List, [], _∷_}
-use Prim.Native.Nat.{_+_, _*_}
+use Prim.Native.Nat.{ℕ, _+_, _-_, _*_}
+use lib.ListN.{length}
 use Rattle.flash.specs.Lists.{count}
 use Rattle.flash.specs.Chip.{Chip}
-use Rattle.method.specs.Step.{isErase}
+use Rattle.method.specs.Move.{move}
+use Rattle.method.specs.Place.{lastPlace}
+use Rattle.method.specs.Read.{readSlots}
+use Rattle.method.specs.Step.{isErase, erasesBlock}
+use Rattle.method.specs.Answers.{runAnswer}
 use Rattle.method.specs.Runs.{Start}
-use Rattle.method.specs.Events.{run, mend, uncut, inside, Event, History, starting, after, moments}
+use Rattle.method.specs.Events.{Call, run, mend, uncut, inside, Event, History, starting, after, moments}
 use Rattle.method.specs.Demand3.{AllAllowed, AtEach, Keeps}
-use Rattle.method.specs.Cases.{three, threeAtRest}
+use Rattle.method.specs.Cases.{chip, junk, three, threeAtRest, threeBeforeErase, threeTorn}
+
+-- a call that is not cut
+abbrev pub whole : Call → Event
+whole call = record { call = call; cut = uncut }
+
+-- a call cut inside the step after so many finished ones
+abbrev pub cutInside : Call → (finished : ℕ) → (left : Chip) → Event
+cutInside call finished left = record { call = call; cut = inside finished left }
 
 -- what the cut inside step 2 leaves, the write of page 0 of block 1, and the cut inside its recovery
-abbrev pub tornWrite : Chip
-tornWrite = record { store = 5 ∷ 9 ∷ 2 ∷ 4 ∷ []; marks = 1 ∷ 255 ∷ 0 ∷ 0 ∷ [] }
-
--- what the cut inside step 3 leaves, the erase of block 2, which has taken no mark yet
-abbrev pub untouched : Chip
-untouched = record { store = 5 ∷ 3 ∷ 2 ∷ 4 ∷ []; marks = 1 ∷ 1 ∷ 0 ∷ 0 ∷ [] }
-
-abbrev pub cutInWrite : Event
-cutInWrite = record { call = run three (7 ∷ []) 0 5; cut = inside 2 tornWrite }
-
-abbrev pub cutInMend : Event
-cutInMend = record { call = mend (three .sizes); cut = inside 0 tornWrite }
-
-abbrev pub wholeMend : Event
-wholeMend = record { call = mend (three .sizes); cut = uncut }
-
-abbrev pub cutInErase : Event
-cutInErase = record { call = run three (7 ∷ []) 2 9; cut = inside 1 untouched }
-
-abbrev pub lastRun : Event
-lastRun = record { call = run three (7 ∷ []) 3 99; cut = uncut }
+abbrev tornWrite : Chip
+tornWrite = chip (5 ∷ 9 ∷ 2 ∷ 4 ∷ []) (1 ∷ 255 ∷ 0 ∷ 0 ∷ [])
 
 unfoldable pub exampleEvents : List Event
-exampleEvents = cutInWrite ∷ cutInMend ∷ wholeMend ∷ cutInErase ∷ wholeMend ∷ lastRun ∷ []
+exampleEvents =
+    cutInside (run three (junk 1) 0 5) 2 tornWrite
+    ∷ cutInside (mend (three .sizes)) 0 tornWrite
+    ∷ whole (mend (three .sizes))
+    -- inside step 3, the erase of block 2, which has taken no mark yet
+    ∷ cutInside (run three (junk 1) 2 9) 1 threeBeforeErase
+    ∷ whole (mend (three .sizes))
+    ∷ whole (run three (junk 1) 3 99)
+    ∷ []
 
 unfoldable pub afterAll : List Event → History → History
 afterAll [] h = h
 afterAll (event ∷ events) h = afterAll events (after event h)
 
-abbrev pub exampleEnd : History
+abbrev exampleEnd : History
 exampleEnd = afterAll exampleEvents (starting threeAtRest)
 
 pub record ExampleHolds : Type 0 where
@@ -53,3 +55,17 @@ pub record ExampleHolds : Type 0 where
   pub mends : exampleEnd .mends ≡ 3
   pub erases : count isErase (exampleEnd .begun) ≡ 2 * 3 + 3
   pub finished : exampleEnd .finished ≡ true
+
+-- one run from rest to the finish: no cut and no recovery
+abbrev alone : History
+alone = after (whole (run three (junk 1) 0 (lastPlace (three .sizes)))) (starting threeAtRest)
+
+pub record BoundsMet : Type 0 where
+  -- the pages that a read sums: n
+  pub pages : length (readSlots (move three) (threeTorn 0 .marks) 1) ≡ three .sizes .n
+  pub undisturbed : (alone .cuts ≡ 0) × (alone .mends ≡ 0) × (alone .finished ≡ true)
+  pub erases : count isErase (alone .begun) ≡ 2 * three .sizes .n
+  pub block-erases : count (erasesBlock 1) (alone .begun) ≡ 2
+  pub steps : length (alone .begun) ≡ lastPlace (three .sizes)
+  -- with a budget of one step less the finish is not reached
+  pub budget : runAnswer three threeAtRest (junk 1) 0 (lastPlace (three .sizes) - 1) .finished ≡ 0

@@ -14,6 +14,5 @@ pub mod Demand3
 pub mod Cases
 pub mod Example
 pub mod TwoPages
-pub mod BoundsMet
 pub mod Claims
 pub mod inner

@@ -10,8 +10,7 @@ use Rattle.method.proofs.recovery.ErasesNext.{erases-next}
 use Rattle.method.proofs.refusals.LowestReturned.{lowest-returned}
 use Rattle.method.proofs.states.RunsAddUp.{runs-add-up, states-reached}
 use Rattle.method.proofs.demand.EveryEvent.{demand-3}
-use Rattle.method.proofs.examples.Example.{example-holds}
-use Rattle.method.proofs.examples.BoundsMet.{bounds-met}
+use Rattle.method.proofs.examples.Example.{example-holds, bounds-met}
 use Rattle.method.proofs.examples.TwoPages.{two-pages-hold}
 use Rattle.method.proofs.claims.Statement.{statement}
 use Rattle.method.proofs.claims.Tie as tie

@@ -18,7 +18,7 @@ use Rattle.method.specs.Read.{readSlots, readPage}
 use Rattle.method.specs.Answers.{RunAnswer, runRows, runCarriedOut, stepsTaken, runRefused, runAnswer, mendRows, mended, mendAnswer, readRows, readAnswer}
 use Rattle.method.specs.Runs.{Start}
 use Rattle.method.specs.Events.{Call, run, mend, read, CutPoint, Event, History, numberOf, mendSteps, stepsOf, chipAfter, chipReturned, returnsFinished, starting, during, after, stepsFinished, moments}
-use Rattle.method.specs.Demand3.{CutObeys, Allowed, AllAllowed, goes, Keeps, AtEach, none, more, Demand3}
+use Rattle.method.specs.Demand3.{CutObeys, Allowed, AllAllowed, Keeps, AtEach, Demand3}
 use Rattle.method.proofs.basics.AcceptedCalls.{StandsAt}
 use Rattle.method.proofs.states.AtRest.{rest-stands, rest-holds, rest-length}
 use Rattle.method.proofs.states.RunsAddUp.{run-answer, start-accepted}
@@ -121,22 +121,23 @@ module _ (R : Request) (chip₀ : Chip) (S : Start R chip₀) where
 
   -- ---- lists of events
   each-append : (P : History → Type 0) (xs ys : List History) → AtEach P xs → AtEach P ys → AtEach P (xs ++ ys)
+  unfolding AtEach
   each-append P [] ys a b = b
-  each-append P (x ∷ xs) ys (more p a) b = more p (each-append P xs ys a b)
+  each-append P (x ∷ xs) ys a b = (a .0, each-append P xs ys (a .1) b)
 
   each-map : (P : History → Type 0) (f : ℕ → History) (start count : ℕ) → ((i : ℕ) → start ≤ i → i < start + count → P (f i)) → AtEach P (map f (range start count))
-  unfolding range
-  each-map P f start zero p = none
-  each-map P f start (suc count) p = more (p start (omega arith) (omega arith)) (each-map P f (suc start) count (λ i a b. p i (omega arith) (omega arith)))
+  unfolding AtEach range
+  each-map P f start zero p = tt
+  each-map P f start (suc count) p = (p start (omega arith) (omega arith), each-map P f (suc start) count (λ i a b. p i (omega arith) (omega arith)))
 
   all-kept : (events : List Event) (h : History) → Kept M originals h → AllAllowed R events h → AtEach (Keeps R chip₀) (moments events h)
-  unfolding moments after
-  all-kept [] h K O = more (keeps R chip₀ S h K) none
-  all-kept (event ∷ events) h K (goes o O) =
-      let E = event-kept h K (event .call) (event .cut) o in
+  unfolding AllAllowed AtEach moments after
+  all-kept [] h K O = (keeps R chip₀ S h K, tt)
+  all-kept (event ∷ events) h K O =
+      let E = event-kept h K (event .call) (event .cut) (O .0) in
       each-append (Keeps R chip₀) (map (during h (event .call)) (range 0 (suc (stepsFinished h (event .call) (event .cut))))) (moments events (after event h))
       (each-map (Keeps R chip₀) (during h (event .call)) 0 (suc (stepsFinished h (event .call) (event .cut))) (λ i a b. keeps R chip₀ S (during h (event .call) i) (E .inside i (omega arith))))
-      (all-kept events (after event h) (E .after) O)
+      (all-kept events (after event h) (E .after) (O .1))
 
   -- ---- the start
   started : Kept M originals (starting chip₀)

@@ -1,66 +1,57 @@
--- What a cut leaves on a chip of a few slots, slot by slot: how the examples show that a cut obeys the rule.
-use Rattle.flash.proofs.Kit.{_≡_, sym, _∙_, subst, true, false, true≢false, inl, inr, ℕ, zero, suc, _+_, _≤_, _<_, arith, length}
+-- That a cut obeys the rule, as a test of every slot: the examples compute it.
+use Rattle.flash.proofs.Kit.{_≡_, refl, Bool, true, false, cond, _&&_, _||_, inl, inr, ⊎-elim, ℕ, _<_, arith, eqb, length, eqb-true}
+use Rattle.flash.specs.Lists.{range, all, isSame}
 use Rattle.flash.specs.declared.sizes.Sizes.{Sizes}
 use Rattle.flash.specs.Geometry.{slotCount, storeLength, marksLength}
 use Rattle.flash.specs.Chip.{Chip, pageAt, markAt}
-use Rattle.method.specs.Place.{Pass, Operation, write, erase}
+use Rattle.flash.proofs.Bools.{both, or-cases}
+use Rattle.flash.proofs.Ranges.{all-in}
+use Rattle.flash.proofs.Same.{same-eq}
+use Rattle.method.specs.Place.{Operation, write, erase, done}
 use Rattle.method.specs.Cut.{isTornMark, touches, Kept, Touched, CutInside}
-use Rattle.method.proofs.basics.Indexes.{Order, less, same, more, order}
 
-infixr 5 _next_
--- a fact of each of `count` numbers from `start` on
-pub data Upto (Q : ℕ → Type 0) : (start count : ℕ) → Type 0 where
-  end : {start : ℕ} → Upto Q start 0
-  _next_ : {start count : ℕ} → Q start → Upto Q (suc start) count → Upto Q start (suc count)
+module _ (Z : Sizes) (before after : Chip) (t : ℕ) where
+  unfoldable pub isKept : Bool
+  isKept = eqb (markAt (after .marks) t) (markAt (before .marks) t) && isSame (pageAt (Z .p) after t) (pageAt (Z .p) before t)
 
-at : (Q : ℕ → Type 0) (start count t : ℕ) → Upto Q start count → start ≤ t → t < start + count → Q t
-at Q start zero t end low high = absurd (omega arith)
-at Q start (suc count) t (q next rest) low high = go (λ l. at Q (suc start) count t rest l (omega arith)) (order start t)
-  where
-    go : (start < t → Q t) → Order start t → Q t
-    go later (less l) = later l
-    go later (same e) = subst Q e q
-    go later (more g) = absurd (omega arith)
+  unfoldable pub isTouched : Operation → Bool
+  isTouched (write pass block page) = isTornMark (markAt (after .marks) t)
+  isTouched (erase block) = isTornMark (markAt (after .marks) t) || isKept
+  isTouched done = isKept
 
-module _ (Z : Sizes) (op : Operation) (before after : Chip) where
-  pub data SlotLeft (t : ℕ) : Type 0 where
-    touched : touches Z op t ≡ true → Touched Z op before after t → SlotLeft t
-    beside : touches Z op t ≡ false → Kept Z before after t → SlotLeft t
+  kept : isKept ≡ true → Kept Z before after t
+  unfolding isKept
+  kept e =
+      let same = both (eqb (markAt (after .marks) t) (markAt (before .marks) t)) _ e in
+      record { mark = eqb-true _ _ (same .0); page = same-eq _ _ (same .1) }
 
--- its mark and its bytes are as they were
-abbrev Same : Sizes → (before after : Chip) → (t : ℕ) → Type 0
-Same Z before after t = (markAt (after .marks) t ≡ markAt (before .marks) t) × (pageAt (Z .p) after t ≡ pageAt (Z .p) before t)
-
--- the four kinds of slot that the examples have
-module _ {Z : Sizes} {before after : Chip} {t : ℕ} where
-  pub beside-it : {op : Operation} → touches Z op t ≡ false → Same Z before after t → SlotLeft Z op before after t
-  beside-it e (m, p) = beside e (record { mark = m; page = p })
-
-  pub kept-by-erase : {block : ℕ} → touches Z (erase block) t ≡ true → Same Z before after t → SlotLeft Z (erase block) before after t
-  kept-by-erase e (m, p) = touched e (inl (record { mark = m; page = p }))
-
-  pub torn-by-erase : {block : ℕ} → touches Z (erase block) t ≡ true → isTornMark (markAt (after .marks) t) ≡ true
-      → SlotLeft Z (erase block) before after t
-  torn-by-erase e m = touched e (inr (record { mark = m }))
-
-  pub torn-by-write : {pass : Pass} {block page : ℕ} → touches Z (write pass block page) t ≡ true → isTornMark (markAt (after .marks) t) ≡ true
-      → SlotLeft Z (write pass block page) before after t
-  torn-by-write e m = touched e (record { mark = m })
+  touched : (op : Operation) → isTouched op ≡ true → Touched Z op before after t
+  unfolding isTouched
+  touched (write pass block page) e = record { mark = e }
+  touched (erase block) e = ⊎-elim (λ torn. inr (record { mark = torn })) (λ same. inl (kept same)) (or-cases _ _ e)
+  touched done e = kept e
 
 module _ (Z : Sizes) (op : Operation) (before after : Chip) where
-  left-inside : (t : ℕ) → SlotLeft Z op before after t → touches Z op t ≡ true → Touched Z op before after t
-  left-inside t (touched e q) f = q
-  left-inside t (beside e q) f = absurd (true≢false (sym f ∙ e))
+  unfoldable pub mayLeave : (t : ℕ) → Bool
+  mayLeave t = cond (touches Z op t) (isTouched Z before after t op) (isKept Z before after t)
 
-  left-outside : (t : ℕ) → SlotLeft Z op before after t → touches Z op t ≡ false → Kept Z before after t
-  left-outside t (touched e q) f = absurd (true≢false (sym e ∙ f))
-  left-outside t (beside e q) f = q
-
-  pub cut-by-slots : length (after .store) ≡ storeLength Z → length (after .marks) ≡ marksLength Z → Upto (SlotLeft Z op before after) 0 (slotCount Z)
+  pub cut-by-slots : length (after .store) ≡ storeLength Z → length (after .marks) ≡ marksLength Z → all mayLeave (range 0 (slotCount Z)) ≡ true
       → CutInside Z op before after
-  cut-by-slots s m slots = record {
-    store-length = s;
-    marks-length = m;
-    inside = λ t h. left-inside t (at (SlotLeft Z op before after) 0 (slotCount Z) t slots (omega arith) (omega arith));
-    outside = λ t h. left-outside t (at (SlotLeft Z op before after) 0 (slotCount Z) t slots (omega arith) (omega arith));
-  }
+  unfolding mayLeave
+  cut-by-slots s m slots =
+      let each = all-in mayLeave 0 (slotCount Z) slots in
+      record {
+        store-length = s;
+        marks-length = m;
+        inside = λ t h e. touched Z before after t op (rw e at (each t (omega arith) (omega arith)));
+        outside = λ t h e. kept Z before after t (rw e at (each t (omega arith) (omega arith)));
+      }
+
+unfoldable pub cuts-open : Unit {0}
+unfolding isTornMark touches isKept isTouched mayLeave
+cuts-open = tt
+
+-- a pair: what holds of an event, and of those after it
+infixr 5 _then_
+pub _then_ : {A B : Type 0} → A → B → A × B
+a then b = (a, b)
