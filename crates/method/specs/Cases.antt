@@ -10,7 +10,7 @@ use Rattle.flash.specs.declared.sizes.Sizes.{Sizes}
 use Rattle.flash.specs.Chip.{Chip}
 use Rattle.split.specs.OneToOne.{isOneToOne}
 use Rattle.split.specs.Request.{Request, requestOf}
-use Rattle.split.specs.Answer.{SplitAnswer, splitAnswer}
+use Rattle.split.specs.Answer.{splitAnswer}
 use Rattle.method.specs.declared.tally.Tally.{Tally}
 use Rattle.method.specs.Move.{Move, move}
 use Rattle.method.specs.Place.{Operation, write, erase, done, operationAt, marksOf}

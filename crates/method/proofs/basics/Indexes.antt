@@ -1,10 +1,9 @@
 -- Numbers as indexes: two in order, one taken apart into block and page or into turn and step, and elements of lists by index.
-use Rattle.flash.proofs.Kit.{_≡_, sym, ap, _∙_, subst, _≢_, ⊎-elim, true, false, List, [], _∷_, map, ℕ, zero, suc, _+_, _-_, _*_, _/_, _%_, _<_}
+use Rattle.flash.proofs.Kit.{_≡_, sym, ap, _∙_, subst, _≢_, ⊎-elim, List, [], _∷_, map, ℕ, zero, suc, _+_, _-_, _*_, _/_, _%_, _<_}
 use Rattle.flash.proofs.Kit.{not-suc-le-zero, le-of-suc-le-suc, mul-add-div-right, div-eq-of-lt, mul-add-mod-self-right, mod-eq-of-lt, add-zero}
-use Rattle.flash.proofs.Kit.{mul-le-mul-right, suc-mul, div-add-mod', mod-lt, div-lt-iff-lt-mul, arith, eqb, ltb, length, getD, List·getD-append}
-use Rattle.flash.proofs.Kit.{getD-append-add, eqb-true, eqb-false, ltb-true, ltb-false}
+use Rattle.flash.proofs.Kit.{mul-le-mul-right, suc-mul, div-add-mod', mod-lt, div-lt-iff-lt-mul, arith, length, getD, List·getD-append, getD-append-add}
 use Rattle.flash.specs.Lists.{range, downFrom, concatMap}
-use Rattle.flash.proofs.Bools.{bool-cases}
+use Rattle.flash.proofs.Comparisons.{ne-lt, eq-cases}
 
 -- what two different values would prove if they were equal
 pub clash : _≡_ {A = ℕ} 0 1 → ⊥
@@ -17,13 +16,7 @@ pub data Order (a b : ℕ) : Type 0 where
   more : b < a → Order a b
 
 pub order : (a b : ℕ) → Order a b
-order a b = ⊎-elim
-    (λ (e : ltb a b ≡ true). less (ltb-true a b e))
-    (λ (e : ltb a b ≡ false). ⊎-elim
-    (λ (f : ltb b a ≡ true). more (ltb-true b a f))
-    (λ (f : ltb b a ≡ false). same (omega (arith, ltb-false a b e, ltb-false b a f)))
-    (bool-cases (ltb b a)))
-    (bool-cases (ltb a b))
+order a b = ⊎-elim same (λ (ne : a ≢ b). ⊎-elim less more (ne-lt a b ne)) (eq-cases a b)
 
 pub slot-div : (size b j : ℕ) → j < size → (b * size + j) / size ≡ b
 slot-div size b j h = mul-add-div-right (omega arith) b j ∙ ap (λ (x : ℕ). b + x) (div-eq-of-lt h) ∙ add-zero b
@@ -36,10 +29,7 @@ slot-lt size b j count h l = omega (arith, mul-le-mul-right size h, suc-mul b si
 
 -- what holds of one number, and of each other, holds of all
 pub this-or-other : (P : ℕ → Type 0) (a b : ℕ) → P a → (b ≢ a → P b) → P b
-this-or-other P a b here there = ⊎-elim
-    (λ (e : eqb b a ≡ true). subst P (sym (eqb-true b a e)) here)
-    (λ (e : eqb b a ≡ false). there (eqb-false b a e))
-    (bool-cases (eqb b a))
+this-or-other P a b here there = ⊎-elim (λ (e : b ≡ a). subst P (sym e) here) there (eq-cases b a)
 
 -- what holds of page j of block b, for each of them, holds of each slot
 pub each-slot : (size count : ℕ) (P : ℕ → Type 0) → ((b j : ℕ) → b < count → j < size → P (b * size + j)) → (t : ℕ) → t < count * size → P t

@@ -1,5 +1,5 @@
 -- What a list of calls and cuts keeps, and that demand 3 holds of a moment that has it.
-use Rattle.flash.proofs.Kit.{_≡_, refl, sym, ap, _∙_, subst, Bool, true, List, [], ℕ, suc, _+_, _-_, _*_, _≤_, _<_, min, mod-lt, arith, length, getD}
+use Rattle.flash.proofs.Kit.{_≡_, refl, sym, _∙_, subst, Bool, true, List, [], ℕ, suc, _+_, _-_, _*_, _≤_, _<_, min, mod-lt, arith, length, getD}
 use Rattle.flash.proofs.Kit.{take, drop, take-append-drop, eq-eqb, lt-leb}
 use Rattle.flash.specs.Lists.{count, part}
 use Rattle.flash.specs.Tables.{refusal}
@@ -20,8 +20,7 @@ use Rattle.method.specs.Events.{History}
 use Rattle.method.specs.Demand3.{Stays, Keeps}
 use Rattle.method.proofs.basics.MoveShape.{Holding}
 use Rattle.method.proofs.basics.AcceptedCalls.{StandsAt, RunTaken, accepted-move, run-taken, taken-run}
-use Rattle.method.proofs.basics.Indexes.{Order, less, same, more, order}
-use Rattle.method.proofs.places.StepsAtPlaces.{last-stands}
+use Rattle.method.proofs.places.StepsAtPlaces.{filled-early}
 use Rattle.method.proofs.cycles.SetCycles.{block-in, entry-in}
 use Rattle.method.proofs.walks.ReadsOriginals.{reads}
 use Rattle.method.proofs.states.StatesOfPlaces.{is-state}
@@ -40,12 +39,7 @@ count-take {A} test some xs =
 
 -- where an erase is still to come, so is its turn's end
 turn-before : (Z : Sizes) (place : ℕ) → place ≤ lastPlace Z → 1 ≤ Z .m → filled Z place ≡ Z .m → turn Z place < 2 * Z .n
-turn-before Z place h l k = go (order place (lastPlace Z))
-  where
-    go : Order place (lastPlace Z) → turn Z place < 2 * Z .n
-    go (less o) = omega (arith, turn-erases Z place k, turn-high Z (suc place) o)
-    go (same e) = absurd (omega (arith, ap (filled Z) e ∙ last-stands Z .pages-is))
-    go (more o) = absurd (omega arith)
+turn-before Z place h l k = omega (arith, turn-erases Z place k, turn-high Z (suc place) (filled-early Z place h (omega arith)))
 
 module _ (M : Move) where
   abbrev Z : Sizes

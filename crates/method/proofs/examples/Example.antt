@@ -1,5 +1,5 @@
 -- The example is allowed, and demand 3 is applied to it; the bounds are met, by computing.
-use Rattle.flash.proofs.Kit.{refl, [], _∷_, lit<}
+use Rattle.flash.proofs.Kit.{refl, lit<}
 use Rattle.method.specs.Step.{isErase, erasesBlock}
 use Rattle.method.specs.Runs.{Start}
 use Rattle.method.specs.Events.{starting, sizesGiven, numberOf, mendSteps, stepsOf, chipAfter, chipReturned, returnsFinished, isMend, during, returned, cutShort, afterCall, after}

@@ -1,5 +1,5 @@
 -- That a cut obeys the rule, as a test of every slot: the examples compute it.
-use Rattle.flash.proofs.Kit.{_≡_, refl, Bool, true, false, cond, _&&_, _||_, inl, inr, ⊎-elim, ℕ, _<_, arith, eqb, length, eqb-true}
+use Rattle.flash.proofs.Kit.{_≡_, Bool, true, cond, _&&_, _||_, inl, inr, ⊎-elim, ℕ, arith, eqb, length, eqb-true}
 use Rattle.flash.specs.Lists.{range, all, isSame}
 use Rattle.flash.specs.declared.sizes.Sizes.{Sizes}
 use Rattle.flash.specs.Geometry.{slotCount, storeLength, marksLength}

@@ -1,5 +1,5 @@
 -- The list of events with two pages a block is allowed, and leaves what it says.
-use Rattle.flash.proofs.Kit.{_≡_, refl, [], _∷_, ℕ, _≤_, lit<, arith}
+use Rattle.flash.proofs.Kit.{_≡_, refl, ℕ, _≤_, lit<, arith}
 use Rattle.method.specs.Runs.{Start}
 use Rattle.method.specs.Events.{starting, stepsFinished, moments}
 use Rattle.method.specs.Demand3.{AllAllowed}

@@ -1,15 +1,15 @@
 -- What each page holds at a place, what the step there changes of it, and the marks that say so.
-use Rattle.flash.proofs.Kit.{_≡_, refl, sym, ap, ap₂, _∙_, subst, _≢_, ⊎-elim, true, false, List, ℕ, suc, _+_, _/_, _%_, _≤_, _<_, div-add-mod'}
-use Rattle.flash.proofs.Kit.{mod-lt, div-lt-iff-lt-mul, arith, ltb, length, getD, length-map, ext-getD, ltb-true, ltb-false, lt-ltb, le-ltb}
+use Rattle.flash.proofs.Kit.{_≡_, refl, sym, ap, ap₂, _∙_, subst, _≢_, _⊎_, inl, inr, ⊎-elim, List, ℕ, suc, _+_, _/_, _%_, _≤_, _<_, div-add-mod'}
+use Rattle.flash.proofs.Kit.{mod-lt, div-lt-iff-lt-mul, arith, length, getD, length-map, ext-getD, lt-ltb, le-ltb}
 use Rattle.flash.specs.Lists.{range}
 use Rattle.flash.specs.declared.sizes.Sizes.{Sizes}
 use Rattle.flash.specs.Geometry.{slot, slotCount, marksLength, letter}
 use Rattle.flash.specs.Chip.{erased, markAt}
-use Rattle.flash.proofs.Bools.{bool-cases}
+use Rattle.flash.proofs.Comparisons.{lt-cases}
 use Rattle.flash.proofs.Ranges.{length-range}
 use Rattle.method.specs.Place.{Pass, forward, backward, write, erase, markOf, lastPlace, operationAt, passAt, filling, filled, Held, blank, plain, code, final, written, above, heldAt, heldMark, marksOf}
 use Rattle.method.proofs.basics.Indexes.{Order, less, same, more, order, slot-div, slot-mod, slot-lt, map-range-at}
-use Rattle.method.proofs.places.StepsAtPlaces.{nextBlock, Fills, Stands, Turned, located, page-cases, filling-in, after-write, after-erase, operation-writes, operation-erases}
+use Rattle.method.proofs.places.StepsAtPlaces.{nextBlock, Fills, Stands, Turned, located, page-cases, forward-high, filling-in, filled-early, backward-low, after-write, after-erase, operation-writes, operation-erases}
 
 -- How many blocks are full of code when block b has been filled. The block erased next lies at the edge.
 abbrev pub edge : Pass → (b : ℕ) → ℕ
@@ -44,6 +44,25 @@ module _ (Z : Sizes) where
     pub held-blank : b ≡ filling Z place → filled Z place ≤ q → heldAt Z place b q ≡ blank
     unfolding heldAt
     held-blank e h = rw (le-ltb b (filling Z place) (omega arith), le-ltb (filling Z place) b (omega arith), le-ltb q (filled Z place) h)
+
+  -- What a page holds, and where that leaves its block: all that a caller has to tell apart.
+  pub data HeldCases (place b q : ℕ) : Type 0 where
+    coded : b < n → heldAt Z place b q ≡ code → HeldCases place b q
+    ended : 1 ≤ b → heldAt Z place b q ≡ final → HeldCases place b q
+    resting : passAt Z place ≡ forward → 1 ≤ b → heldAt Z place b q ≡ plain → HeldCases place b q
+    empty : filling Z place ≡ b → filled Z place ≤ q → heldAt Z place b q ≡ blank → HeldCases place b q
+
+  pub held-cases : (place b q : ℕ) → place ≤ lastPlace Z → b ≤ n → HeldCases place b q
+  unfolding above written
+  held-cases place b q h b-in = go (order b (filling Z place)) (lt-cases q (filled Z place)) (passAt Z place) refl
+    where
+      go : Order b (filling Z place) → (q < filled Z place) ⊎ (filled Z place ≤ q) → (pass : Pass) → passAt Z place ≡ pass → HeldCases place b q
+      go (less l) _ _ _ = coded (omega (arith, filling-in Z place h)) (held-below place b q l)
+      go (more l) _ forward e = resting e (omega arith) (held-above place b q l ∙ ap above e)
+      go (more l) _ backward e = ended (omega arith) (held-above place b q l ∙ ap above e)
+      go (same f) (inl l) forward e = coded (omega (arith, forward-high Z place h e)) (held-written place b q f l ∙ ap written e)
+      go (same f) (inl l) backward e = ended (omega (arith, backward-low Z place (filled-early Z place h (omega arith)) e)) (held-written place b q f l ∙ ap written e)
+      go (same f) (inr l) _ _ = empty (sym f) l (held-blank place b q f l)
 
   -- a write changes one page, from blank to what the pass writes
   pub record Writes (place : ℕ) (pass : Pass) (b q : ℕ) : Type 0 where
@@ -83,23 +102,19 @@ module _ (Z : Sizes) where
   module _ (place : ℕ) (k : filled Z place ≡ m) (c p : ℕ) (inside : p < m) where
     full-below : (pass : Pass) → passAt Z place ≡ pass → c < edge pass (filling Z place) → heldAt Z place c p ≡ code
     unfolding written
-    full-below forward e l =
-        ⊎-elim
-        (λ (f : ltb c (filling Z place) ≡ true). held-below place c p (ltb-true c (filling Z place) f))
-        (λ (f : ltb c (filling Z place) ≡ false).
-        held-written place c p (omega (arith, ltb-false c (filling Z place) f)) (omega arith) ∙ ap written e)
-        (bool-cases (ltb c (filling Z place)))
+    full-below forward e l = ⊎-elim
+        (held-below place c p)
+        (λ (f : filling Z place ≤ c). held-written place c p (omega arith) (omega arith) ∙ ap written e)
+        (lt-cases c (filling Z place))
     full-below backward e l = held-below place c p l
 
     full-above : (pass : Pass) → passAt Z place ≡ pass → edge pass (filling Z place) ≤ c → heldAt Z place c p ≡ above pass
     unfolding written above
     full-above forward e l = held-above place c p l ∙ ap above e
-    full-above backward e l =
-        ⊎-elim
-        (λ (f : ltb (filling Z place) c ≡ true). held-above place c p (ltb-true (filling Z place) c f) ∙ ap above e)
-        (λ (f : ltb (filling Z place) c ≡ false).
-        held-written place c p (omega (arith, ltb-false (filling Z place) c f)) (omega arith) ∙ ap written e)
-        (bool-cases (ltb (filling Z place) c))
+    full-above backward e l = ⊎-elim
+        (λ (f : filling Z place < c). held-above place c p f ∙ ap above e)
+        (λ (f : c ≤ filling Z place). held-written place c p (omega arith) (omega arith) ∙ ap written e)
+        (lt-cases (filling Z place) c)
 
     pub held-full-below : c < edge (passAt Z place) (filling Z place) → heldAt Z place c p ≡ code
     held-full-below = full-below (passAt Z place) refl

@@ -4,36 +4,16 @@ use Rattle.flash.specs.declared.sizes.Sizes.{Sizes}
 use Rattle.flash.specs.Geometry.{slot}
 use Rattle.flash.specs.Chip.{markAt}
 use Rattle.flash.proofs.Bounds.{in-range}
-use Rattle.method.specs.Place.{Pass, forward, backward, lastPlace, passAt, filling, filled, blank, plain, code, written, above, heldAt}
+use Rattle.method.specs.Place.{Pass, forward, backward, lastPlace, passAt, filling, filled, blank, plain, code, above, heldAt}
 use Rattle.method.specs.Claims.{PlacesDiffer}
 use Rattle.method.proofs.basics.Indexes.{clash, Order, less, same, more, order}
 use Rattle.method.proofs.places.StepsAtPlaces.{turnOf, located, page-cases, filling-in, forward-high}
-use Rattle.method.proofs.places.PagesHeld.{edge, edge-in, marksOf-at, held-below, held-above, held-written, held-blank, held-full-below, held-full-above, held-told}
-
-above-blank : (pass : Pass) → above pass ≢ blank
-unfolding above
-above-blank forward e = clash (cc)
-above-blank backward e = clash (cc)
+use Rattle.method.proofs.places.PagesHeld.{HeldCases, coded, ended, resting, empty, held-cases, edge, edge-in, marksOf-at, held-above, held-blank, held-full-below, held-full-above, held-told}
 
 above-code : (pass : Pass) → above pass ≢ code
 unfolding above
 above-code forward e = clash (cc)
 above-code backward e = clash (cc)
-
-above-plain : (pass : Pass) → above pass ≡ plain → pass ≡ forward
-unfolding above
-above-plain forward e = refl
-above-plain backward e = absurd (clash (cc))
-
-written-blank : (pass : Pass) → written pass ≢ blank
-unfolding written
-written-blank forward e = clash (cc)
-written-blank backward e = clash (cc)
-
-written-plain : (pass : Pass) → written pass ≢ plain
-unfolding written
-written-plain forward e = clash (cc)
-written-plain backward e = clash (cc)
 
 same-pass : (x y : Pass) → (x ≡ forward → y ≡ forward) → (y ≡ forward → x ≡ forward) → x ≡ y
 same-pass forward y f g = sym (f refl)
@@ -47,40 +27,23 @@ edge-told backward b c e = e
 module _ (Z : Sizes) where
   open Sizes Z using (n, m)
 
-  -- the part of a place in which a page lies
-  data Part (place b q : ℕ) : Type 0 where
-    below : heldAt Z place b q ≡ code → Part place b q
-    beyond : heldAt Z place b q ≡ above (passAt Z place) → Part place b q
-    ready : heldAt Z place b q ≡ written (passAt Z place) → Part place b q
-    empty : filling Z place ≡ b → filled Z place ≤ q → heldAt Z place b q ≡ blank → Part place b q
-
-  part : (place b q : ℕ) → Part place b q
-  part place b q = go (order b (filling Z place)) (order q (filled Z place))
-    where
-      go : Order b (filling Z place) → Order q (filled Z place) → Part place b q
-      go (less h) _ = below (held-below Z place b q h)
-      go (more h) _ = beyond (held-above Z place b q h)
-      go (same e) (less k) = ready (held-written Z place b q e k)
-      go (same e) (same k) = empty (sym e) (omega arith) (held-blank Z place b q e (omega arith))
-      go (same e) (more k) = empty (sym e) (omega arith) (held-blank Z place b q e (omega arith))
-
   -- only in the block that is being filled is a page blank, and only in the forward pass plain
-  blank-is : (place b q : ℕ) → heldAt Z place b q ≡ blank → (filling Z place ≡ b) × (filled Z place ≤ q)
-  blank-is place b q h = go (part place b q)
+  blank-is : (place b q : ℕ) → place ≤ lastPlace Z → b ≤ n → heldAt Z place b q ≡ blank → (filling Z place ≡ b) × (filled Z place ≤ q)
+  blank-is place b q i j h = go (held-cases Z place b q i j)
     where
-      go : Part place b q → (filling Z place ≡ b) × (filled Z place ≤ q)
-      go (below e) = absurd (clash (cc))
-      go (beyond e) = absurd (above-blank (passAt Z place) (sym e ∙ h))
-      go (ready e) = absurd (written-blank (passAt Z place) (sym e ∙ h))
+      go : HeldCases Z place b q → (filling Z place ≡ b) × (filled Z place ≤ q)
+      go (coded l e) = absurd (clash (cc))
+      go (ended l e) = absurd (clash (cc))
+      go (resting f l e) = absurd (clash (cc))
       go (empty f k e) = (f, k)
 
-  plain-is : (place b q : ℕ) → heldAt Z place b q ≡ plain → passAt Z place ≡ forward
-  plain-is place b q h = go (part place b q)
+  plain-is : (place b q : ℕ) → place ≤ lastPlace Z → b ≤ n → heldAt Z place b q ≡ plain → passAt Z place ≡ forward
+  plain-is place b q i j h = go (held-cases Z place b q i j)
     where
-      go : Part place b q → passAt Z place ≡ forward
-      go (below e) = absurd (clash (cc))
-      go (beyond e) = above-plain (passAt Z place) (sym e ∙ h)
-      go (ready e) = absurd (written-plain (passAt Z place) (sym e ∙ h))
+      go : HeldCases Z place b q → passAt Z place ≡ forward
+      go (coded l e) = absurd (clash (cc))
+      go (ended l e) = absurd (clash (cc))
+      go (resting f l e) = f
       go (empty f k e) = absurd (clash (cc))
 
   -- two places at which every page holds the same
@@ -96,12 +59,12 @@ module _ (Z : Sizes) where
   forward-too : (p q : ℕ) → 0 < m → Alike p q → passAt Z p ≡ forward → passAt Z q ≡ forward
   unfolding above
   forward-too p q pages A e =
-      plain-is q n 0 (sym (A .held n 0 (omega arith) pages) ∙ held-above Z p n 0 (forward-high Z p (A .p-in) e) ∙ ap above e)
+      plain-is q n 0 (A .q-in) (omega arith) (sym (A .held n 0 (omega arith) pages) ∙ held-above Z p n 0 (forward-high Z p (A .p-in) e) ∙ ap above e)
 
   -- the page that is written next tells the block and the page
   no-sooner : (p q : ℕ) → Alike p q → filled Z p < m → (filling Z q ≡ filling Z p) × (filled Z q ≤ filled Z p)
   no-sooner p q A k =
-      blank-is q (filling Z p) (filled Z p)
+      blank-is q (filling Z p) (filled Z p) (A .q-in) (filling-in Z p (A .p-in))
       (sym (A .held (filling Z p) (filled Z p) (filling-in Z p (A .p-in)) k) ∙ held-blank Z p (filling Z p) (filled Z p) refl (omega arith))
 
   -- where all pages are written, the edge tells the block

@@ -1,10 +1,10 @@
 -- Places: the pass, the block that is being filled and its pages; the step at each place, and the place that it leads to.
-use Rattle.flash.proofs.Kit.{_≡_, refl, sym, ap, ap₂, _∙_, subst, _⊎_, inl, inr, ⊎-elim, true, false, List, [], _∷_, _++_, ℕ, suc, _+_, _-_, _*_, _/_}
-use Rattle.flash.proofs.Kit.{_%_, _≤_, _<_, suc-mul, div-add-mod', mod-lt, div-lt-iff-lt-mul, add-mul, arith, ltb, length, getD, List·getD-append}
-use Rattle.flash.proofs.Kit.{List·getD-eq-default, getD-append-add, getD-at, ltb-true, ltb-false, lt-ltb, le-ltb}
+use Rattle.flash.proofs.Kit.{_≡_, refl, sym, ap, ap₂, _∙_, subst, _⊎_, inl, inr, ⊎-elim, _≢_, List, [], _∷_, _++_, ℕ, suc, _+_, _-_, _*_, _/_}
+use Rattle.flash.proofs.Kit.{_%_, _≤_, _<_, suc-mul, div-add-mod', mod-lt, div-lt-iff-lt-mul, add-mul, arith, length, getD, List·getD-append}
+use Rattle.flash.proofs.Kit.{List·getD-eq-default, getD-append-add, getD-at, lt-ltb, le-ltb}
 use Rattle.flash.specs.Lists.{range, downFrom, concatMap}
 use Rattle.flash.specs.declared.sizes.Sizes.{Sizes}
-use Rattle.flash.proofs.Bools.{bool-cases}
+use Rattle.flash.proofs.Comparisons.{eq-cases, lt-cases}
 use Rattle.flash.proofs.Ranges.{length-range, range-at}
 use Rattle.method.specs.Place.{Pass, forward, backward, Operation, write, erase, done, writes, forwardTurn, backwardTurn, operations, lastPlace, operationAt, passAt, filling, filled}
 use Rattle.method.specs.Claims.{StepsCounted}
@@ -68,9 +68,9 @@ module _ (Z : Sizes) where
   pub located : (place : ℕ) → place ≤ lastPlace Z → Located place
   unfolding lastPlace
   located place h = ⊎-elim
-      (λ (e : ltb turn n ≡ true). of forward turn (ltb-true turn n e) refl)
-      (λ (e : ltb turn n ≡ false). of backward (2 * n - turn) (omega (arith, ltb-false turn n e)) (omega (arith, in-time)))
-      (bool-cases (ltb turn n))
+      (λ (l : turn < n). of forward turn l refl)
+      (λ (l : n ≤ turn). of backward (2 * n - turn) (omega arith) (omega (arith, in-time)))
+      (lt-cases turn n)
     where
       turn : ℕ
       turn = place / (m + 1)
@@ -98,17 +98,9 @@ module _ (Z : Sizes) where
 
   -- in a block's turn, some page is still to be written, or all are and the erase is due
   pub page-cases : (place : ℕ) → (filled Z place < m) ⊎ (filled Z place ≡ m)
-  page-cases place =
-      ⊎-elim
-      (λ (e : ltb (filled Z place) m ≡ true). inl (ltb-true (filled Z place) m e))
-      (λ (e : ltb (filled Z place) m ≡ false). inr (omega (arith, ltb-false (filled Z place) m e, pages-in place)))
-      (bool-cases (ltb (filled Z place) m))
+  page-cases place = ⊎-elim inl (λ (l : m ≤ filled Z place). inr (omega (arith, pages-in place))) (lt-cases (filled Z place) m)
 
-  -- the passes, told by the number
-  pub forward-until : (place : ℕ) → place < n * (m + 1) → passAt Z place ≡ forward
-  unfolding passAt
-  forward-until place h = rw (lt-ltb place (n * (m + 1)) h)
-
+  -- the pass, told by the number
   pub backward-from : (place : ℕ) → n * (m + 1) ≤ place → passAt Z place ≡ backward
   unfolding passAt
   backward-from place h = rw (le-ltb place (n * (m + 1)) h)
@@ -126,6 +118,13 @@ module _ (Z : Sizes) where
       let all : 2 * n - 0 ≡ 2 * n = omega arith in
       let at : 2 * n * (m + 1) + 0 ≡ 2 * n * (m + 1) = omega arith in
       rw (all, at) at (stands-at backward 0 0 (omega arith) (omega arith))
+
+  -- so with a page written in its block the move is not over
+  pub filled-early : (place : ℕ) → place ≤ lastPlace Z → 0 < filled Z place → place < lastPlace Z
+  filled-early place h k = ⊎-elim
+      (λ (e : place ≡ lastPlace Z). absurd (omega (arith, ap (filled Z) e ∙ last-stands .pages-is)))
+      (λ (ne : place ≢ lastPlace Z). omega arith)
+      (eq-cases place (lastPlace Z))
 
   -- before it, a turn is not over
   pub turn-in : (place : ℕ) → place < lastPlace Z → turnOf (passAt Z place) (filling Z place) < 2 * n
@@ -154,17 +153,17 @@ module _ (Z : Sizes) where
     pub pages-is : filled Z place ≡ 0
 
   turned : (place : ℕ) (pass : Pass) (b : ℕ) → Fills pass b → turnOf pass b < 2 * n → place ≡ suc (turnOf pass b) * (m + 1) → Turned place pass b
-  turned place forward b f l e = ⊎-elim
-      (λ (h : ltb (suc b) n ≡ true).
+  turned place forward b f l e =
       let at : suc b * (m + 1) + 0 ≡ place = omega arith in
-      let S : Stands place forward (suc b) 0 = rw at at (stands-at forward (suc b) 0 (ltb-true (suc b) n h) (omega arith)) in
+      ⊎-elim
+      (λ (h : suc b < n).
+      let S : Stands place forward (suc b) 0 = rw at at (stands-at forward (suc b) 0 h (omega arith)) in
       record { pass-is = λ _. S .pass-is; block-is = S .block-is; pages-is = S .pages-is })
-      (λ (h : ltb (suc b) n ≡ false).
-      let last : 2 * n - suc b ≡ suc b = omega (arith, ltb-false (suc b) n h) in
-      let at : suc b * (m + 1) + 0 ≡ place = omega arith in
+      (λ (h : n ≤ suc b).
+      let last : 2 * n - suc b ≡ suc b = omega arith in
       let S : Stands place backward (suc b) 0 = rw (last, at) at (stands-at backward (suc b) 0 f (omega arith)) in
-      record { pass-is = λ k. absurd (omega (arith, ltb-false (suc b) n h, S .block-is)); block-is = S .block-is; pages-is = S .pages-is })
-      (bool-cases (ltb (suc b) n))
+      record { pass-is = λ k. absurd (omega (arith, S .block-is)); block-is = S .block-is; pages-is = S .pages-is })
+      (lt-cases (suc b) n)
   turned place backward b f l e =
       let turn : 2 * n - (b - 1) ≡ suc (2 * n - b) = omega arith in
       let at : suc (2 * n - b) * (m + 1) + 0 ≡ place = omega arith in

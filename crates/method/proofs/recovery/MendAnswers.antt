@@ -1,23 +1,22 @@
 -- Recovery: what mend answers at a moment. It leaves store and marks as a place has them, so a run from there is not refused.
-use Rattle.flash.proofs.Kit.{_≡_, refl, sym, ap, _∙_, subst, true, false, not, some, none, List, [], ℕ, suc, _+_, _*_, _≤_, _<_, arith, length}
-use Rattle.flash.proofs.Kit.{eq-eqb}
+use Rattle.flash.proofs.Kit.{_≡_, refl, sym, ap, subst, true, false, not, some, none, List, [], ℕ, suc, _+_, _≤_, _<_, arith, length, eq-eqb}
 use Rattle.flash.specs.Tables.{refusal}
 use Rattle.flash.specs.declared.sizes.Sizes.{Sizes}
 use Rattle.flash.specs.Geometry.{Bounds, slot, storeLength, marksLength, letter}
 use Rattle.flash.specs.Chip.{Chip, erased, markAt, isBlank, eraseBlock}
 use Rattle.flash.proofs.Blocks.{full-at}
-use Rattle.flash.proofs.Bounds.{range-in, block-in-marks, block-in-store}
-use Rattle.flash.proofs.Chips.{erase-store-length, erase-marks-length, erase-mark, erase-mark-other, erase-blank}
+use Rattle.flash.proofs.Bounds.{range-in}
 use Rattle.flash.proofs.Tables.{refusal-skip, refusal-nil}
-use Rattle.method.specs.Place.{passAt, filling, filled, heldAt, heldMark}
+use Rattle.method.specs.Place.{passAt, filling, filled, blank, heldAt}
 use Rattle.method.specs.Mend.{Reading, reading}
 use Rattle.method.specs.Answers.{badChip, marksAnswer, fitsNone, mendRows, MendAnswer, mended, mendAnswer}
-use Rattle.method.proofs.basics.Indexes.{this-or-other, each-slot}
+use Rattle.method.proofs.basics.Indexes.{each-slot}
 use Rattle.method.specs.inner.Shape.{Shape}
 use Rattle.method.proofs.basics.AcceptedCalls.{StandsAt}
 use Rattle.method.proofs.places.PagesHeld.{MarksAt, held-blank, marks-eq}
 use Rattle.method.proofs.places.PlaceShape.{letterAbove, shape-full}
 use Rattle.method.proofs.places.Turns.{resumes-begun}
+use Rattle.method.proofs.states.NextPlace.{erased-store, erased-marks, erased-stands}
 use Rattle.method.proofs.recovery.Moments.{Moment, place-moment}
 use Rattle.method.proofs.recovery.MendFinds.{Finds, torn, full, finds}
 use Rattle.method.proofs.recovery.MarksFade.{Fades, fades-refl, erase-fades}
@@ -90,36 +89,16 @@ module _ (Z : Sizes) (B : Bounds Z) (chip : Chip) (store-length : length (chip .
     abbrev left : Chip
     left = eraseBlock m P b chip
 
-    store-fits : b * (m * P) + m * P ≤ length (chip .store)
-    store-fits = rw store-length (block-in-store Z b (S .inside))
-
-    marks-fit : b * m + m ≤ length (chip .marks)
-    marks-fit = rw (C .marks-length) (block-in-marks Z b (S .inside))
+    own : (q : ℕ) → heldAt Z place b q ≡ blank
+    own q = held-blank Z place b q refl (omega arith)
 
     left-marks : MarksAt Z place (left .marks)
-    unfolding heldMark
-    left-marks = record {
-      length-is = erase-marks-length m P b chip store-fits marks-fit ∙ C .marks-length;
-      mark-is = λ c q h k.
-          this-or-other (λ x. markAt (left .marks) (slot m x q) ≡ heldMark Z (heldAt Z place x q)) b c
-          (erase-mark m P b chip store-fits marks-fit q k ∙ sym (ap (heldMark Z) (held-blank Z place b q refl (omega arith))))
-          (λ apart. erase-mark-other m P b chip store-fits marks-fit q k c apart ∙ C .others c q apart h k);
-    }
-
-    left-blank : (c q : ℕ) → c < n + 1 → q < m → markAt (left .marks) (slot m c q) ≡ erased → isBlank P left (slot m c q) ≡ true
-    left-blank c q h k e =
-        this-or-other (λ x. isBlank P left (slot m x q) ≡ true) b c (erase-blank m P b chip store-fits marks-fit q k)
-        (λ apart.
-        let before = sym (erase-mark-other m P b chip store-fits marks-fit q k c apart) ∙ e in
-        let r = erased-between Z (chip .marks) b (suc b) _ c q S (omega arith) k before in
-        absurd (apart (omega arith)))
+    left-marks = erased-marks Z chip b (S .inside) store-length (C .marks-length) place own (C .others)
 
     stands-torn : StandsAt Z left place
-    stands-torn = record {
-      inside = C .in-move;
-      marks = marks-eq Z place (left .marks) (B .m-low) left-marks;
-      blank = each-slot m (n + 1) (λ t. markAt (left .marks) t ≡ erased → isBlank P left t ≡ true) left-blank;
-    }
+    stands-torn =
+        erased-stands Z chip b (S .inside) store-length (C .marks-length) place own (C .others)
+        (λ c q apart h k e. (let r = erased-between Z (chip .marks) b (suc b) _ c q S h k e in absurd (apart (omega arith)))) (B .m-low) (C .in-move)
 
     recovered-torn : Recovered Z chip place (record { number = 0; place = place; erases = 1; chip = left })
     recovered-torn = record {
@@ -127,7 +106,7 @@ module _ (Z : Sizes) (B : Bounds Z) (chip : Chip) (store-length : length (chip .
       place-is = refl;
       stands = stands-torn;
       moment = subst (Moment Z (left .marks)) (resumes-begun Z place z) (place-moment Z place (C .in-move) (left .marks) left-marks);
-      store-length = erase-store-length m P b chip store-fits marks-fit ∙ store-length;
+      store-length = erased-store Z chip b (S .inside) store-length (C .marks-length);
       marks-length = left-marks .length-is;
       fades = erase-fades Z b chip (S .inside) store-length (C .marks-length);
     }

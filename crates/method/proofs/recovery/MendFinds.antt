@@ -17,7 +17,7 @@ use Rattle.method.specs.Answers.{marksAnswer, fitsNone}
 use Rattle.method.specs.Claims.{LinesAgree}
 use Rattle.method.specs.inner.Shape.{Shape}
 use Rattle.method.proofs.recovery.LinesAgree.{lines-agree}
-use Rattle.method.proofs.places.StepsAtPlaces.{turnOf, located, last-stands, backward-low}
+use Rattle.method.proofs.places.StepsAtPlaces.{turnOf, located, filled-early, backward-low}
 use Rattle.method.proofs.places.PagesHeld.{edge, MarksAt}
 use Rattle.method.proofs.places.PlaceShape.{letterAbove, shape-full}
 use Rattle.method.proofs.recovery.Moments.{Moment, Block, unfinished, whole, moment-marks, shape-unfinished}
@@ -136,19 +136,7 @@ placeRead (some found) = found .place
 module _ (Z : Sizes) (B : Bounds Z) where
   open Sizes Z using (m)
 
-  -- where all pages of a block are written, its turn's erase is still to come
-  full-early : (place : ℕ) → place ≤ lastPlace Z → filled Z place ≡ m → place < lastPlace Z
-  full-early place h k =
-      ⊎-elim
-      (λ (e : eqb place (lastPlace Z) ≡ true).
-      let at-end : filled Z place ≡ 0 = ap (filled Z) (eqb-true place (lastPlace Z) e) ∙ last-stands Z .pages-is in
-      absurd (omega arith))
-      (λ (e : eqb place (lastPlace Z) ≡ false).
-      let ne : place ≢ lastPlace Z = eqb-false place (lastPlace Z) e in
-      omega arith)
-      (bool-cases (eqb place (lastPlace Z)))
-
-  -- so that in the backward pass it is not block 0, which is never written then
+  -- in the backward pass block 0 is never written
   edge-low : (place : ℕ) → place < lastPlace Z → (pass : Pass) → passAt Z place ≡ pass → 1 ≤ edge pass (filling Z place)
   edge-low place h forward e = omega arith
   edge-low place h backward e = backward-low Z place h e
@@ -176,7 +164,7 @@ module _ (Z : Sizes) (B : Bounds Z) where
         go (whole k f) =
             let A = moment-marks Z marks place M f in
             let S = shape-full Z place (M .in-move) marks A k in
-            let low = edge-low place (full-early place (M .in-move) k) pass refl in
+            let low = edge-low place (filled-early Z place (M .in-move) (omega (arith, B .m-low))) pass refl in
             let at : turnOf Z pass b * (m + 1) + m ≡ place = omega (arith, number) in
             full k A
             (reads Z marks B (M .legal) (fullLine Z marks pass b) (full-in Z marks pass b low (S .inside)) (full-fits Z marks pass b S)

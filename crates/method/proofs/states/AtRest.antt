@@ -15,7 +15,7 @@ use Rattle.method.specs.Place.{forward, blank, plain, above, heldAt, hel
 use Rattle.method.specs.State.{isAtRest, originalsIn}
 use Rattle.method.proofs.basics.MoveShape.{Holding}
 use Rattle.method.proofs.basics.AcceptedCalls.{StandsAt}
-use Rattle.method.proofs.states.NextPlace.{by-slot}
+use Rattle.method.proofs.basics.Indexes.{each-slot}
 use Rattle.method.proofs.places.PagesHeld.{held-above, held-blank, marks-eq}
 use Rattle.method.proofs.places.StepsAtPlaces.{Stands, stands-at}
 use Rattle.method.proofs.cycles.SetCycles.{block-in, entry-in}
@@ -65,21 +65,21 @@ module _ (M : Move) (A : AcceptedMove M) (chip : Chip) (store-length : length (c
   rest-stands = record {
     inside = omega arith;
     marks = marks-eq Z 0 (chip .marks) (B .m-low) (record { length-is = marks-length; mark-is = mark-at-0 });
-    blank = by-slot Z (B .m-low) (λ t. markAt (chip .marks) t ≡ erased → isBlank P chip t ≡ true) at;
+    blank = each-slot m (n + 1) (λ t. markAt (chip .marks) t ≡ erased → isBlank P chip t ≡ true) at;
   }
     where
-      at : (b q : ℕ) → b ≤ n → q < m → markAt (chip .marks) (slot m b q) ≡ erased → isBlank P chip (slot m b q) ≡ true
+      at : (b q : ℕ) → b < n + 1 → q < m → markAt (chip .marks) (slot m b q) ≡ erased → isBlank P chip (slot m b q) ≡ true
       at zero q h k e = spare-blank q k
-      at (suc b) q h k e = absurd (omega (arith, sym (data-mark (suc b) q (omega arith) h k) ∙ e))
+      at (suc b) q h k e = absurd (omega (arith, sym (data-mark (suc b) q (omega arith) (omega arith) k) ∙ e))
 
   -- a page marked with a letter is marked s
   only-s : (t : ℕ) → t < slotCount Z → (i : ℕ) → markAt (chip .marks) t ≡ letter Z i → letter Z i ≡ letter Z 0
   unfolding letter
-  only-s = by-slot Z (B .m-low) (λ t. (i : ℕ) → markAt (chip .marks) t ≡ letter Z i → letter Z i ≡ letter Z 0) at
+  only-s = each-slot m (n + 1) (λ t. (i : ℕ) → markAt (chip .marks) t ≡ letter Z i → letter Z i ≡ letter Z 0) at
     where
-      at : (b q : ℕ) → b ≤ n → q < m → (i : ℕ) → markAt (chip .marks) (slot m b q) ≡ letter Z i → letter Z i ≡ letter Z 0
+      at : (b q : ℕ) → b < n + 1 → q < m → (i : ℕ) → markAt (chip .marks) (slot m b q) ≡ letter Z i → letter Z i ≡ letter Z 0
       at zero q h k i e = absurd (omega (arith, sym (blank-mark P chip (slot m 0 q) (spare-blank q k)) ∙ e))
-      at (suc b) q h k i e = sym e ∙ data-mark (suc b) q (omega arith) h k
+      at (suc b) q h k i e = sym e ∙ data-mark (suc b) q (omega arith) (omega arith) k
 
   -- slot m + k is that of original k
   slot-of : (k : ℕ) → slotOf m k ≡ m + k

@@ -1,26 +1,23 @@
 -- Store and marks as a place has them, with whole pages that hold what they should, are the state of that place.
-use Rattle.flash.proofs.Kit.{_≡_, refl, sym, ap, ap₂, _∙_, subst, ⊎-elim, true, false, List, _++_, ℕ, zero, suc, _+_, _-_, _*_, _/_, _%_, _≤_, _<_}
-use Rattle.flash.proofs.Kit.{div-add-mod', mod-lt, div-lt-iff-lt-mul, suc-mul, not-suc-le-zero, le-of-suc-le-suc, arith, ltb, ltb-true, ltb-false}
-use Rattle.flash.proofs.Kit.{length, getD, take, drop, length-append, take-at, drop-at, drop-drop}
+use Rattle.flash.proofs.Kit.{_≡_, sym, ap, ap₂, _∙_, subst, List, _++_, ℕ, zero, suc, _+_, _-_, _*_, _/_, _%_, _≤_, _<_, suc-mul, not-suc-le-zero}
+use Rattle.flash.proofs.Kit.{le-of-suc-le-suc, arith, length, getD, take, drop, length-append, take-at, drop-at, drop-drop}
 use Rattle.flash.specs.Lists.{range, part, concatMap}
 use Rattle.flash.specs.declared.sizes.Sizes.{Sizes}
 use Rattle.flash.specs.Geometry.{slot, slotOf, numberAt, slotCount, storeLength}
 use Rattle.flash.specs.Chip.{Chip, pageAt, markAt}
-use Rattle.flash.proofs.Bools.{bool-cases}
 use Rattle.flash.proofs.Bounds.{slot-in-marks, slot-in-store}
 use Rattle.flash.proofs.Parts.{length-part, parts-ext}
 use Rattle.flash.proofs.Sums.{sum-one}
 use Rattle.flash.proofs.Chips.{page-is, blank-page}
 use Rattle.method.specs.Move.{Move, AcceptedMove}
 use Rattle.method.specs.Cycle.{sentTo}
-use Rattle.method.specs.Place.{Pass, forward, backward, Held, blank, plain, code, final, written, above, lastPlace, passAt, filling, filled, heldAt, heldMark}
+use Rattle.method.specs.Place.{Held, blank, plain, code, final, heldAt, heldMark}
 use Rattle.method.specs.State.{heldOriginals, heldPage, stateOf}
 use Rattle.method.proofs.basics.MoveShape.{Holding}
 use Rattle.method.proofs.basics.AcceptedCalls.{StandsAt}
-use Rattle.method.proofs.basics.Indexes.{Order, less, same, more, order, slot-div, slot-mod}
+use Rattle.method.proofs.basics.Indexes.{each-slot, slot-div, slot-mod}
 use Rattle.method.proofs.cycles.SetCycles.{sent-in, entry-sent}
-use Rattle.method.proofs.places.StepsAtPlaces.{forward-high, filling-in, backward-low, last-stands}
-use Rattle.method.proofs.places.PagesHeld.{held-below, held-above, held-written, held-blank, MarksAt, marksOf-at}
+use Rattle.method.proofs.places.PagesHeld.{HeldCases, coded, ended, resting, empty, held-cases, MarksAt, marksOf-at}
 use Rattle.method.proofs.states.PagesWritten.{number-in}
 
 -- pages of one size, one after the other
@@ -106,46 +103,21 @@ module _ (M : Move) (A : AcceptedMove M) (originals : List ℕ) (chip : Chip) (p
     held-as : (h : Held) → heldAt Z place b q ≡ h → page ≡ heldPage M originals h b q → page ≡ heldPage M originals (heldAt Z place b q) b q
     held-as h e p = p ∙ ap (λ (x : Held). heldPage M originals x b q) (sym e)
 
-    over : (pass : Pass) → passAt Z place ≡ pass → filling Z place < b → page ≡ heldPage M originals (heldAt Z place b q) b q
-    unfolding above
-    over forward e l = (let h = held-above Z place b q l ∙ ap above e in held-as plain h (is-plain (omega arith) h))
-    over backward e l = (let h = held-above Z place b q l ∙ ap above e in held-as final h (is-final (omega arith) h))
-
-    -- with a page written in its block the move is not over
-    before-end : q < filled Z place → place < lastPlace Z
-    before-end l = ⊎-elim
-        (λ (e : ltb place (lastPlace Z) ≡ true). ltb-true place (lastPlace Z) e)
-        (λ (e : ltb place (lastPlace Z) ≡ false).
-        let at-end : place ≡ lastPlace Z = omega (arith, ltb-false place (lastPlace Z) e, S .inside) in
-        absurd (omega (arith, ap (filled Z) at-end ∙ last-stands Z .pages-is)))
-        (bool-cases (ltb place (lastPlace Z)))
-
-    inside : (pass : Pass) → passAt Z place ≡ pass → b ≡ filling Z place → q < filled Z place → page ≡ heldPage M originals (heldAt Z place b q) b q
-    unfolding written
-    inside forward e f l =
-        let h = held-written Z place b q f l ∙ ap written e in
-        held-as code h (is-code (omega (arith, forward-high Z place (S .inside) e)) h)
-    inside backward e f l =
-        let h = held-written Z place b q f l ∙ ap written e in
-        held-as final h (is-final (omega (arith, backward-low Z place (before-end l) e)) h)
-
     pub page-held : page ≡ heldPage M originals (heldAt Z place b q) b q
-    page-held = go (order b (filling Z place)) (order q (filled Z place))
+    page-held = go (held-cases Z place b q (S .inside) b-in)
       where
-        go : Order b (filling Z place) → Order q (filled Z place) → page ≡ heldPage M originals (heldAt Z place b q) b q
-        go (less l) _ = (let h = held-below Z place b q l in held-as code h (is-code (omega (arith, filling-in Z place (S .inside))) h))
-        go (more l) _ = over (passAt Z place) refl l
-        go (same f) (less l) = inside (passAt Z place) refl f l
-        go (same f) (same k) = (let h = held-blank Z place b q f (omega arith) in held-as blank h (is-blank h))
-        go (same f) (more l) = (let h = held-blank Z place b q f (omega arith) in held-as blank h (is-blank h))
+        go : HeldCases Z place b q → page ≡ heldPage M originals (heldAt Z place b q) b q
+        go (coded l e) = held-as code e (is-code l e)
+        go (ended l e) = held-as final e (is-final l e)
+        go (resting f l e) = held-as plain e (is-plain l e)
+        go (empty f k e) = held-as blank e (is-blank e)
 
   abbrev stored : ℕ → List ℕ
   stored t = heldPage M originals (heldAt Z place (t / m) (t % m)) (t / m) (t % m)
 
   page-stored : (t : ℕ) → t < slotCount Z → pageAt P chip t ≡ stored t
-  page-stored t h =
-      let block : t / m < n + 1 = div-lt-iff-lt-mul (A .ranges .m-low) .1 h in
-      ap (pageAt P chip) (sym (div-add-mod' t m)) ∙ page-held (t / m) (t % m) (omega arith) (mod-lt t (A .ranges .m-low))
+  page-stored = each-slot m (n + 1) (λ t. pageAt P chip t ≡ stored t) (λ b q h k.
+      page-held b q (omega arith) k ∙ ap₂ (λ (x y : ℕ). heldPage M originals (heldAt Z place x y) x y) (sym (slot-div m b q k)) (sym (slot-mod m b q k)))
 
   stored-length : (t : ℕ) → t < slotCount Z → length (stored t) ≡ P
   stored-length t h = ap length (sym (page-stored t h) ∙ page-is P chip t) ∙ length-part P t (chip .store) (rw size (slot-in-store Z t h))
