@@ -1,5 +1,5 @@
 -- Calls that take no step, refused ones and reads among them, keep what is kept; cut or not.
-use Rattle.flash.proofs.Kit.{_≡_, refl, sym, ap, _∙_, subst, _⊎_, inl, inr, ⊎-elim, Bool, true, false, cond, _||_, List, [], _++_, append-nil, ℕ}
+use Rattle.flash.proofs.Kit.{_≡_, refl, sym, ap, _∙_, subst, _⊎_, inl, inr, ⊎-elim, true, false, cond, List, [], _++_, append-nil, or-false, ℕ}
 use Rattle.flash.proofs.Kit.{zero, suc, _≤_, arith, length, take}
 use Rattle.flash.specs.Lists.{count}
 use Rattle.flash.specs.Chip.{Chip}
@@ -94,14 +94,10 @@ module _ (M : Move) (originals : List ℕ) where
                 (λ (e : isMend call ≡ true). inl (rw e (omega arith)))
                 (λ (e : isMend call ≡ false). inr (λ u. rw e u))
                 (bool-cases (isMend call));
-            finished = λ e. still (h .finished) (rw unfinished at e);
+            finished = λ e. rw (unfinished, or-false) at e;
             cuts = λ e. e;
           })
           K
-        where
-          still : (b : Bool) → (b || false) ≡ true → b ≡ true
-          still true e = refl
-          still false e = e
 
       no-steps : length (stepsOf call (h .chip)) ≡ 0
       no-steps = ap length none

@@ -1,10 +1,10 @@
 -- What a list of calls and cuts keeps, and that demand 3 holds of a moment that has it.
-use Rattle.flash.proofs.Kit.{_≡_, refl, sym, _∙_, subst, Bool, true, List, [], ℕ, suc, _+_, _-_, _*_, _≤_, _<_, min, mod-lt, arith, length, getD}
+use Rattle.flash.proofs.Kit.{_≡_, refl, sym, _∙_, subst, Bool, true, List, [], ℕ, suc, _+_, _-_, _*_, _≤_, _<_, min, arith, length, getD}
 use Rattle.flash.proofs.Kit.{take, drop, take-append-drop, eq-eqb, lt-leb}
 use Rattle.flash.specs.Lists.{count, part}
 use Rattle.flash.specs.Tables.{refusal}
 use Rattle.flash.specs.declared.sizes.Sizes.{Sizes}
-use Rattle.flash.specs.Geometry.{slotOf, blockOf, pageOf, originalCount, storeLength, workLength}
+use Rattle.flash.specs.Geometry.{slotOf, originalCount, storeLength, workLength}
 use Rattle.flash.specs.Chip.{Chip, pageAt}
 use Rattle.flash.proofs.Searches.{count-append}
 use Rattle.flash.proofs.Tables.{refusal-skip, refusal-nil}
@@ -21,13 +21,12 @@ use Rattle.method.specs.Demand3.{Stays, Keeps}
 use Rattle.method.proofs.basics.MoveShape.{Holding}
 use Rattle.method.proofs.basics.AcceptedCalls.{StandsAt, RunTaken, accepted-move, run-taken, taken-run}
 use Rattle.method.proofs.places.StepsAtPlaces.{filled-early}
-use Rattle.method.proofs.cycles.SetCycles.{block-in, entry-in}
 use Rattle.method.proofs.walks.ReadsOriginals.{reads}
 use Rattle.method.proofs.states.StatesOfPlaces.{is-state}
 use Rattle.method.proofs.states.AtRest.{rest-page, rest-length}
 use Rattle.method.proofs.states.RunsAddUp.{run-answer, start-accepted}
 use Rattle.method.proofs.places.Turns.{turn, turn-high, turn-erases}
-use Rattle.method.proofs.recovery.Moments.{Moment, moment-shape, finished-marks}
+use Rattle.method.proofs.recovery.Moments.{Moment, moment-shape, finished-page}
 use Rattle.method.proofs.recovery.MendFinds.{moment-fits}
 use Rattle.method.proofs.recovery.MendAnswers.{recovers}
 use Rattle.method.proofs.places.ErasesCounted.{at-most-twice}
@@ -126,11 +125,7 @@ module _ (R : Request) (chip₀ : Chip) (S : Start R chip₀) where
         rw (F .done) (omega (arith, at-most-twice W b, count-take (erasesBlock b) (F .taken) (operations W)))
 
     final : h .finished ≡ true → (k : ℕ) → k < originalCount W → pageAt (W .p) chip (slotOf (W .m) (getD (M .list) k 0)) ≡ pageAt (W .p) chip₀ (slotOf (W .m) k)
-    final e k k-in =
-        let to = getD (M .list) k 0 in
-        let b = block-in M A to (entry-in M A k k-in) in
-        let last = subst (Moment W (chip .marks)) (K .ended e) (K .moment) in
-        K .holds .final k k-in (finished-marks W (chip .marks) last (blockOf (W .m) to) (pageOf (W .m) to) (b .low) (b .high) (mod-lt to (A .ranges .m-low))) ∙ first-page k
+    final e k k-in = finished-page M A originals chip (subst (Moment W (chip .marks)) (K .ended e) (K .moment)) (K .holds) k k-in ∙ first-page k
 
     goes-on : (work : List ℕ) → length work ≡ workLength W → (budget : ℕ) → lastPlace W ≤ budget
         → runAnswer R (mendAnswer W chip .chip) work (mendAnswer W chip .place) budget .finished ≡ 1

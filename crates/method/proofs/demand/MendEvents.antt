@@ -1,5 +1,5 @@
 -- A mend with the shared sizes keeps what is kept: before and after its erase, once it has returned, and where it is cut.
-use Rattle.flash.proofs.Kit.{_≡_, refl, sym, ap, _∙_, subst, Bool, true, false, cond, _||_, List, [], _∷_, _++_, append-nil, none, some, ℕ, zero, suc}
+use Rattle.flash.proofs.Kit.{_≡_, refl, sym, ap, _∙_, subst, true, cond, List, [], _∷_, _++_, append-nil, or-false, none, some, ℕ, zero, suc}
 use Rattle.flash.proofs.Kit.{_+_, _≤_, arith, eqb, length, getD, take}
 use Rattle.flash.specs.Lists.{count}
 use Rattle.flash.specs.declared.sizes.Sizes.{Sizes}
@@ -104,11 +104,7 @@ module _ (M : Move) (A : AcceptedMove M) (originals : List ℕ) (h : History) (K
 
     returned-kept : Kept M originals (returned h call)
     unfolding returned isMend chipReturned returnsFinished
-    returned-kept = kept-as (returned h call) (R .moment) mended-size mended-holds (rw one-step begun-one) refl (λ f. still (h .finished) f)
-      where
-        still : (b : Bool) → (b || false) ≡ true → b ≡ true
-        still true f = refl
-        still false f = f
+    returned-kept = kept-as (returned h call) (R .moment) mended-size mended-holds (rw one-step begun-one) refl (λ f. rw or-false at f)
 
     inside-kept : (left : Chip) → CutInside Z (erase (filling Z (K .place))) (h .chip) left → Kept M originals (cutShort h call 1 left)
     unfolding cutShort isMend

@@ -1,5 +1,5 @@
 -- A run that is not refused keeps what is kept: after each of its steps, once it has returned, and where it is cut.
-use Rattle.flash.proofs.Kit.{_≡_, refl, sym, ap, _∙_, subst, _⊎_, inl, inr, ⊎-elim, Bool, true, false, cond, _||_, true≢false, List, [], _∷_, _++_, ℕ}
+use Rattle.flash.proofs.Kit.{_≡_, refl, sym, ap, _∙_, subst, ⊎-elim, true, false, cond, true≢false, List, [], _∷_, _++_, ℕ}
 use Rattle.flash.proofs.Kit.{suc, _+_, _-_, _*_, _≤_, _<_, min, div-add-mod', arith, eqb, length, getD, take, drop, length-take, length-drop}
 use Rattle.flash.proofs.Kit.{take-add, take-take, getD-take, getD-drop, eqb-true}
 use Rattle.flash.specs.Lists.{count}
@@ -7,7 +7,7 @@ use Rattle.flash.specs.Tables.{refusal}
 use Rattle.flash.specs.declared.sizes.Sizes.{Sizes}
 use Rattle.flash.specs.Geometry.{originalCount}
 use Rattle.flash.specs.Chip.{Chip}
-use Rattle.flash.proofs.Bools.{bool-cases}
+use Rattle.flash.proofs.Bools.{bool-cases, never-both, or-cases}
 use Rattle.flash.proofs.Bounds.{range-in}
 use Rattle.flash.proofs.Searches.{count-append}
 use Rattle.split.specs.Request.{Request}
@@ -22,12 +22,11 @@ use Rattle.method.specs.Claims.{StepsCounted, PlacesDiffer}
 use Rattle.method.proofs.basics.AcceptedCalls.{StandsAt, RunTaken, run-taken}
 use Rattle.method.proofs.basics.MoveShape.{Holding}
 use Rattle.method.proofs.places.StepsCounted.{steps-counted}
-use Rattle.method.proofs.places.StepsAtPlaces.{last-stands}
 use Rattle.method.proofs.places.PlacesDiffer.{places-differ}
 use Rattle.method.proofs.places.Tallies.{erases-tallied}
 use Rattle.method.proofs.states.StepsKeepPages.{steps-hold}
 use Rattle.method.proofs.states.RunsAddUp.{run-answer, still-taken}
-use Rattle.method.proofs.places.Turns.{turn, turn-last, turn-writes, turn-erases, turn-resumes, resumesAt, resumes-there, resumes-begun}
+use Rattle.method.proofs.places.Turns.{turn, turn-last, turn-writes, turn-erases, turn-resumes, resumesAt, resumes-there, resumes-last}
 use Rattle.method.proofs.recovery.Moments.{Moment, stands-moment}
 use Rattle.method.proofs.recovery.MendFinds.{moment-unique}
 use Rattle.method.proofs.recovery.MarksFade.{cut-fades, holding-fades}
@@ -164,7 +163,7 @@ module _ (R : Request) (A : AcceptedMove (move R)) (originals : List ℕ) (full 
     still-over e =
         let p = over e in
         let z : place + i ≡ lastPlace Z = omega (arith, total-in) in
-        ap (resumesAt Z) z ∙ resumes-begun Z (lastPlace Z) (last-stands Z .pages-is)
+        ap (resumesAt Z) z ∙ resumes-last Z
 
   -- ---- the event
   begun-to : (i : ℕ) → i ≤ total → h .begun ++ take i (stepsOf call (h .chip)) ≡ h .begun ++ operationsFrom Z place i
@@ -183,24 +182,13 @@ module _ (R : Request) (A : AcceptedMove (move R)) (originals : List ℕ) (full 
       kept-at total (omega arith) (returned h call)
       (ap (λ (a : RunAnswer). a .chip) (run-answer R (h .chip) work place budget ok))
       (ap (λ (o : List Operation). h .begun ++ o) steps-are)
-      refl (λ e. e) (λ e. done-now (h .finished) refl e)
+      refl (λ e. e) (λ e. ⊎-elim (still-over total (omega arith)) (λ f. ap (resumesAt Z) (reported f) ∙ resumes-last Z) (or-cases (h .finished) _ e))
     where
-      at-end : place + total ≡ lastPlace Z → resumesAt Z (place + total) ≡ lastPlace Z
-      at-end z = ap (resumesAt Z) z ∙ resumes-begun Z (lastPlace Z) (last-stands Z .pages-is)
+      told : eqb (place + total) (lastPlace Z) ≡ false → eqb (runAnswer R (h .chip) work place budget .finished) 1 ≡ false
+      told q = ap (λ (a : RunAnswer). eqb (a .finished) 1) (run-answer R (h .chip) work place budget ok) ∙ rw q
 
       reported : eqb (runAnswer R (h .chip) work place budget .finished) 1 ≡ true → place + total ≡ lastPlace Z
-      reported e = told (bool-cases (eqb (place + total) (lastPlace Z)))
-        where
-          f : eqb (cond (eqb (place + total) (lastPlace Z)) 1 0) 1 ≡ true
-          f = sym (ap (λ (a : RunAnswer). eqb (a .finished) 1) (run-answer R (h .chip) work place budget ok)) ∙ e
-
-          told : (eqb (place + total) (lastPlace Z) ≡ true) ⊎ (eqb (place + total) (lastPlace Z) ≡ false) → place + total ≡ lastPlace Z
-          told (inl q) = eqb-true _ _ q
-          told (inr q) = absurd (true≢false (sym (rw q at f)))
-
-      done-now : (b : Bool) → h .finished ≡ b → (b || eqb (runAnswer R (h .chip) work place budget .finished) 1) ≡ true → resumesAt Z (place + total) ≡ lastPlace Z
-      done-now true e q = still-over total (omega arith) e
-      done-now false e q = at-end (reported q)
+      reported e = ⊎-elim (eqb-true _ _) (λ q. absurd (never-both e (told q))) (bool-cases (eqb (place + total) (lastPlace Z)))
 
   between-kept : (i : ℕ) → i ≤ total → Kept M originals (cutShort h call i (chipAfter call (h .chip) i))
   unfolding cutShort isMend

@@ -1,14 +1,15 @@
 -- What each page holds at a place, what the step there changes of it, and the marks that say so.
-use Rattle.flash.proofs.Kit.{_≡_, refl, sym, ap, ap₂, _∙_, subst, _≢_, _⊎_, inl, inr, ⊎-elim, List, ℕ, suc, _+_, _/_, _%_, _≤_, _<_, div-add-mod'}
-use Rattle.flash.proofs.Kit.{mod-lt, div-lt-iff-lt-mul, arith, length, getD, length-map, ext-getD, lt-ltb, le-ltb}
+use Rattle.flash.proofs.Kit.{_≡_, refl, sym, ap, ap₂, _∙_, subst, _≢_, _⊎_, inl, inr, ⊎-elim, List, ℕ, suc, _+_, _/_, _%_, _≤_, _<_}
+use Rattle.flash.proofs.Kit.{arith, length, getD, length-map, ext-getD, lt-ltb, le-ltb}
 use Rattle.flash.specs.Lists.{range}
 use Rattle.flash.specs.declared.sizes.Sizes.{Sizes}
 use Rattle.flash.specs.Geometry.{slot, slotCount, marksLength, letter}
-use Rattle.flash.specs.Chip.{erased, markAt}
+use Rattle.flash.specs.Chip.{Chip, erased, markAt}
 use Rattle.flash.proofs.Comparisons.{lt-cases}
 use Rattle.flash.proofs.Ranges.{length-range}
 use Rattle.method.specs.Place.{Pass, forward, backward, write, erase, markOf, lastPlace, operationAt, passAt, filling, filled, Held, blank, plain, code, final, written, above, heldAt, heldMark, marksOf}
-use Rattle.method.proofs.basics.Indexes.{Order, less, same, more, order, slot-div, slot-mod, slot-lt, map-range-at}
+use Rattle.method.proofs.basics.AcceptedCalls.{StandsAt}
+use Rattle.method.proofs.basics.Indexes.{Order, less, same, more, order, slot-div, slot-mod, slot-lt, each-slot, map-range-at}
 use Rattle.method.proofs.places.StepsAtPlaces.{nextBlock, Fills, Stands, Turned, located, page-cases, forward-high, filling-in, filled-early, backward-low, after-write, after-erase, operation-writes, operation-erases}
 
 -- How many blocks are full of code when block b has been filled. The block erased next lies at the edge.
@@ -206,14 +207,14 @@ module _ (Z : Sizes) where
       mark : ℕ → ℕ
       mark t = heldMark Z (heldAt Z place (t / m) (t % m))
 
+  pub stands-marks : {chip : Chip} {place : ℕ} → StandsAt Z chip place → MarksAt place (chip .marks)
+  stands-marks {chip} {place} S = subst (MarksAt place) (sym (S .marks)) (marksOf-at place)
+
   -- no others
   pub marks-eq : (place : ℕ) (marks : List ℕ) → 0 < m → MarksAt place marks → marks ≡ marksOf Z place
   unfolding markAt
   marks-eq place marks pages A =
       let B = marksOf-at place in
       ext-getD erased marks (marksOf Z place) (A .length-is ∙ sym (B .length-is))
-      (λ t h.
-      let b-in : t / m < n + 1 = div-lt-iff-lt-mul pages .1 (rw (A .length-is) at h) in
-      let one = A .mark-is (t / m) (t % m) (omega arith) (mod-lt t pages) in
-      let other = B .mark-is (t / m) (t % m) (omega arith) (mod-lt t pages) in
-      subst (λ (i : ℕ). getD marks i erased ≡ getD (marksOf Z place) i erased) (div-add-mod' t m) (one ∙ sym other))
+      (λ t h. each-slot m (n + 1) (λ u. getD marks u erased ≡ getD (marksOf Z place) u erased)
+      (λ b q l k. A .mark-is b q (omega arith) k ∙ sym (B .mark-is b q (omega arith) k)) t (rw (A .length-is) at h))

@@ -1,14 +1,14 @@
 -- What is counted of the steps: over a list in two parts, over the steps from one place to another.
-use Rattle.flash.proofs.Kit.{_≡_, refl, ap, _∙_, ⊎-elim, List, [], _∷_, _++_, ℕ, zero, suc, _+_, _*_, _/_, _%_, _≤_, _<_, suc-mul, div-add-mod'}
+use Rattle.flash.proofs.Kit.{_≡_, refl, ap, _∙_, ⊎-elim, List, [], _∷_, _++_, ℕ, zero, suc, _+_, _/_, _≤_, _<_}
 use Rattle.flash.proofs.Kit.{add-zero, arith, take, drop, drop-cons, take-add, drop-drop}
 use Rattle.flash.specs.declared.sizes.Sizes.{Sizes}
 use Rattle.method.specs.declared.tally.Tally.{Tally}
 use Rattle.method.specs.Place.{Operation, write, erase, done, operations, lastPlace, operationAt, filled}
 use Rattle.method.specs.Step.{nothingDone, tallied, tallyOf, added, operationsFrom}
 use Rattle.method.specs.Claims.{StepsCounted}
-use Rattle.method.proofs.basics.Indexes.{slot-div}
 use Rattle.method.proofs.places.StepsAtPlaces.{page-cases, operation-writes, operation-erases}
 use Rattle.method.proofs.places.StepsCounted.{steps-counted}
+use Rattle.method.proofs.places.Turns.{turn-writes, turn-erases}
 
 same-tally : {s t : Tally} → s .steps ≡ t .steps → s .writes ≡ t .writes → s .erases ≡ t .erases → s ≡ t
 same-tally a b c = λ i. record { steps = a i; writes = b i; erases = c i }
@@ -43,17 +43,6 @@ tally-total (write pass b q ∷ xs) = omega (arith, tally-total xs)
 tally-total (erase b ∷ xs) = omega (arith, tally-total xs)
 tally-total (done ∷ xs) = tally-total xs
 
--- counting on, inside a turn of m + 1 steps and at its end
-next-in-turn : (m place : ℕ) → place % (m + 1) < m → suc place / (m + 1) ≡ place / (m + 1)
-next-in-turn m place k =
-    let at : suc place ≡ place / (m + 1) * (m + 1) + suc (place % (m + 1)) = omega (arith, div-add-mod' place (m + 1)) in
-    ap (λ (p : ℕ). p / (m + 1)) at ∙ slot-div (m + 1) (place / (m + 1)) (suc (place % (m + 1))) (omega arith)
-
-next-turn : (m place : ℕ) → place % (m + 1) ≡ m → suc place / (m + 1) ≡ suc (place / (m + 1))
-next-turn m place k =
-    let at : suc place ≡ suc (place / (m + 1)) * (m + 1) + 0 = omega (arith, div-add-mod' place (m + 1), suc-mul (place / (m + 1)) (m + 1)) in
-    ap (λ (p : ℕ). p / (m + 1)) at ∙ slot-div (m + 1) (suc (place / (m + 1))) 0 (omega arith)
-
 module _ (Z : Sizes) where
   open Sizes Z using (m)
 
@@ -84,15 +73,10 @@ module _ (Z : Sizes) where
   step-tallied : (place : ℕ) (t : Tally) → place < lastPlace Z
       → (tallied (operationAt Z place) t .steps ≡ t .steps + 1)
       × (tallied (operationAt Z place) t .erases + place / (m + 1) ≡ t .erases + suc place / (m + 1))
-  unfolding tallied filled
-  step-tallied place t h =
-      ⊎-elim
-      (λ (k : place % (m + 1) < m).
-      let e = next-in-turn m place k in
-      rw (operation-writes Z place h k) (refl, omega arith))
-      (λ (k : place % (m + 1) ≡ m).
-      let e = next-turn m place k in
-      rw (operation-erases Z place h k) (refl, omega arith))
+  unfolding tallied
+  step-tallied place t h = ⊎-elim
+      (λ (k : filled Z place < m). (let e = turn-writes Z place k in rw (operation-writes Z place h k) (refl, omega arith)))
+      (λ (k : filled Z place ≡ m). (let e = turn-erases Z place k in rw (operation-erases Z place h k) (refl, omega arith)))
       (page-cases Z place)
 
   -- As many steps are counted as are taken, and an erase for each turn that they end.

@@ -4,7 +4,7 @@ use Rattle.flash.proofs.Kit.{div-lt-iff-lt-mul, mul-div-cancel, arith, ltb, lt-
 use Rattle.flash.specs.declared.sizes.Sizes.{Sizes}
 use Rattle.method.specs.Place.{lastPlace, passAt, filling, filled}
 use Rattle.method.proofs.basics.Indexes.{slot-div}
-use Rattle.method.proofs.places.StepsAtPlaces.{turnOf, Stands, stands-at, located, page-cases}
+use Rattle.method.proofs.places.StepsAtPlaces.{turnOf, Stands, stands-at, located, page-cases, last-stands}
 
 module _ (Z : Sizes) where
   open Sizes Z using (n, m)
@@ -59,6 +59,9 @@ module _ (Z : Sizes) where
       (λ k. resumes-start place k ∙ omega (arith, div-add-mod' place (m + 1)))
       (λ k. resumes-there place k)
       (page-cases Z place)
+
+  pub resumes-last : resumesAt (lastPlace Z) ≡ lastPlace Z
+  resumes-last = resumes-begun (lastPlace Z) (last-stands Z .pages-is)
 
   pub turn-resumes : (place : ℕ) → turn (resumesAt place) ≡ turn place
   turn-resumes place =

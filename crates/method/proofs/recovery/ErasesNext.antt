@@ -1,17 +1,23 @@
 -- The block that mend erases is the one that is written next.
-use Rattle.flash.proofs.Kit.{_≡_, sym, ap, subst, _∙_, inl, inr, ⊎-elim, true, false, List, none, some, ℕ, _+_, _-_, _*_, _≤_, _<_, arith}
+use Rattle.flash.proofs.Kit.{_≡_, sym, ap, subst, _∙_, inl, inr, ⊎-elim, List, none, some, ℕ, _+_, _-_, _*_, _≤_, _<_, arith}
 use Rattle.flash.specs.Tables.{Row}
 use Rattle.flash.specs.declared.sizes.Sizes.{Sizes}
-use Rattle.flash.proofs.Bools.{bool-cases}
 use Rattle.flash.proofs.Bounds.{in-range}
 use Rattle.flash.proofs.Comparisons.{lt-cases}
 use Rattle.method.specs.Place.{Pass, forward, backward, lastPlace}
-use Rattle.method.specs.Mend.{Reading, forwardTorn, backwardTorn, forwardFull, backwardFull, lines, legalMarks, reading}
+use Rattle.method.specs.Mend.{Reading, forwardTorn, backwardTorn, forwardFull, backwardFull}
 use Rattle.method.specs.Claims.{WrittenNext, ErasesNext}
-use Rattle.method.proofs.recovery.FittingMarks.{first-fit}
+use Rattle.method.proofs.recovery.FittingMarks.{read-row}
 use Rattle.method.proofs.basics.Indexes.{slot-lt}
-use Rattle.method.proofs.recovery.LinesAgree.{Fit, torn-forth, torn-back, full-forth, full-back, fit}
+use Rattle.method.proofs.recovery.LinesAgree.{Fit, torn-forth, torn-back, full-forth, full-back}
 use Rattle.method.proofs.places.StepsAtPlaces.{turnOf, Fills, Stands, stands-at, operation-writes, operation-done}
+
+-- a reading with no block to erase is none that has one
+kept-next : {at place block : ℕ} {Q : Type 0} → _≡_ {A = Reading} (record { place = at; toErase = none }) (record { place = place; toErase = some block }) → Q
+kept-next {at} {place} {block} e =
+    let q : none ≡ some block = ap (λ (r : Reading). r .toErase) e in
+    let z : _≡_ {A = ℕ} 0 1 = cc in
+    absurd (omega arith)
 
 module _ (Z : Sizes) (pages : 1 ≤ Z .m) (marks : List ℕ) where
   open Sizes Z using (n, m)
@@ -35,6 +41,15 @@ module _ (Z : Sizes) (pages : 1 ≤ Z .m) (marks : List ℕ) where
       (λ (l : lastPlace Z ≤ at). inr (operation-done Z at l, last (last-turn (turnOf Z pass b) l)))
       (lt-cases at (lastPlace Z))
 
+  -- and one that has it goes by that block
+  erased-next : {at place block : ℕ} (b : ℕ) → WrittenNext Z at b
+      → _≡_ {A = Reading} (record { place = at; toErase = some b }) (record { place = place; toErase = some block }) → WrittenNext Z place block
+  erased-next {at} {place} {block} b W e =
+      let p : at ≡ place = ap (λ (r : Reading). r .place) e in
+      let q : some b ≡ some block = ap (λ (r : Reading). r .toErase) e in
+      let q : b ≡ block = cc in
+      rw (← p, ← q) W
+
   backward-starts : (b : ℕ) → b ≤ n → WrittenNext Z ((2 * n - b) * (m + 1)) b
   backward-starts b h = turn-starts backward b h (λ l. omega arith)
 
@@ -47,28 +62,14 @@ module _ (Z : Sizes) (pages : 1 ≤ Z .m) (marks : List ℕ) where
 
   row-next : (row : Row Reading) (place block : ℕ) → Fit Z pages marks row → row .gives ≡ record { place = place; toErase = some block } → WrittenNext Z place block
   unfolding forwardTorn backwardTorn forwardFull backwardFull
-  row-next row place block (torn-forth b T e) f =
-      let same = sym e ∙ f in
-      let p : b * (m + 1) ≡ place = ap (λ (r : Reading). r .place) same in
-      let q : some b ≡ some block = ap (λ (r : Reading). r .toErase) same in
-      let q : b ≡ block = cc in
-      rw (← p, ← q) (forward-starts b (T .low))
-  row-next row place block (torn-back b T e) f =
-      let same = sym e ∙ f in
-      let p : (2 * n - b) * (m + 1) ≡ place = ap (λ (r : Reading). r .place) same in
-      let q : some b ≡ some block = ap (λ (r : Reading). r .toErase) same in
-      let q : b ≡ block = cc in
-      rw (← p, ← q) (backward-starts b (T .low))
-  row-next row place block (full-forth b F e) f = let q : none ≡ some block = ap (λ (r : Reading). r .toErase) (sym e ∙ f) in let z : _≡_ {A = ℕ} 0 1 = cc in absurd (omega arith)
-  row-next row place block (full-back b F e) f = let q : none ≡ some block = ap (λ (r : Reading). r .toErase) (sym e ∙ f) in let z : _≡_ {A = ℕ} 0 1 = cc in absurd (omega arith)
+  row-next row place block (torn-forth b T e) f = erased-next b (forward-starts b (T .low)) (sym e ∙ f)
+  row-next row place block (torn-back b T e) f = erased-next b (backward-starts b (T .low)) (sym e ∙ f)
+  row-next row place block (full-forth b F e) f = kept-next (sym e ∙ f)
+  row-next row place block (full-back b F e) f = kept-next (sym e ∙ f)
 
 pub erases-next : ErasesNext
-unfolding ErasesNext reading
+unfolding ErasesNext
 erases-next Z h marks place block e =
     let pages = in-range Z h .m-low in
-    ⊎-elim
-    (λ (l : legalMarks Z marks ≡ true).
-    let r = first-fit (lines Z marks) _ (rw l at e) in
-    row-next Z pages marks (r .0) place block (fit Z pages marks (r .0) (r .1) (r .2)) (r .3))
-    (λ (l : legalMarks Z marks ≡ false). (let q : none ≡ some _ = rw l at e in let z : _≡_ {A = ℕ} 0 1 = cc in absurd (omega arith)))
-    (bool-cases (legalMarks Z marks))
+    let r = read-row Z pages marks _ e in
+    row-next Z pages marks (r .0) place block (r .1) (r .2)

@@ -12,7 +12,7 @@ use Rattle.method.proofs.basics.MoveShape.{Shaped}
 use Rattle.method.proofs.recovery.LinesAgree.{Torn, Filled, Fit, torn-forth, torn-back, full-forth, full-back, fit}
 
 -- the row that is found fits
-pub first-fit : {A : Type 0} (rows : List (Row A)) (found : A) → firstFit rows ≡ some found → (row : Row A) × List·Memᴰ row rows × (row .fits ≡ true) × (row .gives ≡ found)
+first-fit : {A : Type 0} (rows : List (Row A)) (found : A) → firstFit rows ≡ some found → (row : Row A) × List·Memᴰ row rows × (row .fits ≡ true) × (row .gives ≡ found)
 unfolding firstFit
 first-fit {A} [] found e = (let z : _≡_ {A = ℕ} 0 1 = cc in absurd (omega arith))
 first-fit {A} (top ∷ rows) found e = ⊎-elim
@@ -46,6 +46,16 @@ module _ (Z : Sizes) (pages : 0 < Z .m) (marks : List ℕ) where
     inside = F .high;
   }
 
+  -- what mend reads is told by a row that fits
+  pub read-row : (found : Reading) → reading Z marks ≡ some found → (row : Row Reading) × Fit Z pages marks row × (row .gives ≡ found)
+  unfolding reading
+  read-row found e = ⊎-elim
+      (λ (l : legalMarks Z marks ≡ true).
+      let r = first-fit (lines Z marks) found (rw l at e) in
+      (r .0, fit Z pages marks (r .0) (r .1) (r .2), r .3))
+      (λ (l : legalMarks Z marks ≡ false). (let q : none ≡ some found = rw l at e in let z : _≡_ {A = ℕ} 0 1 = cc in absurd (omega arith)))
+      (bool-cases (legalMarks Z marks))
+
   shaped-row : (row : Row Reading) → Fit Z pages marks row → Shaped Z marks
   shaped-row row (torn-forth b T e) = record { low = b; high = suc b; i = 0; pass = inl refl; shape = torn-shape 0 b T }
   shaped-row row (torn-back b T e) = record { low = b; high = suc b; i = 2; pass = inr refl; shape = torn-shape 2 b T }
@@ -53,8 +63,4 @@ module _ (Z : Sizes) (pages : 0 < Z .m) (marks : List ℕ) where
   shaped-row row (full-back b F e) = record { low = b; high = b; i = 2; pass = inr refl; shape = filled-shape 2 b F }
 
   pub shaped : (found : Reading) → reading Z marks ≡ some found → Shaped Z marks
-  unfolding reading
-  shaped found e = ⊎-elim
-      (λ (l : legalMarks Z marks ≡ true). (let r = first-fit (lines Z marks) found (rw l at e) in shaped-row (r .0) (fit Z pages marks (r .0) (r .1) (r .2))))
-      (λ (l : legalMarks Z marks ≡ false). (let q : none ≡ some found = rw l at e in let z : _≡_ {A = ℕ} 0 1 = cc in absurd (omega arith)))
-      (bool-cases (legalMarks Z marks))
+  shaped found e = (let r = read-row found e in shaped-row (r .0) (r .1))

@@ -1,18 +1,21 @@
 -- Moments of a move: the marks that places have, and those that cuts leave. A moment goes by the place where the move goes on after
 -- a mend, which the marks tell (Recovery).
-use Rattle.flash.proofs.Kit.{_≡_, refl, sym, ap, _∙_, subst, _≢_, ⊎-elim, true, List, ℕ, suc, _+_, _*_, _≤_, _<_, div-add-mod', arith, length, lt-ltb}
-use Rattle.flash.specs.Lists.{all}
+use Rattle.flash.proofs.Kit.{_≡_, refl, sym, ap, _∙_, subst, _≢_, ⊎-elim, true, List, ℕ, suc, _+_, _*_, _≤_, _<_, div-add-mod', mod-lt, arith, length}
+use Rattle.flash.proofs.Kit.{getD, lt-ltb}
+use Rattle.flash.specs.Lists.{all, part}
 use Rattle.flash.specs.declared.sizes.Sizes.{Sizes}
-use Rattle.flash.specs.Geometry.{isLetter, slot, marksLength, letter}
-use Rattle.flash.specs.Chip.{Chip, erased, isMark, markAt}
+use Rattle.flash.specs.Geometry.{isLetter, slot, slotOf, blockOf, pageOf, originalCount, marksLength, letter}
+use Rattle.flash.specs.Chip.{Chip, erased, isMark, pageAt, markAt}
 use Rattle.flash.proofs.Searches.{all-of}
+use Rattle.method.specs.Move.{Move, AcceptedMove}
 use Rattle.method.specs.Place.{lastPlace, passAt, filling, filled, Held, blank, plain, code, final, above, heldAt, heldMark}
 use Rattle.method.proofs.basics.Indexes.{Order, less, same, more, order, this-or-other, each-slot}
 use Rattle.method.specs.inner.Shape.{Shape}
-use Rattle.method.proofs.basics.MoveShape.{Shaped}
+use Rattle.method.proofs.basics.MoveShape.{Shaped, Holding}
 use Rattle.method.proofs.basics.AcceptedCalls.{StandsAt}
+use Rattle.method.proofs.cycles.SetCycles.{block-in, entry-in}
 use Rattle.method.proofs.places.StepsAtPlaces.{Stands, page-cases, filling-in, last-stands}
-use Rattle.method.proofs.places.PagesHeld.{edge, MarksAt, marksOf-at, held-below, held-above, held-blank}
+use Rattle.method.proofs.places.PagesHeld.{edge, MarksAt, stands-marks, held-below, held-above, held-blank}
 use Rattle.method.proofs.places.PlaceShape.{letterAbove, which-pass, mark-above, shape-of, shape-full}
 use Rattle.method.proofs.places.Turns.{turn, resumesAt, resumes-start, resumes-there, start-stands}
 
@@ -96,7 +99,7 @@ module _ (Z : Sizes) where
 
   -- ---- the end of the move
   -- all data blocks are full of s + 2
-  pub finished-marks : (marks : List ℕ) → Moment marks (lastPlace Z) → (b q : ℕ) → 1 ≤ b → b ≤ n → q < m → markAt marks (slot m b q) ≡ letter Z 2
+  finished-marks : (marks : List ℕ) → Moment marks (lastPlace Z) → (b q : ℕ) → 1 ≤ b → b ≤ n → q < m → markAt marks (slot m b q) ≡ letter Z 2
   unfolding heldMark above
   finished-marks marks M b q low h k =
       let E = last-stands Z in
@@ -149,5 +152,12 @@ module _ (Z : Sizes) where
 
 -- a chip that stands at a place
 pub stands-moment : (Z : Sizes) (chip : Chip) (place : ℕ) → StandsAt Z chip place → Moment Z (chip .marks) (resumesAt Z place)
-stands-moment Z chip place S =
-    place-moment Z place (S .inside) (chip .marks) (subst (MarksAt Z place) (sym (S .marks)) (marksOf-at Z place))
+stands-moment Z chip place S = place-moment Z place (S .inside) (chip .marks) (stands-marks Z S)
+
+-- once the move is over, every original lies where the list sends it
+pub finished-page : (M : Move) (A : AcceptedMove M) (originals : List ℕ) (chip : Chip) → Moment (M .sizes) (chip .marks) (lastPlace (M .sizes)) → Holding M originals chip
+    → (k : ℕ) → k < originalCount (M .sizes) → pageAt (M .sizes .p) chip (slotOf (M .sizes .m) (getD (M .list) k 0)) ≡ part (M .sizes .p) k originals
+finished-page M A originals chip N H k h =
+    let to = getD (M .list) k 0 in
+    let b = block-in M A to (entry-in M A k h) in
+    H .final k h (finished-marks (M .sizes) (chip .marks) N (blockOf (M .sizes .m) to) (pageOf (M .sizes .m) to) (b .low) (b .high) (mod-lt to (A .ranges .m-low)))

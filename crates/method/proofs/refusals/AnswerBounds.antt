@@ -8,10 +8,10 @@ use Rattle.flash.specs.Chip.{Chip}
 use Rattle.flash.proofs.Bools.{bool-cases, both}
 use Rattle.flash.proofs.Tables.{refusal-hit, refusal-miss, refusal-nil, refusal-zero}
 use Rattle.flash.proofs.Bounds.{in-range}
-use Rattle.method.specs.Mend.{Reading, reading, lines, legalMarks, forwardTorn, backwardTorn, forwardFull, backwardFull}
+use Rattle.method.specs.Mend.{Reading, reading, forwardTorn, backwardTorn, forwardFull, backwardFull}
 use Rattle.method.specs.Answers.{MendAnswer, mendRows, mended, mendAnswer}
-use Rattle.method.proofs.recovery.LinesAgree.{Fit, torn-forth, torn-back, full-forth, full-back, fit}
-use Rattle.method.proofs.recovery.FittingMarks.{first-fit}
+use Rattle.method.proofs.recovery.LinesAgree.{Fit, torn-forth, torn-back, full-forth, full-back}
+use Rattle.method.proofs.recovery.FittingMarks.{read-row}
 
 -- no number of a table is above a limit
 abbrev within : (limit : ℕ) → List (Row ℕ) → Bool
@@ -42,13 +42,7 @@ module _ (Z : Sizes) (B : Bounds Z) (marks : List ℕ) where
   row-place row (full-back b F e) = rw e (place-in (2 * n - b) m (omega (arith, B .n-high)) (B .m-high))
 
   reading-place : (found : Reading) → reading Z marks ≡ some found → found .place ≤ 8384
-  unfolding reading
-  reading-place found e = ⊎-elim
-      (λ (l : legalMarks Z marks ≡ true).
-      let r = first-fit (lines Z marks) found (rw l at e) in
-      rw (← r .3) (row-place (r .0) (fit Z (B .m-low) marks (r .0) (r .1) (r .2))))
-      (λ (l : legalMarks Z marks ≡ false). (let q : none ≡ some found = rw l at e in let z : _≡_ {A = ℕ} 0 1 = cc in absurd (omega arith)))
-      (bool-cases (legalMarks Z marks))
+  reading-place found e = (let r = read-row Z (B .m-low) marks found e in rw (← r .2) (row-place (r .0) (r .1)))
 
 pub record SmallMend (answer : MendAnswer) : Type 0 where
   pub number : answer .number ≤ 6

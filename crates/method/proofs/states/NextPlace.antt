@@ -1,5 +1,5 @@
 -- A step leads from what a place has to what the next place has, whatever bytes are stored.
-use Rattle.flash.proofs.Kit.{_≡_, sym, ap, _∙_, subst, _≢_, true, List, ℕ, suc, _+_, _*_, _/_, _%_, _≤_, _<_, arith, length, replicate}
+use Rattle.flash.proofs.Kit.{_≡_, sym, ap, _∙_, _≢_, true, List, ℕ, suc, _+_, _*_, _/_, _%_, _≤_, _<_, arith, length, replicate}
 use Rattle.flash.specs.declared.sizes.Sizes.{Sizes}
 use Rattle.flash.specs.Geometry.{Bounds, slot, slotCount, storeLength, marksLength, letter}
 use Rattle.flash.specs.Chip.{Chip, erased, pageAt, markAt, isBlank, eraseBlock, writePage}
@@ -9,7 +9,7 @@ use Rattle.method.specs.Move.{Lent}
 use Rattle.method.specs.Place.{Pass, forward, backward, markOf, blank, lastPlace, heldAt, heldMark}
 use Rattle.method.proofs.basics.AcceptedCalls.{StandsAt}
 use Rattle.method.proofs.basics.Indexes.{this-or-other, each-slot, slot-div, slot-mod}
-use Rattle.method.proofs.places.PagesHeld.{Writes, Erases, MarksAt, marksOf-at, marks-eq, mark-written}
+use Rattle.method.proofs.places.PagesHeld.{Writes, Erases, MarksAt, stands-marks, marks-eq, mark-written}
 
 -- slots of different pages differ
 pub slots-apart : (m b q c p : ℕ) → q < m → p < m → (c ≡ b → p ≡ q → ⊥) → slot m c p ≢ slot m b q
@@ -66,9 +66,6 @@ module _ (Z : Sizes) (chip : Chip) (b : ℕ) (b-in : b ≤ Z .n) (store-length :
 module _ (Z : Sizes) (B : Bounds Z) (chip : Chip) (work : List ℕ) (L : Lent Z chip work) (place : ℕ) (S : StandsAt Z chip place) (on : place < lastPlace Z) where
   open Sizes Z using (n, m, p as P)
 
-  old-marks : MarksAt Z place (chip .marks)
-  old-marks = subst (MarksAt Z place) (sym (S .marks)) (marksOf-at Z place)
-
   old-page : (t : ℕ) → t < slotCount Z → markAt (chip .marks) t ≡ erased → pageAt P chip t ≡ replicate P erased
   old-page t h e = blank-page P chip t (rw (L .store-length) (slot-in-store Z t h)) (S .blank t h e)
 
@@ -97,7 +94,7 @@ module _ (Z : Sizes) (B : Bounds Z) (chip : Chip) (work : List ℕ) (L : Lent Z 
         stays : (c p : ℕ) → c ≤ n → p < m → (c ≡ b → p ≡ q → ⊥) → markAt (new .marks) (slot m c p) ≡ heldMark Z (heldAt Z (suc place) c p)
         stays c p h k apart =
             write-mark-other P (slot m b q) page (markOf Z pass) chip (slot m c p) (slots-apart m b q c p (W .page-in) k apart)
-            ∙ old-marks .mark-is c p h k ∙ ap (heldMark Z) (sym (W .others c p apart))
+            ∙ stands-marks Z S .mark-is c p h k ∙ ap (heldMark Z) (sym (W .others c p apart))
 
     new-blank : (t : ℕ) → t < slotCount Z → markAt (new .marks) t ≡ erased → isBlank P new t ≡ true
     new-blank t h e =
@@ -131,5 +128,5 @@ module _ (Z : Sizes) (B : Bounds Z) (chip : Chip) (work : List ℕ) (L : Lent Z 
     pub erase-stands : StandsAt Z (eraseBlock m P b chip) (suc place)
     erase-stands =
         erased-stands Z chip b (E .block-in) (L .store-length) (L .marks-length) (suc place) (E .after)
-        (λ c p apart h k. old-marks .mark-is c p h k ∙ ap (heldMark Z) (sym (E .others c p apart h k)))
+        (λ c p apart h k. stands-marks Z S .mark-is c p h k ∙ ap (heldMark Z) (sym (E .others c p apart h k)))
         (λ c p apart h k. old-page (slot m c p) (slot-in-marks Z c p h k)) (B .m-low) on

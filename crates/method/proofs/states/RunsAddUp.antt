@@ -1,16 +1,15 @@
 -- Runs add up, and from rest they lead through the states of the places.
-use Rattle.flash.proofs.Kit.{_≡_, refl, sym, ap, ap₂, _∙_, subst, true, cond, List, ℕ, zero, suc, _+_, _≤_, _<_, zero-add, mod-lt, arith, eqb, length}
-use Rattle.flash.proofs.Kit.{getD}
+use Rattle.flash.proofs.Kit.{_≡_, refl, sym, ap, ap₂, _∙_, subst, true, cond, List, ℕ, zero, suc, _+_, _≤_, _<_, zero-add, arith, eqb, length, getD}
 use Rattle.flash.specs.Tables.{refusal}
 use Rattle.flash.specs.declared.sizes.Sizes.{Sizes}
-use Rattle.flash.specs.Geometry.{slot, slotOf, blockOf, pageOf, originalCount, workLength, letter}
-use Rattle.flash.specs.Chip.{Chip, pageAt, markAt, isBlank}
+use Rattle.flash.specs.Geometry.{slot, slotOf, originalCount, workLength}
+use Rattle.flash.specs.Chip.{Chip, pageAt, isBlank}
 use Rattle.flash.proofs.Bounds.{in-range, slot-in-marks}
 use Rattle.split.specs.Request.{Request}
 use Rattle.split.specs.Answer.{splitAnswer}
 use Rattle.split.proofs.Answers.{accept, passed}
 use Rattle.method.specs.Move.{Move, move, AcceptedMove}
-use Rattle.method.specs.Place.{Pass, write, operationAt, above, heldMark, marksOf, lastPlace}
+use Rattle.method.specs.Place.{Pass, write, operationAt, heldMark, lastPlace}
 use Rattle.method.specs.State.{originalsIn, stateOf}
 use Rattle.method.specs.Step.{Running, steps}
 use Rattle.method.specs.Answers.{RunAnswer, runRows, stepsTaken, runCarriedOut, runAnswer}
@@ -19,10 +18,11 @@ use Rattle.method.proofs.basics.MoveShape.{Holding}
 use Rattle.method.proofs.basics.AcceptedCalls.{RunTaken, run-taken, taken-run}
 use Rattle.method.proofs.states.StepsAddUp.{steps-add, taken-add}
 use Rattle.method.proofs.places.Tallies.{tally-split}
-use Rattle.method.proofs.places.StepsAtPlaces.{filling-in, last-stands}
-use Rattle.method.proofs.cycles.SetCycles.{block-in, entry-in}
-use Rattle.method.proofs.places.PagesHeld.{held-above, held-blank, MarksAt, marksOf-at}
+use Rattle.method.proofs.places.StepsAtPlaces.{filling-in}
+use Rattle.method.proofs.places.PagesHeld.{held-blank, stands-marks}
 use Rattle.method.proofs.places.PagesRise.{write-at}
+use Rattle.method.proofs.places.Turns.{resumesAt, resumes-last}
+use Rattle.method.proofs.recovery.Moments.{Moment, stands-moment, finished-page}
 use Rattle.method.proofs.states.StepsLeadOn.{steps-stand}
 use Rattle.method.proofs.states.StepsKeepPages.{steps-hold}
 use Rattle.method.proofs.states.StatesOfPlaces.{is-state}
@@ -99,9 +99,8 @@ module _ (R : Request) (chip : Chip) (work : List ℕ) (place : ℕ) (ok : refus
       let on = W .in-move in
       let all : stepsTaken Z place finished ≡ finished = omega arith in
       let S = still-taken R chip work place finished (omega arith) T .stands in
-      let marks = subst (MarksAt Z at) (sym (S .marks)) (marksOf-at Z at) in
       let b-in : block ≤ Z .n = omega (arith, filling-in Z at (omega arith), W .stands .block-is) in
-      let mark = marks .mark-is block page b-in (W .page-in) ∙ ap (heldMark Z) (held-blank Z at block page (sym (W .stands .block-is)) (omega (arith, W .stands .pages-is))) in
+      let mark = stands-marks Z S .mark-is block page b-in (W .page-in) ∙ ap (heldMark Z) (held-blank Z at block page (sym (W .stands .block-is)) (omega (arith, W .stands .pages-is))) in
       rw (one-is finished, all) (S .blank (slot (Z .m) block page) (slot-in-marks Z block page b-in (W .page-in)) mark)
 
 in-ones : (R : Request) (chip : Chip) (work : List ℕ) (place budget : ℕ) → refusal (runRows R chip work place) ≡ 0 → runAnswer R chip work place budget ≡ runsOfOne R chip work place budget
@@ -122,17 +121,6 @@ runs-add-up = record {
 }
 
 -- ---- from rest
--- at the last place every data block is full of s + 2
-pub final-mark : (M : Move) (chip : Chip) → chip .marks ≡ marksOf (M .sizes) (0 + lastPlace (M .sizes)) → (b q : ℕ) → 1 ≤ b → b ≤ M .sizes .n → q < M .sizes .m
-    → markAt (chip .marks) (slot (M .sizes .m) b q) ≡ letter (M .sizes) 2
-unfolding heldMark above
-final-mark M chip e b q l h k =
-    let Z = M .sizes in
-    let last = lastPlace Z in
-    let E = last-stands Z in
-    ap (λ (marks : List ℕ). markAt marks (slot (Z .m) b q)) (e ∙ ap (marksOf Z) (zero-add last)) ∙ marksOf-at Z last .mark-is b q h k
-    ∙ ap (heldMark Z) (held-above Z last b q (omega (arith, E .block-is)) ∙ ap above (E .pass-is))
-
 module _ (R : Request) (chip : Chip) (S : Start R chip) where
   abbrev W : Sizes
   W = R .sizes
@@ -194,12 +182,10 @@ module _ (R : Request) (chip : Chip) (S : Start R chip) where
     unfolding runCarriedOut
     at-end k h =
         let last = lastPlace W in
-        let to = getD (move R .list) k 0 in
-        let b = block-in (move R) start-accepted to (entry-in (move R) start-accepted k h) in
-        let holds = after-holds last (omega arith) in
-        let stands = after-taken last (omega arith) .stands in
+        let end : Chip = after last (omega arith) .chip in
+        let N = stands-moment W end (0 + last) (after-taken last (omega arith) .stands) in
         rw (started last (omega arith))
-        (holds .final k h (final-mark (move R) (after last (omega arith) .chip) (stands .marks) (blockOf (W .m) to) (pageOf (W .m) to) (b .low) (b .high) (mod-lt to (start-accepted .ranges .m-low)))
+        (finished-page (move R) start-accepted (originalsIn W chip) end (subst (Moment W (end .marks)) (ap (resumesAt W) (zero-add last) ∙ resumes-last W) N) (after-holds last (omega arith)) k h
         ∙ sym (rest-page (move R) start-accepted chip (S .store-length) (S .marks-length) (S .at-rest) k))
 
 pub states-reached : StatesReached

@@ -1,5 +1,5 @@
 -- Store and marks as a place has them, with whole pages that hold what they should, are the state of that place.
-use Rattle.flash.proofs.Kit.{_≡_, sym, ap, ap₂, _∙_, subst, List, _++_, ℕ, zero, suc, _+_, _-_, _*_, _/_, _%_, _≤_, _<_, suc-mul, not-suc-le-zero}
+use Rattle.flash.proofs.Kit.{_≡_, sym, ap, ap₂, _∙_, List, _++_, ℕ, zero, suc, _+_, _-_, _*_, _/_, _%_, _≤_, _<_, suc-mul, not-suc-le-zero}
 use Rattle.flash.proofs.Kit.{le-of-suc-le-suc, arith, length, getD, take, drop, length-append, take-at, drop-at, drop-drop}
 use Rattle.flash.specs.Lists.{range, part, concatMap}
 use Rattle.flash.specs.declared.sizes.Sizes.{Sizes}
@@ -17,7 +17,7 @@ use Rattle.method.proofs.basics.MoveShape.{Holding}
 use Rattle.method.proofs.basics.AcceptedCalls.{StandsAt}
 use Rattle.method.proofs.basics.Indexes.{each-slot, slot-div, slot-mod}
 use Rattle.method.proofs.cycles.SetCycles.{sent-in, entry-sent}
-use Rattle.method.proofs.places.PagesHeld.{HeldCases, coded, ended, resting, empty, held-cases, MarksAt, marksOf-at}
+use Rattle.method.proofs.places.PagesHeld.{HeldCases, coded, ended, resting, empty, held-cases, stands-marks}
 use Rattle.method.proofs.states.PagesWritten.{number-in}
 
 -- pages of one size, one after the other
@@ -61,15 +61,12 @@ module _ (M : Move) (A : AcceptedMove M) (originals : List ℕ) (chip : Chip) (p
   abbrev original : ℕ → List ℕ
   original k = part P k originals
 
-  marks-here : MarksAt Z place (chip .marks)
-  marks-here = subst (MarksAt Z place) (sym (S .marks)) (marksOf-at Z place)
-
   module _ (b q : ℕ) (b-in : b ≤ n) (q-in : q < m) where
     abbrev page : List ℕ
     page = pageAt P chip (slot m b q)
 
     marked : (h : Held) → heldAt Z place b q ≡ h → markAt (chip .marks) (slot m b q) ≡ heldMark Z h
-    marked h e = marks-here .mark-is b q b-in q-in ∙ ap (heldMark Z) e
+    marked h e = stands-marks Z S .mark-is b q b-in q-in ∙ ap (heldMark Z) e
 
     is-blank : heldAt Z place b q ≡ blank → page ≡ heldPage M originals blank b q
     unfolding heldMark heldPage

@@ -15,7 +15,7 @@ use Rattle.method.proofs.basics.MoveShape.{Holding}
 use Rattle.method.proofs.basics.AcceptedCalls.{StandsAt}
 use Rattle.method.proofs.cycles.SetCycles.{sent-in}
 use Rattle.method.proofs.places.StepsAtPlaces.{nextBlock, forward-high, filling-in, backward-low}
-use Rattle.method.proofs.places.PagesHeld.{Writes, Erases, Change, by-write, by-erase, change, MarksAt, marksOf-at}
+use Rattle.method.proofs.places.PagesHeld.{Writes, Erases, Change, by-write, by-erase, change, stands-marks}
 use Rattle.method.proofs.places.PlaceShape.{letterAbove, which-pass, shape-filling}
 use Rattle.method.proofs.states.NextPlace.{write-lent, write-stands, erase-lent, erase-stands}
 use Rattle.method.proofs.states.PagesWritten.{Originals, originals-one, number-in, coded-in, coded-some, length-written, written-sum}
@@ -50,11 +50,8 @@ module _ (M : Move) (A : AcceptedMove M) where
     sources-some backward = omega arith
 
     module _ (chip : Chip) (work : List ℕ) (L : Lent Z chip work) (S : StandsAt Z chip place) where
-      marks-here : MarksAt Z place (chip .marks)
-      marks-here = subst (MarksAt Z place) (sym (S .marks)) (marksOf-at Z place)
-
       shape-here : Shape Z (chip .marks) (filling Z place) (suc (filling Z place)) (letterAbove (passAt Z place))
-      shape-here = shape-filling Z place (omega arith) (chip .marks) marks-here room
+      shape-here = shape-filling Z place (omega arith) (chip .marks) (stands-marks Z S) room
 
       pub page-length : length (writtenPage M (passAt Z place) (filling Z place) (filled Z place) chip) ≡ P
       page-length =
