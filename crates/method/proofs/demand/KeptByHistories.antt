@@ -21,6 +21,7 @@ use Rattle.method.specs.Demand3.{Stays, Keeps}
 use Rattle.method.proofs.basics.MoveShape.{Holding}
 use Rattle.method.proofs.basics.AcceptedCalls.{StandsAt, RunTaken, accepted-move, run-taken, taken-run}
 use Rattle.method.proofs.places.StepsAtPlaces.{filled-early}
+use Rattle.method.proofs.places.PlaceShape.{letterAbove, which-pass}
 use Rattle.method.proofs.walks.ReadsOriginals.{reads}
 use Rattle.method.proofs.states.StatesOfPlaces.{is-state}
 use Rattle.method.proofs.states.AtRest.{rest-page, rest-length}
@@ -102,7 +103,7 @@ module _ (R : Request) (chip₀ : Chip) (S : Start R chip₀) where
     unfolding readAnswer readPage
     stays k k-in =
         let T = moment-shape W (chip .marks) (K .place) (K .moment) in
-        let D = reads M A (chip .marks) (T .low) (T .high) k k-in (T .i) (T .pass) (T .shape) in
+        let D = reads M A (chip .marks) (T .low) (T .high) k k-in (letterAbove (T .pass)) (which-pass (T .pass)) (T .shape) in
         let total = D .original originals chip refl full (K .holds) ∙ first-page k in
         record {
           few = D .few;

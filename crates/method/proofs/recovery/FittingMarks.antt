@@ -1,14 +1,14 @@
 -- Marks that mend reads have a shape.
-use Rattle.flash.proofs.Kit.{_≡_, refl, inl, inr, ⊎-elim, true, false, none, some, List, [], _∷_, List·Memᴰ, List·Memᴰ·head, List·Memᴰ·tail, ℕ, suc}
-use Rattle.flash.proofs.Kit.{_<_, arith}
+use Rattle.flash.proofs.Kit.{_≡_, refl, ⊎-elim, true, false, none, some, List, [], _∷_, List·Memᴰ, List·Memᴰ·head, List·Memᴰ·tail, ℕ, suc, _<_, arith}
 use Rattle.flash.specs.Geometry.{letter}
 use Rattle.flash.specs.Tables.{Row, firstFit}
 use Rattle.flash.specs.declared.sizes.Sizes.{Sizes}
 use Rattle.flash.proofs.Bools.{bool-cases}
 use Rattle.flash.proofs.Blocks.{unfinished-at}
+use Rattle.method.specs.Place.{forward, backward}
 use Rattle.method.specs.Mend.{Reading, lines, legalMarks, reading}
 use Rattle.method.specs.inner.Shape.{Shape}
-use Rattle.method.proofs.basics.MoveShape.{Shaped}
+use Rattle.method.proofs.places.PlaceShape.{Shaped}
 use Rattle.method.proofs.recovery.LinesAgree.{Torn, Filled, Fit, torn-forth, torn-back, full-forth, full-back, fit}
 
 -- the row that is found fits
@@ -57,10 +57,10 @@ module _ (Z : Sizes) (pages : 0 < Z .m) (marks : List ℕ) where
       (bool-cases (legalMarks Z marks))
 
   shaped-row : (row : Row Reading) → Fit Z pages marks row → Shaped Z marks
-  shaped-row row (torn-forth b T e) = record { low = b; high = suc b; i = 0; pass = inl refl; shape = torn-shape 0 b T }
-  shaped-row row (torn-back b T e) = record { low = b; high = suc b; i = 2; pass = inr refl; shape = torn-shape 2 b T }
-  shaped-row row (full-forth b F e) = record { low = b; high = b; i = 0; pass = inl refl; shape = filled-shape 0 b F }
-  shaped-row row (full-back b F e) = record { low = b; high = b; i = 2; pass = inr refl; shape = filled-shape 2 b F }
+  shaped-row row (torn-forth b T e) = record { low = b; high = suc b; pass = forward; shape = torn-shape 0 b T }
+  shaped-row row (torn-back b T e) = record { low = b; high = suc b; pass = backward; shape = torn-shape 2 b T }
+  shaped-row row (full-forth b F e) = record { low = b; high = b; pass = forward; shape = filled-shape 0 b F }
+  shaped-row row (full-back b F e) = record { low = b; high = b; pass = backward; shape = filled-shape 2 b F }
 
   pub shaped : (found : Reading) → reading Z marks ≡ some found → Shaped Z marks
   shaped found e = (let r = read-row found e in shaped-row (r .0) (r .1))

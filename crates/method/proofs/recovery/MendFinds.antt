@@ -1,13 +1,14 @@
 -- What mend reads at a moment: the place by which it goes, so marks are moments of one place only.
 use Rattle.flash.proofs.Kit.{_≡_, refl, sym, ap, _∙_, subst, _≢_, ⊎-elim, true, false, _&&_, Option, none, some, List, [], _∷_, map, List·Memᴰ}
 use Rattle.flash.proofs.Kit.{List·Memᴰ·head, List·Memᴰ·tail, List·Memᴰ·not-nil, List·Memᴰ·cases-cons, Memᴰ·append-left, Memᴰ·append-right, ℕ, zero}
-use Rattle.flash.proofs.Kit.{suc, _+_, _-_, _*_, _≤_, _<_, arith, eqb, eqb-true, eqb-false}
+use Rattle.flash.proofs.Kit.{suc, _+_, _-_, _*_, _≤_, _<_, arith}
 use Rattle.flash.specs.Geometry.{Bounds, letter}
 use Rattle.flash.specs.Lists.{range, all}
 use Rattle.flash.specs.Tables.{Row, firstFit}
 use Rattle.flash.specs.declared.sizes.Sizes.{Sizes}
 use Rattle.flash.specs.Chip.{isMark, isFull, isUnfinished}
 use Rattle.flash.proofs.Bools.{bool-cases, never-both}
+use Rattle.flash.proofs.Comparisons.{eq-cases}
 use Rattle.flash.proofs.Ranges.{all-is}
 use Rattle.flash.proofs.Blocks.{unfinished-of}
 use Rattle.flash.proofs.Bounds.{range-in}
@@ -19,8 +20,8 @@ use Rattle.method.specs.inner.Shape.{Shape}
 use Rattle.method.proofs.recovery.LinesAgree.{lines-agree}
 use Rattle.method.proofs.places.StepsAtPlaces.{turnOf, located, filled-early, backward-low}
 use Rattle.method.proofs.places.PagesHeld.{edge, MarksAt}
-use Rattle.method.proofs.places.PlaceShape.{letterAbove, shape-full}
-use Rattle.method.proofs.recovery.Moments.{Moment, Block, unfinished, whole, moment-marks, shape-unfinished}
+use Rattle.method.proofs.places.PlaceShape.{letterAbove, shape-around, shape-full}
+use Rattle.method.proofs.recovery.Moments.{Moment, Block, unfinished, whole, moment-marks}
 
 -- the first row that fits is as good as any, where all that fit give the same
 firstFit-any : {A : Type 0} (rows : List (Row A)) (row : Row A) → List·Memᴰ row rows → row .fits ≡ true
@@ -40,13 +41,10 @@ firstFit-any {A} (top ∷ rows) row m e agree =
 in-map : {A : Type 0} (f : ℕ → A) (start count x : ℕ) → start ≤ x → x < start + count → List·Memᴰ (f x) (map f (range start count))
 unfolding range
 in-map f start zero x h k = absurd (omega arith)
-in-map f start (suc count) x h k =
-    ⊎-elim
-    (λ (e : eqb x start ≡ true). List·Memᴰ·head (ap f (eqb-true x start e)))
-    (λ (e : eqb x start ≡ false).
-    let ne : x ≢ start = eqb-false x start e in
-    List·Memᴰ·tail (in-map f (suc start) count x (omega arith) (omega arith)))
-    (bool-cases (eqb x start))
+in-map f start (suc count) x h k = ⊎-elim
+    (λ (e : x ≡ start). List·Memᴰ·head (ap f e))
+    (λ (ne : x ≢ start). List·Memᴰ·tail (in-map f (suc start) count x (omega arith) (omega arith)))
+    (eq-cases x start)
 
 module _ (Z : Sizes) (marks : List ℕ) where
   open Sizes Z using (n, m)
@@ -156,7 +154,7 @@ module _ (Z : Sizes) (B : Bounds Z) where
 
         go : Block Z marks place → Finds Z marks place
         go (unfinished z q k hole) =
-            let S = shape-unfinished Z marks place M q k hole in
+            let S = shape-around Z place (M .in-move) marks (M .others) q k hole in
             let at : turnOf Z pass b * (m + 1) ≡ place = omega (arith, number) in
             torn z S
             (reads Z marks B (M .legal) (tornLine Z marks pass b) (torn-in Z marks pass b (S .inside)) (torn-fits Z marks pass b S)

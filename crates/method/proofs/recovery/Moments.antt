@@ -1,6 +1,6 @@
 -- Moments of a move: the marks that places have, and those that cuts leave. A moment goes by the place where the move goes on after
 -- a mend, which the marks tell (Recovery).
-use Rattle.flash.proofs.Kit.{_≡_, refl, sym, ap, _∙_, subst, _≢_, ⊎-elim, true, List, ℕ, suc, _+_, _*_, _≤_, _<_, div-add-mod', mod-lt, arith, length}
+use Rattle.flash.proofs.Kit.{_≡_, refl, sym, ap, _∙_, subst, _≢_, ⊎-elim, true, List, ℕ, _+_, _*_, _≤_, _<_, div-add-mod', mod-lt, arith, length}
 use Rattle.flash.proofs.Kit.{getD, lt-ltb}
 use Rattle.flash.specs.Lists.{all, part}
 use Rattle.flash.specs.declared.sizes.Sizes.{Sizes}
@@ -10,13 +10,12 @@ use Rattle.flash.proofs.Searches.{all-of}
 use Rattle.method.specs.Move.{Move, AcceptedMove}
 use Rattle.method.specs.Place.{lastPlace, passAt, filling, filled, Held, blank, plain, code, final, above, heldAt, heldMark}
 use Rattle.method.proofs.basics.Indexes.{Order, less, same, more, order, this-or-other, each-slot}
-use Rattle.method.specs.inner.Shape.{Shape}
-use Rattle.method.proofs.basics.MoveShape.{Shaped, Holding}
+use Rattle.method.proofs.basics.MoveShape.{Holding}
 use Rattle.method.proofs.basics.AcceptedCalls.{StandsAt}
 use Rattle.method.proofs.cycles.SetCycles.{block-in, entry-in}
 use Rattle.method.proofs.places.StepsAtPlaces.{Stands, page-cases, filling-in, last-stands}
-use Rattle.method.proofs.places.PagesHeld.{edge, MarksAt, stands-marks, held-below, held-above, held-blank}
-use Rattle.method.proofs.places.PlaceShape.{letterAbove, which-pass, mark-above, shape-of, shape-full}
+use Rattle.method.proofs.places.PagesHeld.{MarksAt, stands-marks, held-below, held-above, held-blank}
+use Rattle.method.proofs.places.PlaceShape.{Shaped, shape-around, shape-full}
 use Rattle.method.proofs.places.Turns.{turn, resumesAt, resumes-start, resumes-there, start-stands}
 
 module _ (Z : Sizes) where
@@ -116,39 +115,12 @@ module _ (Z : Sizes) where
           this-or-other (λ c. markAt marks (slot m c q) ≡ heldMark Z (heldAt Z place c q)) (filling Z place) b (f q k) (λ apart. M .others b q apart h k);
     }
 
-    pub shape-unfinished : (q : ℕ) → q < m → markAt marks (slot m (filling Z place) q) ≡ erased → Shape Z marks (filling Z place) (suc (filling Z place)) (letterAbove (passAt Z place))
-    unfolding heldMark
-    shape-unfinished q k hole =
-        let inside = filling-in Z place (M .in-move) in
-        shape-of Z marks (filling Z place) (suc (filling Z place)) (letterAbove (passAt Z place))
-        (record {
-          below = λ b p h l. M .others b p (omega arith) (omega arith) l ∙ ap (heldMark Z) (held-below Z place b p h);
-          above = λ b p h r l. M .others b p (omega arith) r l ∙ ap (heldMark Z) (held-above Z place b p h) ∙ mark-above Z (passAt Z place);
-          between = λ b h l.
-              (q, k, subst (λ (c : ℕ). markAt marks (slot m c q) ≡ erased) (omega arith) hole);
-          order = omega arith;
-          near = omega arith;
-          inside = inside;
-        })
-
   pub moment-shape : (marks : List ℕ) (place : ℕ) → Moment marks place → Shaped Z marks
   moment-shape marks place M = go (M .own)
     where
       go : Block marks place → Shaped Z marks
-      go (unfinished z q k hole) = record {
-        low = filling Z place;
-        high = suc (filling Z place);
-        i = letterAbove (passAt Z place);
-        shape = shape-unfinished marks place M q k hole;
-        pass = which-pass (passAt Z place);
-      }
-      go (whole k f) = record {
-        low = edge (passAt Z place) (filling Z place);
-        high = edge (passAt Z place) (filling Z place);
-        i = letterAbove (passAt Z place);
-        shape = shape-full Z place (M .in-move) marks (moment-marks marks place M f) k;
-        pass = which-pass (passAt Z place);
-      }
+      go (unfinished z q k hole) = record { low = _; high = _; pass = passAt Z place; shape = shape-around Z place (M .in-move) marks (M .others) q k hole }
+      go (whole k f) = record { low = _; high = _; pass = passAt Z place; shape = shape-full Z place (M .in-move) marks (moment-marks marks place M f) k }
 
 -- a chip that stands at a place
 pub stands-moment : (Z : Sizes) (chip : Chip) (place : ℕ) → StandsAt Z chip place → Moment Z (chip .marks) (resumesAt Z place)

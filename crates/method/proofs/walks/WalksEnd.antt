@@ -11,6 +11,7 @@ use Rattle.method.proofs.cycles.SetCycles.{set-in, block-in}
 use Rattle.method.proofs.cycles.Tops.{top-is, top-ge}
 use Rattle.method.proofs.walks.WalkBounds.{back-bound}
 use Rattle.method.proofs.walks.ReadsOriginals.{reads, reads-on-bound}
+use Rattle.method.proofs.places.PlaceShape.{letterAbove, which-pass}
 use Rattle.method.proofs.recovery.FittingMarks.{shaped}
 
 -- the blocks of a cycle are the iterates of dest
@@ -41,7 +42,7 @@ unfolding WalksEnd letter
 walks-end M A marks found e k h =
     let Z = M .sizes in
     let shape = shaped Z (A .ranges .m-low) marks found e in
-    let r = reads M A marks (shape .low) (shape .high) k h (shape .i) (shape .pass) (shape .shape) in
+    let r = reads M A marks (shape .low) (shape .high) k h (letterAbove (shape .pass)) (which-pass (shape .pass)) (shape .shape) in
     record {
       slots = record {
         some = r .some;
@@ -54,5 +55,5 @@ walks-end M A marks found e k h =
             full-finished (Z .m) marks _ (letter Z (t .index)) (omega arith) (t .full);
       };
       back = λ extra. back-bound M A marks (setOf (M .sets) k) (set-in M A k h) (blockOf (Z .m) k) extra (block-in M A k h);
-      on = reads-on-bound M A marks (shape .low) (shape .high) k h (shape .i) (shape .pass) (shape .shape);
+      on = reads-on-bound M A marks (shape .low) (shape .high) k h (letterAbove (shape .pass)) (which-pass (shape .pass)) (shape .shape);
     }
