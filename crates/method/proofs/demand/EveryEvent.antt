@@ -1,6 +1,6 @@
 -- Demand 3: every list of events keeps what is kept, so the claim holds at each of its moments.
 use Rattle.flash.proofs.Kit.{_≡_, refl, sym, ap, subst, ⊎-elim, _≢_, Bool, true, false, cond, true≢false, List, [], _∷_, _++_, map, Option}
-use Rattle.flash.proofs.Kit.{none as nothing, some, ℕ, zero, suc, _+_, _*_, _≤_, _<_, zero-mod, arith, eqb, length, eqb-true, eqb-false, ne-eqb}
+use Rattle.flash.proofs.Kit.{none as nothing, some, ℕ, zero, suc, _+_, _*_, _≤_, _<_, zero-mod, arith, eqb, length, eqb-false, ne-eqb}
 use Rattle.flash.specs.Lists.{range, count}
 use Rattle.flash.specs.Tables.{refusal}
 use Rattle.flash.specs.declared.sizes.Sizes.{Sizes}
@@ -8,6 +8,7 @@ use Rattle.flash.specs.Geometry.{originalCount}
 use Rattle.flash.specs.PageSum.{sum}
 use Rattle.flash.specs.Chip.{Chip, pageAt}
 use Rattle.flash.proofs.Bools.{bool-cases}
+use Rattle.flash.proofs.Comparisons.{eq-cases}
 use Rattle.split.specs.Request.{Request}
 use Rattle.method.specs.Move.{Move, move, AcceptedMove}
 use Rattle.method.specs.Place.{Operation, filled}
@@ -72,8 +73,11 @@ module _ (R : Request) (chip₀ : Chip) (S : Start R chip₀) where
   full = rest-length M A chip₀ (S .store-length) (S .marks-length) (S .at-rest)
 
   module _ (h : History) (K : Kept M originals h) where
-    run-idle : (N : Request) (work : List ℕ) (place budget : ℕ) → numberOf (run N work place budget) (h .chip) ≢ 0
-        → (cut : CutPoint) → CutObeys (run N work place budget) cut (h .chip) → EventKept M originals h (run N work place budget) cut
+    -- the event of a call, cut where it may be
+    abbrev EventsKept : Call → Type 0
+    EventsKept call = (cut : CutPoint) → CutObeys call cut (h .chip) → EventKept M originals h call cut
+
+    run-idle : (N : Request) (work : List ℕ) (place budget : ℕ) → numberOf (run N work place budget) (h .chip) ≢ 0 → EventsKept (run N work place budget)
     unfolding numberOf stepsOf chipAfter chipReturned returnsFinished runRefused runCarriedOut
     run-idle N work place budget ne =
         let refused : refusal (runRows N (h .chip) work place) ≢ 0 = λ e. ne (ap (λ (a : RunAnswer). a .number) (run-answer N (h .chip) work place budget e)) in
@@ -84,39 +88,33 @@ module _ (R : Request) (chip₀ : Chip) (S : Start R chip₀) where
         (ap (λ (a : RunAnswer). a .chip) (run-refused N (h .chip) work place budget refused))
         (ap (λ (a : RunAnswer). eqb (a .finished) 1) (run-refused N (h .chip) work place budget refused))
 
-    mend-idle : (Z : Sizes) → numberOf (mend Z) (h .chip) ≢ 0 → (cut : CutPoint) → CutObeys (mend Z) cut (h .chip) → EventKept M originals h (mend Z) cut
+    mend-idle : (Z : Sizes) → numberOf (mend Z) (h .chip) ≢ 0 → EventsKept (mend Z)
     unfolding numberOf stepsOf chipAfter chipReturned returnsFinished
     mend-idle Z ne =
         idle M originals h K (mend Z) (ap (λ (b : Bool). cond b (mendSteps (reading Z (h .chip .marks))) []) (ne-eqb (mendAnswer Z (h .chip) .number) 0 ne)) refl (mend-refused Z (h .chip) ne) refl
 
-    read-idle : (N : Request) (work : List ℕ) (k : ℕ) → (cut : CutPoint) → CutObeys (read N work k) cut (h .chip) → EventKept M originals h (read N work k) cut
+    read-idle : (N : Request) (work : List ℕ) (k : ℕ) → EventsKept (read N work k)
     unfolding stepsOf chipAfter chipReturned returnsFinished
     read-idle N work k = idle M originals h K (read N work k) refl refl refl refl
 
-    run-shared : (N : Request) → N ≡ R → (work : List ℕ) (place budget : ℕ) → numberOf (run N work place budget) (h .chip) ≡ 0 → h .unmended ≡ false
-        → (cut : CutPoint) → CutObeys (run N work place budget) cut (h .chip) → EventKept M originals h (run N work place budget) cut
+    run-shared : (N : Request) → N ≡ R → (work : List ℕ) (place budget : ℕ) → numberOf (run N work place budget) (h .chip) ≡ 0 → h .unmended ≡ false → EventsKept (run N work place budget)
     unfolding numberOf
-    run-shared N e =
-        subst
-        (λ (N : Request). (work : List ℕ) (place budget : ℕ) → numberOf (run N work place budget) (h .chip) ≡ 0 → h .unmended ≡ false
-        → (cut : CutPoint) → CutObeys (run N work place budget) cut (h .chip) → EventKept M originals h (run N work place budget) cut)
-        (sym e)
-        (λ work place budget ok mended. run-kept R A originals full h K work place budget (run-number R (h .chip) work place budget ok) mended)
+    run-shared N e work place budget ok mended =
+        subst (λ (N : Request). numberOf (run N work place budget) (h .chip) ≡ 0 → EventsKept (run N work place budget)) (sym e)
+        (λ ok. run-kept R A originals full h K work place budget (run-number R (h .chip) work place budget ok) mended) ok
 
-    mend-shared : (Z : Sizes) → Z ≡ R .sizes → (cut : CutPoint) → CutObeys (mend Z) cut (h .chip) → EventKept M originals h (mend Z) cut
-    mend-shared Z e =
-        subst (λ (Z : Sizes). (cut : CutPoint) → CutObeys (mend Z) cut (h .chip) → EventKept M originals h (mend Z) cut) (sym e) (mend-kept M A originals h K)
+    mend-shared : (Z : Sizes) → Z ≡ R .sizes → EventsKept (mend Z)
+    mend-shared Z e = subst (λ (Z : Sizes). EventsKept (mend Z)) (sym e) (mend-kept M A originals h K)
 
     pub event-kept : (call : Call) (cut : CutPoint) → Allowed R (record { call = call; cut = cut }) h → EventKept M originals h call cut
     event-kept (run N work place budget) cut O = ⊎-elim
-        (λ (q : eqb (numberOf (run N work place budget) (h .chip)) 0 ≡ true).
-        let ok = eqb-true _ 0 q in run-shared N (O .shares ok) work place budget ok (O .mended ok) cut (O .cut-obeys))
-        (λ (q : eqb (numberOf (run N work place budget) (h .chip)) 0 ≡ false). run-idle N work place budget (eqb-false _ 0 q) cut (O .cut-obeys))
-        (bool-cases (eqb (numberOf (run N work place budget) (h .chip)) 0))
+        (λ (ok : numberOf (run N work place budget) (h .chip) ≡ 0). run-shared N (O .shares ok) work place budget ok (O .mended ok) cut (O .cut-obeys))
+        (λ ne. run-idle N work place budget ne cut (O .cut-obeys))
+        (eq-cases (numberOf (run N work place budget) (h .chip)) 0)
     event-kept (mend Z) cut O = ⊎-elim
-        (λ (q : eqb (numberOf (mend Z) (h .chip)) 0 ≡ true). mend-shared Z (O .shares (eqb-true _ 0 q)) cut (O .cut-obeys))
-        (λ (q : eqb (numberOf (mend Z) (h .chip)) 0 ≡ false). mend-idle Z (eqb-false _ 0 q) cut (O .cut-obeys))
-        (bool-cases (eqb (numberOf (mend Z) (h .chip)) 0))
+        (λ (ok : numberOf (mend Z) (h .chip) ≡ 0). mend-shared Z (O .shares ok) cut (O .cut-obeys))
+        (λ ne. mend-idle Z ne cut (O .cut-obeys))
+        (eq-cases (numberOf (mend Z) (h .chip)) 0)
     event-kept (read N work k) cut O = read-idle N work k cut (O .cut-obeys)
 
   -- ---- lists of events

@@ -1,13 +1,12 @@
 -- Two of mend's four lines that fit give the same answer.
-use Rattle.flash.proofs.Kit.{_≡_, sym, ap, ap₂, _∙_, subst, _⊎_, inl, inr, ⊎-elim, _≢_, Bool, true, false, _&&_, some, List, map, List·Memᴰ}
-use Rattle.flash.proofs.Kit.{List·Memᴰ·not-nil, List·Memᴰ·cases-cons, List·Memᴰ·append-cases, ℕ, zero, suc, _+_, _-_, _*_, _≤_, _<_, arith, ltb}
-use Rattle.flash.proofs.Kit.{ltb-true, ltb-false}
+use Rattle.flash.proofs.Kit.{_≡_, sym, ap, ap₂, _∙_, subst, ⊎-elim, _≢_, Bool, true, _&&_, some, List, map, List·Memᴰ}
+use Rattle.flash.proofs.Kit.{List·Memᴰ·not-nil, List·Memᴰ·cases-cons, List·Memᴰ·append-cases, ℕ, zero, suc, _+_, _-_, _*_, _≤_, _<_, arith}
 use Rattle.flash.specs.Geometry.{letter}
 use Rattle.flash.specs.Lists.{range}
 use Rattle.flash.specs.Tables.{Row}
 use Rattle.flash.specs.declared.sizes.Sizes.{Sizes}
 use Rattle.flash.specs.Chip.{isFull, isUnfinished}
-use Rattle.flash.proofs.Bools.{bool-cases, never-both, both}
+use Rattle.flash.proofs.Bools.{never-both, both}
 use Rattle.flash.proofs.Ranges.{all-in}
 use Rattle.flash.proofs.Blocks.{full-same, full-finished}
 use Rattle.flash.proofs.Bounds.{in-range}
@@ -53,27 +52,22 @@ module _ (Z : Sizes) (pages : 0 < Z .m) (marks : List ℕ) where
 
   -- whatever else is read from the marks, it is the same block that is torn
   torn-same : (i j b c : ℕ) → Torn i b → Torn j c → b ≡ c
-  torn-same i j b c x y = go (bool-cases (ltb b c)) (bool-cases (ltb c b))
-    where
-      go : (ltb b c ≡ true) ⊎ (ltb b c ≡ false) → (ltb c b ≡ true) ⊎ (ltb c b ≡ false) → b ≡ c
-      go (inl e) q = absurd (finished 1 b (y .under b (ltb-true b c e)) (x .open-block))
-      go (inr e) (inl q) = absurd (finished j b (y .over b (ltb-true c b q) (x .low)) (x .open-block))
-      go (inr e) (inr q) = omega (arith, ltb-false b c e, ltb-false c b q)
+  torn-same i j b c x y =
+      let not-below : b < c → ⊥ = λ l. finished 1 b (y .under b l) (x .open-block) in
+      let not-above : c < b → ⊥ = λ l. finished j b (y .over b l (x .low)) (x .open-block) in
+      omega arith
 
   torn-filled : (i j b c : ℕ) → Torn i b → Filled j c → ⊥
-  torn-filled i j b c x y = go (bool-cases (ltb b c))
-    where
-      go : (ltb b c ≡ true) ⊎ (ltb b c ≡ false) → ⊥
-      go (inl e) = finished 1 b (y .under b (ltb-true b c e)) (x .open-block)
-      go (inr e) = finished j b (y .over b (ltb-false b c e) (x .low)) (x .open-block)
+  torn-filled i j b c x y =
+      let not-below : b < c → ⊥ = λ l. finished 1 b (y .under b l) (x .open-block) in
+      let not-above : c ≤ b → ⊥ = λ l. finished j b (y .over b l (x .low)) (x .open-block) in
+      omega arith
 
   filled-same : (i b c : ℕ) → letter Z 1 ≢ letter Z i → Filled i b → Filled i c → b ≡ c
-  filled-same i b c ne x y = go (bool-cases (ltb b c)) (bool-cases (ltb c b))
-    where
-      go : (ltb b c ≡ true) ⊎ (ltb b c ≡ false) → (ltb c b ≡ true) ⊎ (ltb c b ≡ false) → b ≡ c
-      go (inl e) q = absurd (ne (one-letter 1 i b (y .under b (ltb-true b c e)) (x .over b (omega arith) (x .high))))
-      go (inr e) (inl q) = absurd (ne (one-letter 1 i c (x .under c (ltb-true c b q)) (y .over c (omega arith) (y .high))))
-      go (inr e) (inr q) = omega (arith, ltb-false b c e, ltb-false c b q)
+  filled-same i b c ne x y =
+      let not-below : b < c → ⊥ = λ l. ne (one-letter 1 i b (y .under b l) (x .over b (omega arith) (x .high))) in
+      let not-above : c < b → ⊥ = λ l. ne (one-letter 1 i c (x .under c l) (y .over c (omega arith) (y .high))) in
+      omega arith
 
   -- where all blocks are full, the top one tells the pass
   one-pass : (b c : ℕ) → b ≤ n → c ≤ n → ((j : ℕ) → b ≤ j → j ≤ n → full 0 j ≡ true) → ((j : ℕ) → c ≤ j → j ≤ n → full 2 j ≡ true) → ⊥
@@ -92,16 +86,11 @@ module _ (Z : Sizes) (pages : 0 < Z .m) (marks : List ℕ) where
   -- only where block n itself is torn do both passes fit, and then they give one place
   torn-both : (b c : ℕ) → Torn 0 b → Torn 2 c → forwardTorn Z marks b .gives ≡ backwardTorn Z marks c .gives
   unfolding forwardTorn backwardTorn
-  torn-both b c x y = go (bool-cases (ltb b n))
-    where
-      same : b ≡ c
-      same = torn-same 0 2 b c x y
-
-      go : (ltb b n ≡ true) ⊎ (ltb b n ≡ false) → forwardTorn Z marks b .gives ≡ backwardTorn Z marks c .gives
-      go (inl e) = absurd (one-pass (suc b) (suc c) (ltb-true b n e) (omega (arith, ltb-true b n e, same)) (x .over) (y .over))
-      go (inr e) =
-          let at : b ≡ 2 * n - c = omega (arith, ltb-false b n e, x .low, same) in
-          ap₂ (λ (p q : ℕ). record { place = p * (m + 1); toErase = some q }) at same
+  torn-both b c x y =
+      let same = torn-same 0 2 b c x y in
+      let top : b < n → ⊥ = λ l. one-pass (suc b) (suc c) l (omega arith) (x .over) (y .over) in
+      let at : b ≡ 2 * n - c = omega (arith, x .low) in
+      ap₂ (λ (p q : ℕ). record { place = p * (m + 1); toErase = some q }) at same
 
   pub agree : (one other : Row Reading) → Fit one → Fit other → one .gives ≡ other .gives
   unfolding letter
@@ -151,36 +140,23 @@ module _ (Z : Sizes) (pages : 0 < Z .m) (marks : List ℕ) where
   -- a row of the table that fits is one of the four
   pub fit : (row : Row Reading) → List·Memᴰ row (lines Z marks) → row .fits ≡ true → Fit row
   unfolding lines
-  fit row mem e = ⊎-elim first-line (λ r. ⊎-elim second-line (λ q. ⊎-elim third-line fourth-line
-      (List·Memᴰ·append-cases (map (forwardFull Z marks) (range 1 n)) q))
-      (List·Memᴰ·append-cases (map (backwardTorn Z marks) (range 0 (n + 1))) r))
+  fit row mem e = ⊎-elim
+      (λ h. (let r = line (forwardTorn Z marks) 0 (n + 1) h in torn-forth (r .0) (torn-of 0 (r .0) (r .2) (unfold forwardTorn in (r .3))) (r .4)))
+      (λ t. ⊎-elim
+      (λ h. (let r = line (backwardTorn Z marks) 0 (n + 1) h in torn-back (r .0) (torn-of 2 (r .0) (r .2) (unfold backwardTorn in (r .3))) (r .4)))
+      (λ t. ⊎-elim
+      (λ h. (let r = line (forwardFull Z marks) 1 n h in full-forth (r .0) (filled-of 0 (r .0) (r .1) (r .2) (unfold forwardFull in (r .3))) (r .4)))
+      (λ h. (let r = line (backwardFull Z marks) 1 n h in full-back (r .0) (filled-of 2 (r .0) (r .1) (r .2) (unfold backwardFull in (r .3))) (r .4)))
+      (List·Memᴰ·append-cases (map (forwardFull Z marks) (range 1 n)) t))
+      (List·Memᴰ·append-cases (map (backwardTorn Z marks) (range 0 (n + 1))) t))
       (List·Memᴰ·append-cases (map (forwardTorn Z marks) (range 0 (n + 1))) mem)
     where
-      at : (other : Row Reading) → row ≡ other → other .fits ≡ true
-      at other q = subst (λ (r : Row Reading). r .fits ≡ true) q e
-
-      gives : (other : Row Reading) → row ≡ other → row .gives ≡ other .gives
-      gives other q = ap (λ (r : Row Reading). r .gives) q
-
-      first-line : List·Memᴰ row (map (forwardTorn Z marks) (range 0 (n + 1))) → Fit row
-      first-line h =
-          let r = mem-range (forwardTorn Z marks) 0 (n + 1) row h in
-          torn-forth (r .0) (torn-of 0 (r .0) (r .2) (unfold forwardTorn in (at (forwardTorn Z marks (r .0)) (r .3)))) (gives (forwardTorn Z marks (r .0)) (r .3))
-
-      second-line : List·Memᴰ row (map (backwardTorn Z marks) (range 0 (n + 1))) → Fit row
-      second-line h =
-          let r = mem-range (backwardTorn Z marks) 0 (n + 1) row h in
-          torn-back (r .0) (torn-of 2 (r .0) (r .2) (unfold backwardTorn in (at (backwardTorn Z marks (r .0)) (r .3)))) (gives (backwardTorn Z marks (r .0)) (r .3))
-
-      third-line : List·Memᴰ row (map (forwardFull Z marks) (range 1 n)) → Fit row
-      third-line h =
-          let r = mem-range (forwardFull Z marks) 1 n row h in
-          full-forth (r .0) (filled-of 0 (r .0) (r .1) (r .2) (unfold forwardFull in (at (forwardFull Z marks (r .0)) (r .3)))) (gives (forwardFull Z marks (r .0)) (r .3))
-
-      fourth-line : List·Memᴰ row (map (backwardFull Z marks) (range 1 n)) → Fit row
-      fourth-line h =
-          let r = mem-range (backwardFull Z marks) 1 n row h in
-          full-back (r .0) (filled-of 2 (r .0) (r .1) (r .2) (unfold backwardFull in (at (backwardFull Z marks (r .0)) (r .3)))) (gives (backwardFull Z marks (r .0)) (r .3))
+      -- the block of a row in one of the lines
+      line : (f : ℕ → Row Reading) (start count : ℕ) → List·Memᴰ row (map f (range start count))
+          → (b : ℕ) × (start ≤ b) × (b < start + count) × (f b .fits ≡ true) × (row .gives ≡ f b .gives)
+      line f start count h =
+          let r = mem-range f start count row h in
+          (r .0, r .1, r .2, subst (λ (r : Row Reading). r .fits ≡ true) (r .3) e, ap (λ (r : Row Reading). r .gives) (r .3))
 
 pub lines-agree : LinesAgree
 unfolding LinesAgree

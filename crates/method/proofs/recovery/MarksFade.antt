@@ -1,10 +1,11 @@
 -- A chip fades where pages lose their marks and nothing else happens: so do cuts and erases. What whole pages hold stays true.
-use Rattle.flash.proofs.Kit.{_≡_, refl, sym, _∙_, _⊎_, inl, inr, ⊎-elim, true, false, List, ℕ, _+_, _*_, _≤_, _<_, arith, ltb, length}
-use Rattle.flash.proofs.Kit.{List·getD-eq-default, eqb-true, eq-eqb, ltb-true, ltb-false}
+use Rattle.flash.proofs.Kit.{_≡_, refl, sym, _∙_, _⊎_, inl, inr, ⊎-elim, true, false, List, ℕ, _+_, _*_, _≤_, _<_, arith, length}
+use Rattle.flash.proofs.Kit.{List·getD-eq-default, eqb-true, eq-eqb}
 use Rattle.flash.specs.declared.sizes.Sizes.{Sizes}
 use Rattle.flash.specs.Geometry.{slotCount, storeLength, marksLength, letter}
 use Rattle.flash.specs.Chip.{Chip, erased, pageAt, markAt, eraseBlock}
 use Rattle.flash.proofs.Bools.{bool-cases}
+use Rattle.flash.proofs.Comparisons.{lt-cases}
 use Rattle.flash.proofs.Bounds.{block-in-marks, block-in-store}
 use Rattle.flash.proofs.Chips.{erase-marks-length, erase-mark, erase-page-other, erase-mark-other}
 use Rattle.method.specs.Move.{Move}
@@ -31,12 +32,7 @@ module _ (Z : Sizes) where
   fades-of : (before after : Chip) → length (after .marks) ≡ marksLength Z → ((t : ℕ) → t < slotCount Z → Kept Z before after t ⊎ Torn Z after t) → Fades before after
   unfolding markAt
   fades-of before after size f = record {
-    slot = λ t.
-        ⊎-elim
-        (λ (h : ltb t (slotCount Z) ≡ true). f t (ltb-true t (slotCount Z) h))
-        (λ (h : ltb t (slotCount Z) ≡ false).
-        inr (torn-of after t (List·getD-eq-default (after .marks) erased (rw size (ltb-false t (slotCount Z) h)))))
-        (bool-cases (ltb t (slotCount Z)));
+    slot = λ t. ⊎-elim (f t) (λ l. inr (torn-of after t (List·getD-eq-default (after .marks) erased (rw size l)))) (lt-cases t (slotCount Z));
   }
 
   pub fades-refl : (chip : Chip) → Fades chip chip

@@ -53,33 +53,6 @@ module _ (Z : Sizes) (marks : List ℕ) where
   unfolding fullFrom
   full-from i start count f = all-is (λ b. isFull m marks b (letter Z i)) start count f
 
-  -- the line of mend's table for a block that a pass is filling, and for one that it has filled
-  abbrev tornLine : Pass → (b : ℕ) → Row Reading
-  tornLine forward b = forwardTorn Z marks b
-  tornLine backward b = backwardTorn Z marks b
-
-  abbrev fullLine : Pass → (b : ℕ) → Row Reading
-  fullLine forward b = forwardFull Z marks (suc b)
-  fullLine backward b = backwardFull Z marks b
-
-  torn-in : (pass : Pass) (b : ℕ) → b ≤ n → List·Memᴰ (tornLine pass b) (lines Z marks)
-  unfolding lines
-  torn-in forward b h = Memᴰ·append-left _ (in-map (forwardTorn Z marks) 0 (n + 1) b (omega arith) (omega arith))
-  torn-in backward b h =
-      Memᴰ·append-right (map (forwardTorn Z marks) (range 0 (n + 1)))
-      (Memᴰ·append-left _ (in-map (backwardTorn Z marks) 0 (n + 1) b (omega arith) (omega arith)))
-
-  full-in : (pass : Pass) (b : ℕ) → 1 ≤ edge pass b → edge pass b ≤ n → List·Memᴰ (fullLine pass b) (lines Z marks)
-  unfolding lines
-  full-in forward b h k =
-      Memᴰ·append-right (map (forwardTorn Z marks) (range 0 (n + 1)))
-      (Memᴰ·append-right (map (backwardTorn Z marks) (range 0 (n + 1)))
-      (Memᴰ·append-left _ (in-map (forwardFull Z marks) 1 n (suc b) (omega arith) (omega arith))))
-  full-in backward b h k =
-      Memᴰ·append-right (map (forwardTorn Z marks) (range 0 (n + 1)))
-      (Memᴰ·append-right (map (backwardTorn Z marks) (range 0 (n + 1)))
-      (Memᴰ·append-right (map (forwardFull Z marks) (range 1 n)) (in-map (backwardFull Z marks) 1 n b (omega arith) (omega arith))))
-
   torn-test : (i b : ℕ) → Shape Z marks b (suc b) i → (isUnfinished m marks b && fullFrom Z marks 1 0 b && fullFrom Z marks i (b + 1) (n - b)) ≡ true
   unfolding letter
   torn-test i b S =
@@ -94,32 +67,33 @@ module _ (Z : Sizes) (marks : List ℕ) where
   full-test : (i at : ℕ) → Shape Z marks at at i → (fullFrom Z marks 1 0 at && fullFrom Z marks i at (n + 1 - at)) ≡ true
   full-test i at S = rw (full-from 1 0 at (λ c h k. S .below c (omega arith)), full-from i at (n + 1 - at) (λ c h k. S .above c h (omega arith)))
 
-  torn-fits : (pass : Pass) (b : ℕ) → Shape Z marks b (suc b) (letterAbove pass) → tornLine pass b .fits ≡ true
-  unfolding forwardTorn backwardTorn
-  torn-fits forward b S = torn-test 0 b S
-  torn-fits backward b S = torn-test 2 b S
+  module _ (B : Bounds Z) (legal : all isMark marks ≡ true) where
+    -- a line that fits is what mend reads
+    reads : (row : Row Reading) → List·Memᴰ row (lines Z marks) → row .fits ≡ true → reading Z marks ≡ some (row .gives)
+    unfolding reading legalMarks LinesAgree
+    reads row inside fits =
+        rw legal
+        (firstFit-any (lines Z marks) row inside fits (λ other o f. lines-agree Z (range-in Z B) marks other row o inside f fits))
 
-  full-fits : (pass : Pass) (b : ℕ) → Shape Z marks (edge pass b) (edge pass b) (letterAbove pass) → fullLine pass b .fits ≡ true
-  unfolding forwardFull backwardFull
-  full-fits forward b S = full-test 0 (suc b) S
-  full-fits backward b S = full-test 2 b S
+    -- a block that a pass is filling, and one that it has filled
+    reads-torn : (pass : Pass) (b : ℕ) → Shape Z marks b (suc b) (letterAbove pass) → reading Z marks ≡ some (record { place = turnOf Z pass b * (m + 1); toErase = some b })
+    unfolding lines forwardTorn backwardTorn
+    reads-torn forward b S =
+        reads (forwardTorn Z marks b) (Memᴰ·append-left _ (in-map (forwardTorn Z marks) 0 (n + 1) b (omega arith) (omega (arith, S .inside)))) (torn-test 0 b S)
+    reads-torn backward b S =
+        reads (backwardTorn Z marks b) (Memᴰ·append-right (map (forwardTorn Z marks) (range 0 (n + 1)))
+        (Memᴰ·append-left _ (in-map (backwardTorn Z marks) 0 (n + 1) b (omega arith) (omega (arith, S .inside))))) (torn-test 2 b S)
 
-  torn-gives : (pass : Pass) (b : ℕ) → tornLine pass b .gives ≡ record { place = turnOf Z pass b * (m + 1); toErase = some b }
-  unfolding forwardTorn backwardTorn
-  torn-gives forward b = refl
-  torn-gives backward b = refl
-
-  full-gives : (pass : Pass) (b : ℕ) → fullLine pass b .gives ≡ record { place = turnOf Z pass b * (m + 1) + m; toErase = none }
-  unfolding forwardFull backwardFull
-  full-gives forward b = ap (λ (t : ℕ). record { place = t * (m + 1) + m; toErase = none }) (omega arith)
-  full-gives backward b = refl
-
-  -- a line that fits is what mend reads
-  reads : Bounds Z → all isMark marks ≡ true → (row : Row Reading) → List·Memᴰ row (lines Z marks) → row .fits ≡ true → reading Z marks ≡ some (row .gives)
-  unfolding reading legalMarks LinesAgree
-  reads B legal row inside fits =
-      rw legal
-      (firstFit-any (lines Z marks) row inside fits (λ other o f. lines-agree Z (range-in Z B) marks other row o inside f fits))
+    reads-full : (pass : Pass) (b : ℕ) → 1 ≤ edge pass b → Shape Z marks (edge pass b) (edge pass b) (letterAbove pass)
+        → reading Z marks ≡ some (record { place = turnOf Z pass b * (m + 1) + m; toErase = none })
+    unfolding lines forwardFull backwardFull
+    reads-full forward b h S =
+        reads (forwardFull Z marks (suc b)) (Memᴰ·append-right (map (forwardTorn Z marks) (range 0 (n + 1))) (Memᴰ·append-right (map (backwardTorn Z marks) (range 0 (n + 1)))
+        (Memᴰ·append-left _ (in-map (forwardFull Z marks) 1 n (suc b) (omega arith) (omega (arith, S .inside)))))) (full-test 0 (suc b) S)
+        ∙ ap (λ (t : ℕ). some (record { place = t * (m + 1) + m; toErase = none })) (omega arith)
+    reads-full backward b h S =
+        reads (backwardFull Z marks b) (Memᴰ·append-right (map (forwardTorn Z marks) (range 0 (n + 1))) (Memᴰ·append-right (map (backwardTorn Z marks) (range 0 (n + 1)))
+        (Memᴰ·append-right (map (forwardFull Z marks) (range 1 n)) (in-map (backwardFull Z marks) 1 n b h (omega (arith, S .inside)))))) (full-test 2 b S)
 
 -- what mend finds: a block to erase, or none
 pub data Finds (Z : Sizes) (marks : List ℕ) (place : ℕ) : Type 0 where
@@ -156,17 +130,13 @@ module _ (Z : Sizes) (B : Bounds Z) where
         go (unfinished z q k hole) =
             let S = shape-around Z place (M .in-move) marks (M .others) q k hole in
             let at : turnOf Z pass b * (m + 1) ≡ place = omega (arith, number) in
-            torn z S
-            (reads Z marks B (M .legal) (tornLine Z marks pass b) (torn-in Z marks pass b (S .inside)) (torn-fits Z marks pass b S)
-            ∙ ap some (torn-gives Z marks pass b ∙ ap (λ (p : ℕ). record { place = p; toErase = some b }) at))
+            torn z S (reads-torn Z marks B (M .legal) pass b S ∙ ap (λ (p : ℕ). some (record { place = p; toErase = some b })) at)
         go (whole k f) =
             let A = moment-marks Z marks place M f in
             let S = shape-full Z place (M .in-move) marks A k in
             let low = edge-low place (filled-early Z place (M .in-move) (omega (arith, B .m-low))) pass refl in
             let at : turnOf Z pass b * (m + 1) + m ≡ place = omega (arith, number) in
-            full k A
-            (reads Z marks B (M .legal) (fullLine Z marks pass b) (full-in Z marks pass b low (S .inside)) (full-fits Z marks pass b S)
-            ∙ ap some (full-gives Z marks pass b ∙ ap (λ (p : ℕ). record { place = p; toErase = none }) at))
+            full k A (reads-full Z marks B (M .legal) pass b low S ∙ ap (λ (p : ℕ). some (record { place = p; toErase = none })) at)
 
     finds-place : (place : ℕ) → Finds Z marks place → placeRead (reading Z marks) ≡ place
     unfolding placeRead

@@ -1,12 +1,12 @@
 -- Each step of an accepted move keeps what whole pages hold: their originals, coded pages and final pages.
-use Rattle.flash.proofs.Kit.{_≡_, refl, sym, ap, ap₂, _∙_, ⊎-elim, _≢_, true, false, List, [], _∷_, ℕ, zero, suc, _+_, _-_, _*_, _/_, _%_, _≤_, _<_}
-use Rattle.flash.proofs.Kit.{mod-lt, div-add-mod', arith, eqb, length, getD, eqb-true, eqb-false}
+use Rattle.flash.proofs.Kit.{_≡_, refl, sym, ap, ap₂, _∙_, ⊎-elim, _≢_, List, [], _∷_, ℕ, zero, suc, _+_, _-_, _*_, _/_, _%_, _≤_, _<_}
+use Rattle.flash.proofs.Kit.{mod-lt, div-add-mod', arith, length, getD}
 use Rattle.flash.specs.Lists.{part}
 use Rattle.flash.specs.declared.sizes.Sizes.{Sizes}
 use Rattle.flash.specs.Geometry.{slot, slotOf, blockOf, pageOf, numberAt, originalCount, slotCount, letter}
 use Rattle.flash.specs.PageSum.{sum}
 use Rattle.flash.specs.Chip.{Chip, pageAt, markAt, writePage}
-use Rattle.flash.proofs.Bools.{bool-cases}
+use Rattle.flash.proofs.Comparisons.{eq-cases}
 use Rattle.flash.proofs.Bounds.{slot-in-marks, slot-in-store}
 use Rattle.flash.proofs.Sums.{sum-one}
 use Rattle.flash.proofs.Chips.{write-mark, write-mark-other, write-page, write-page-other}
@@ -23,13 +23,6 @@ use Rattle.method.proofs.places.PagesHeld.{Change, by-write, by-erase, 
 use Rattle.method.proofs.recovery.MarksFade.{erase-fades, holding-fades}
 use Rattle.method.proofs.states.StepsLeadOn.{Stood, page-length, page-sum, step-stands}
 
-module _ (Z : Sizes) where
-  -- a write's mark is no s, and tells its pass
-  not-plain : (pass : Pass) → markOf Z pass ≢ letter Z 0
-  unfolding markOf letter
-  not-plain forward e = absurd (omega arith)
-  not-plain backward e = absurd (omega arith)
-
 module _ (M : Move) (A : AcceptedMove M) (originals : List ℕ) (full : length originals ≡ originalCount (M .sizes) * M .sizes .p) where
   open Sizes (M .sizes) using (n, m, p as P)
 
@@ -38,6 +31,12 @@ module _ (M : Move) (A : AcceptedMove M) (originals : List ℕ) (full : length o
 
   abbrev original : ℕ → List ℕ
   original k = part P k originals
+
+  -- a write's mark is no s, and tells what is written
+  not-plain : (pass : Pass) → markOf Z pass ≢ letter Z 0
+  unfolding markOf letter
+  not-plain forward e = absurd (omega arith)
+  not-plain backward e = absurd (omega arith)
 
   forward-sources : (pass : Pass) (b q : ℕ) → markOf Z pass ≡ letter Z 1 → originalsOf M pass b q ≡ coded M q (b + 1)
   unfolding markOf letter originalsOf written heldOriginals
@@ -70,17 +69,15 @@ module _ (M : Move) (A : AcceptedMove M) (originals : List ℕ) (full : length o
     holds-at : (t : ℕ) (value : List ℕ) (i : ℕ) → markAt (new .marks) t ≡ letter Z i
         → (t ≡ here → markOf Z pass ≡ letter Z i → page ≡ value) → (markAt (chip .marks) t ≡ letter Z i → pageAt P chip t ≡ value) → pageAt P new t ≡ value
     holds-at t value i e at was = ⊎-elim
-        (λ (f : eqb t here ≡ true).
-        let same : t ≡ here = eqb-true t here f in
+        (λ (same : t ≡ here).
         ap (pageAt P new) same ∙ write-page P here page (markOf Z pass) chip fits whole ∙ at same (sym here-mark ∙ ap (markAt (new .marks)) (sym same) ∙ e))
-        (λ (f : eqb t here ≡ false).
-        let apart : t ≢ here = eqb-false t here f in
+        (λ (apart : t ≢ here).
         write-page-other P here page (markOf Z pass) chip fits whole t apart ∙ was (sym (write-mark-other P here page (markOf Z pass) chip t apart) ∙ e))
-        (bool-cases (eqb t here))
+        (eq-cases t here)
 
     write-holds : Holding M originals new
     write-holds = record {
-      plain = λ k h e. holds-at (slotOf m k) (original k) 0 e (λ _ f. absurd (not-plain Z pass f)) (H .plain k h);
+      plain = λ k h e. holds-at (slotOf m k) (original k) 0 e (λ _ f. absurd (not-plain pass f)) (H .plain k h);
       code = λ set v s l u e. holds-at (slot m (v - 1) set) (sum original (coded M set v)) 1 e
           (λ same f.
           let at-b : v - 1 ≡ b = sym (slot-div m (v - 1) set s) ∙ ap (λ (x : ℕ). x / m) same ∙ slot-div m b q q-in in
