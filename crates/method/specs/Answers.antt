@@ -101,14 +101,7 @@ runCarriedOut M chip work place taken =
 
 -- rule 7.8
 unfoldable pub runRefused : (number : ℕ) → Chip → (work : List ℕ) → RunAnswer
-runRefused number chip work = record {
-  number = number;
-  place = 0;
-  tally = nothingDone;
-  finished = 0;
-  chip = chip;
-  work = work;
-}
+runRefused number chip work = record { number = number; place = 0; tally = nothingDone; finished = 0; chip = chip; work = work }
 
 unfoldable pub runAnswer : Request → Chip → (work : List ℕ) → (place budget : ℕ) → RunAnswer
 runAnswer R chip work place budget =

@@ -1,6 +1,6 @@
 -- Calls that take no step, refused ones and reads among them, keep what is kept; cut or not.
 use Rattle.flash.proofs.Kit.{_≡_, refl, sym, ap, _∙_, subst, _⊎_, inl, inr, ⊎-elim, true, false, cond, List, [], _++_, append-nil, or-false, ℕ}
-use Rattle.flash.proofs.Kit.{zero, suc, _≤_, arith, length, take}
+use Rattle.flash.proofs.Kit.{suc, _≤_, arith, length}
 use Rattle.flash.specs.Lists.{count}
 use Rattle.flash.specs.Chip.{Chip}
 use Rattle.flash.proofs.Bools.{bool-cases}
@@ -56,11 +56,6 @@ module _ (M : Move) (originals : List ℕ) where
       }
 
   module _ (h : History) (K : Kept M originals h) (call : Call) (none : stepsOf call (h .chip) ≡ []) (same : chipAfter call (h .chip) 0 ≡ h .chip) where
-    -- what is added to the operations begun
-    nothing : (i : ℕ) → h .begun ++ take i (stepsOf call (h .chip)) ≡ h .begun
-    nothing zero = append-nil (h .begun)
-    nothing (suc i) = ap (λ (l : List Operation). h .begun ++ take (suc i) l) none ∙ append-nil (h .begun)
-
     more-mends : h .mends ≤ cond (isMend call) (suc (h .mends)) (h .mends)
     more-mends = ⊎-elim
         (λ (e : isMend call ≡ true). rw e (omega arith))
@@ -71,14 +66,14 @@ module _ (M : Move) (originals : List ℕ) where
     unfolding during
     idle-during =
         kept-later h (during h call 0)
-        (record { chip = same; begun = nothing 0; mends = more-mends; unmended = inr (λ e. e); finished = λ e. e; cuts = λ e. e })
+        (record { chip = same; begun = append-nil (h .begun); mends = more-mends; unmended = inr (λ e. e); finished = λ e. e; cuts = λ e. e })
         K
 
     idle-cut : Kept M originals (cutShort h call 0 (chipAfter call (h .chip) 0))
     unfolding cutShort
     idle-cut =
         kept-later h (cutShort h call 0 (chipAfter call (h .chip) 0))
-        (record { chip = same; begun = nothing 0; mends = more-mends; unmended = inr (λ e. refl); finished = λ e. e; cuts = λ e. absurd (omega arith) })
+        (record { chip = same; begun = append-nil (h .begun); mends = more-mends; unmended = inr (λ e. refl); finished = λ e. e; cuts = λ e. absurd (omega arith) })
         K
 
     module _ (same′ : chipReturned call (h .chip) ≡ h .chip) (unfinished : returnsFinished call (h .chip) ≡ false) where

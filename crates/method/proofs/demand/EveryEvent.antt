@@ -1,10 +1,9 @@
 -- Demand 3: every list of events keeps what is kept, so the claim holds at each of its moments.
 use Rattle.flash.proofs.Kit.{_≡_, refl, sym, ap, subst, ⊎-elim, _≢_, Bool, true, false, cond, true≢false, List, [], _∷_, _++_, map, Option}
-use Rattle.flash.proofs.Kit.{none as nothing, some, ℕ, zero, suc, _+_, _*_, _≤_, _<_, zero-mod, arith, eqb, length, eqb-false, ne-eqb}
+use Rattle.flash.proofs.Kit.{none as nothing, some, ℕ, zero, suc, _+_, _≤_, _<_, zero-mod, arith, eqb, length, eqb-false, ne-eqb}
 use Rattle.flash.specs.Lists.{range, count}
 use Rattle.flash.specs.Tables.{refusal}
 use Rattle.flash.specs.declared.sizes.Sizes.{Sizes}
-use Rattle.flash.specs.Geometry.{originalCount}
 use Rattle.flash.specs.PageSum.{sum}
 use Rattle.flash.specs.Chip.{Chip, pageAt}
 use Rattle.flash.proofs.Bools.{bool-cases}
@@ -20,9 +19,7 @@ use Rattle.method.specs.Answers.{RunAnswer, runRows, runCarriedOut, step
 use Rattle.method.specs.Runs.{Start}
 use Rattle.method.specs.Events.{Call, run, mend, read, CutPoint, Event, History, numberOf, mendSteps, stepsOf, chipAfter, chipReturned, returnsFinished, starting, during, after, stepsFinished, moments}
 use Rattle.method.specs.Demand3.{CutObeys, Allowed, AllAllowed, Keeps, AtEach, Demand3}
-use Rattle.method.proofs.basics.AcceptedCalls.{StandsAt}
-use Rattle.method.proofs.states.AtRest.{rest-stands, rest-holds, rest-length}
-use Rattle.method.proofs.states.RunsAddUp.{run-answer, start-accepted}
+use Rattle.method.proofs.states.RunsAddUp.{run-answer, start-accepted, start-stands, start-holds, start-full}
 use Rattle.method.proofs.places.Turns.{resumes-begun}
 use Rattle.method.proofs.recovery.Moments.{Moment, stands-moment}
 use Rattle.method.proofs.demand.KeptByHistories.{within, Kept, keeps}
@@ -69,9 +66,6 @@ module _ (R : Request) (chip₀ : Chip) (S : Start R chip₀) where
   abbrev originals : List ℕ
   originals = originalsIn (R .sizes) chip₀
 
-  full : length originals ≡ originalCount (R .sizes) * R .sizes .p
-  full = rest-length M A chip₀ (S .store-length) (S .marks-length) (S .at-rest)
-
   module _ (h : History) (K : Kept M originals h) where
     -- the event of a call, cut where it may be
     abbrev EventsKept : Call → Type 0
@@ -97,11 +91,12 @@ module _ (R : Request) (chip₀ : Chip) (S : Start R chip₀) where
     unfolding stepsOf chipAfter chipReturned returnsFinished
     read-idle N work k = idle M originals h K (read N work k) refl refl refl refl
 
-    run-shared : (N : Request) → N ≡ R → (work : List ℕ) (place budget : ℕ) → numberOf (run N work place budget) (h .chip) ≡ 0 → h .unmended ≡ false → EventsKept (run N work place budget)
+    run-shared : (N : Request) → N ≡ R → (work : List ℕ) (place budget : ℕ)
+        → numberOf (run N work place budget) (h .chip) ≡ 0 → h .unmended ≡ false → EventsKept (run N work place budget)
     unfolding numberOf
     run-shared N e work place budget ok mended =
         subst (λ (N : Request). numberOf (run N work place budget) (h .chip) ≡ 0 → EventsKept (run N work place budget)) (sym e)
-        (λ ok. run-kept R A originals full h K work place budget (run-number R (h .chip) work place budget ok) mended) ok
+        (λ ok. run-kept R A originals (start-full R chip₀ S) h K work place budget (run-number R (h .chip) work place budget ok) mended) ok
 
     mend-shared : (Z : Sizes) → Z ≡ R .sizes → EventsKept (mend Z)
     mend-shared Z e = subst (λ (Z : Sizes). EventsKept (mend Z)) (sym e) (mend-kept M A originals h K)
@@ -142,19 +137,13 @@ module _ (R : Request) (chip₀ : Chip) (S : Start R chip₀) where
   unfolding starting filled count
   started = record {
     place = 0;
-    moment = subst (Moment (R .sizes) (chip₀ .marks)) (resumes-begun (R .sizes) 0 start-filled) (stands-moment (R .sizes) chip₀ 0 at-0);
+    moment = subst (Moment (R .sizes) (chip₀ .marks)) (resumes-begun (R .sizes) 0 (zero-mod (R .sizes .m + 1))) (stands-moment (R .sizes) chip₀ 0 (start-stands R chip₀ S));
     store-length = S .store-length;
-    holds = rest-holds M A chip₀ (S .store-length) (S .marks-length) (S .at-rest);
+    holds = start-holds R chip₀ S;
     bounded = within (omega arith);
     ended = λ e. absurd (true≢false (sym e));
-    fresh = λ c m. record { taken = 0; stands = at-0; done = refl };
+    fresh = λ c m. record { taken = 0; stands = start-stands R chip₀ S; done = refl };
   }
-    where
-      at-0 : StandsAt (R .sizes) chip₀ 0
-      at-0 = rest-stands M A chip₀ (S .store-length) (S .marks-length) (S .at-rest)
-
-      start-filled : filled (R .sizes) 0 ≡ 0
-      start-filled = zero-mod (R .sizes .m + 1)
 
 -- ---- equal marks
 read-answer : (R : Request) (chip : Chip) (work : List ℕ) (k : ℕ) → readAnswer R chip work k .number ≡ 0

@@ -1,7 +1,7 @@
 -- What a list of calls and cuts keeps, and that demand 3 holds of a moment that has it.
-use Rattle.flash.proofs.Kit.{_≡_, refl, sym, _∙_, subst, Bool, true, List, [], ℕ, suc, _+_, _-_, _*_, _≤_, _<_, min, arith, length, getD}
+use Rattle.flash.proofs.Kit.{_≡_, refl, _∙_, subst, Bool, true, List, [], ℕ, suc, _+_, _-_, _*_, _≤_, _<_, min, arith, length, getD}
 use Rattle.flash.proofs.Kit.{take, drop, take-append-drop, eq-eqb, lt-leb}
-use Rattle.flash.specs.Lists.{count, part}
+use Rattle.flash.specs.Lists.{count}
 use Rattle.flash.specs.Tables.{refusal}
 use Rattle.flash.specs.declared.sizes.Sizes.{Sizes}
 use Rattle.flash.specs.Geometry.{slotOf, originalCount, storeLength, workLength}
@@ -24,8 +24,7 @@ use Rattle.method.proofs.places.StepsAtPlaces.{filled-early}
 use Rattle.method.proofs.places.PlaceShape.{letterAbove, which-pass}
 use Rattle.method.proofs.walks.ReadsOriginals.{reads}
 use Rattle.method.proofs.states.StatesOfPlaces.{is-state}
-use Rattle.method.proofs.states.AtRest.{rest-page, rest-length}
-use Rattle.method.proofs.states.RunsAddUp.{run-answer, start-accepted}
+use Rattle.method.proofs.states.RunsAddUp.{run-answer, start-accepted, start-full, start-page}
 use Rattle.method.proofs.places.Turns.{turn, turn-high, turn-erases}
 use Rattle.method.proofs.recovery.Moments.{Moment, moment-shape, finished-page}
 use Rattle.method.proofs.recovery.MendFinds.{moment-fits}
@@ -33,7 +32,7 @@ use Rattle.method.proofs.recovery.MendAnswers.{recovers}
 use Rattle.method.proofs.places.ErasesCounted.{at-most-twice}
 
 -- some of a list
-count-take : {A : Type 0} (test : A → Bool) (some : ℕ) (xs : List A) → count test (take some xs) ≤ count test xs
+pub count-take : {A : Type 0} (test : A → Bool) (some : ℕ) (xs : List A) → count test (take some xs) ≤ count test xs
 count-take {A} test some xs =
     subst (λ (l : List A). count test (take some xs) ≤ count test l) (take-append-drop some xs) (omega (arith, count-append test (take some xs) (drop some xs)))
 
@@ -79,12 +78,6 @@ module _ (R : Request) (chip₀ : Chip) (S : Start R chip₀) where
   abbrev originals : List ℕ
   originals = originalsIn W chip₀
 
-  full : length originals ≡ originalCount W * W .p
-  full = rest-length M A chip₀ (S .store-length) (S .marks-length) (S .at-rest)
-
-  first-page : (k : ℕ) → part (W .p) k originals ≡ pageAt (W .p) chip₀ (slotOf (W .m) k)
-  first-page k = sym (rest-page M A chip₀ (S .store-length) (S .marks-length) (S .at-rest) k)
-
   module _ (h : History) (K : Kept M originals h) where
     abbrev chip : Chip
     chip = h .chip
@@ -104,7 +97,7 @@ module _ (R : Request) (chip₀ : Chip) (S : Start R chip₀) where
     stays k k-in =
         let T = moment-shape W (chip .marks) (K .place) (K .moment) in
         let D = reads M A (chip .marks) (T .low) (T .high) k k-in (letterAbove (T .pass)) (which-pass (T .pass)) (T .shape) in
-        let total = D .original originals chip refl full (K .holds) ∙ first-page k in
+        let total = D .original originals chip refl (start-full R chip₀ S) (K .holds) ∙ start-page R chip₀ S k in
         record {
           few = D .few;
           stored = λ i l. D .sited i l .inside;
@@ -126,7 +119,7 @@ module _ (R : Request) (chip₀ : Chip) (S : Start R chip₀) where
         rw (F .done) (omega (arith, at-most-twice W b, count-take (erasesBlock b) (F .taken) (operations W)))
 
     final : h .finished ≡ true → (k : ℕ) → k < originalCount W → pageAt (W .p) chip (slotOf (W .m) (getD (M .list) k 0)) ≡ pageAt (W .p) chip₀ (slotOf (W .m) k)
-    final e k k-in = finished-page M A originals chip (subst (Moment W (chip .marks)) (K .ended e) (K .moment)) (K .holds) k k-in ∙ first-page k
+    final e k k-in = finished-page M A originals chip (subst (Moment W (chip .marks)) (K .ended e) (K .moment)) (K .holds) k k-in ∙ start-page R chip₀ S k
 
     goes-on : (work : List ℕ) → length work ≡ workLength W → (budget : ℕ) → lastPlace W ≤ budget
         → runAnswer R (mendAnswer W chip .chip) work (mendAnswer W chip .place) budget .finished ≡ 1

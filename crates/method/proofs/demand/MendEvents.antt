@@ -1,5 +1,5 @@
 -- A mend with the shared sizes keeps what is kept: before and after its erase, once it has returned, and where it is cut.
-use Rattle.flash.proofs.Kit.{_≡_, refl, sym, ap, _∙_, subst, true, cond, List, [], _∷_, _++_, append-nil, or-false, none, some, ℕ, zero, suc}
+use Rattle.flash.proofs.Kit.{_≡_, refl, sym, ap, _∙_, subst, true, cond, List, [], _∷_, _++_, or-false, none, some, ℕ, zero, suc}
 use Rattle.flash.proofs.Kit.{_+_, _≤_, arith, eqb, length, getD, take}
 use Rattle.flash.specs.Lists.{count}
 use Rattle.flash.specs.declared.sizes.Sizes.{Sizes}
@@ -19,7 +19,7 @@ use Rattle.method.proofs.recovery.Moments.{Moment}
 use Rattle.method.proofs.recovery.MendAnswers.{Mends, erases, keeps, Recovered, mends, recovers}
 use Rattle.method.proofs.recovery.MarksFade.{cut-fades, holding-fades}
 use Rattle.method.proofs.recovery.CutsLeave.{mend-cut}
-use Rattle.method.proofs.demand.KeptByHistories.{Bounded, within, once-more, Kept}
+use Rattle.method.proofs.demand.KeptByHistories.{count-take, Bounded, within, once-more, Kept}
 use Rattle.method.proofs.demand.CallsWithoutSteps.{EventKept, idle}
 
 module _ (M : Move) (A : AcceptedMove M) (originals : List ℕ) (h : History) (K : Kept M originals h) where
@@ -60,9 +60,12 @@ module _ (M : Move) (A : AcceptedMove M) (originals : List ℕ) (h : History) (K
         go (within b) = b
         go (once-more u k b) = absurd (omega (arith, A .ranges .m-low))
 
-    begun-one : count isErase (h .begun ++ (erase (filling Z (K .place)) ∷ [])) ≤ turn Z (K .place) + suc (h .mends)
+    -- whether the erase is begun or not
+    begun-to : (i : ℕ) → count isErase (h .begun ++ take i (stepsOf call (h .chip))) ≤ turn Z (K .place) + suc (h .mends)
     unfolding count isErase
-    begun-one = omega (arith, few, count-append isErase (h .begun) (erase (filling Z (K .place)) ∷ []))
+    begun-to i =
+        let steps = stepsOf call (h .chip) in
+        omega (arith, few, count-append isErase (h .begun) (take i steps), count-take isErase i steps, ap (count isErase) one-step)
 
     -- a history of this mend: the chip still has its moment, and at most this erase was begun
     kept-as : (g : History) → Moment Z (g .chip .marks) (K .place) → length (g .chip .store) ≡ length (h .chip .store) → Holding M originals (g .chip)
@@ -83,34 +86,27 @@ module _ (M : Move) (A : AcceptedMove M) (originals : List ℕ) (h : History) (K
     mended-size : length (answer .chip .store) ≡ length (h .chip .store)
     mended-size = R .store-length ∙ sym (K .store-length)
 
-    -- the erase is not begun, or it is
-    begun-0 : count isErase (h .begun ++ take 0 (stepsOf call (h .chip))) ≤ turn Z (K .place) + suc (h .mends)
-    begun-0 = omega (arith, few, ap (count isErase) (append-nil (h .begun)))
-
-    begun-1 : count isErase (h .begun ++ take 1 (stepsOf call (h .chip))) ≤ turn Z (K .place) + suc (h .mends)
-    begun-1 = rw one-step begun-one
-
     during-kept : (i : ℕ) → i ≤ 1 → Kept M originals (during h call i)
     unfolding during isMend chipAfter
-    during-kept zero l = kept-as (during h call 0) (K .moment) refl (K .holds) begun-0 refl (λ f. f)
-    during-kept (suc zero) l = kept-as (during h call 1) (R .moment) mended-size mended-holds begun-1 refl (λ f. f)
+    during-kept zero l = kept-as (during h call 0) (K .moment) refl (K .holds) (begun-to 0) refl (λ f. f)
+    during-kept (suc zero) l = kept-as (during h call 1) (R .moment) mended-size mended-holds (begun-to 1) refl (λ f. f)
     during-kept (suc (suc i)) l = absurd (omega arith)
 
     between-kept : (i : ℕ) → i ≤ 1 → Kept M originals (cutShort h call i (chipAfter call (h .chip) i))
     unfolding cutShort isMend chipAfter
-    between-kept zero l = kept-as (cutShort h call 0 (h .chip)) (K .moment) refl (K .holds) begun-0 refl (λ f. f)
-    between-kept (suc zero) l = kept-as (cutShort h call 1 (answer .chip)) (R .moment) mended-size mended-holds begun-1 refl (λ f. f)
+    between-kept zero l = kept-as (cutShort h call 0 (h .chip)) (K .moment) refl (K .holds) (begun-to 0) refl (λ f. f)
+    between-kept (suc zero) l = kept-as (cutShort h call 1 (answer .chip)) (R .moment) mended-size mended-holds (begun-to 1) refl (λ f. f)
     between-kept (suc (suc i)) l = absurd (omega arith)
 
     returned-kept : Kept M originals (returned h call)
     unfolding returned isMend chipReturned returnsFinished
-    returned-kept = kept-as (returned h call) (R .moment) mended-size mended-holds (rw one-step begun-one) refl (λ f. rw or-false at f)
+    returned-kept = kept-as (returned h call) (R .moment) mended-size mended-holds (rw one-step (rw one-step at (begun-to 1))) refl (λ f. rw or-false at f)
 
     inside-kept : (left : Chip) → CutInside Z (erase (filling Z (K .place))) (h .chip) left → Kept M originals (cutShort h call 1 left)
     unfolding cutShort isMend
     inside-kept left C =
         kept-as (cutShort h call 1 left) (mend-cut Z (h .chip) left (K .place) (K .moment) z C) (C .store-length ∙ sym (K .store-length))
-        (holding-fades M originals (h .chip) left (K .holds) (cut-fades Z (erase (filling Z (K .place))) (h .chip) left C)) begun-1 refl (λ f. f)
+        (holding-fades M originals (h .chip) left (K .holds) (cut-fades Z (erase (filling Z (K .place))) (h .chip) left C)) (begun-to 1) refl (λ f. f)
 
     steps-count : length (stepsOf call (h .chip)) ≡ 1
     steps-count = ap length one-step

@@ -22,7 +22,8 @@ mark-letter Z forward = omega arith
 mark-letter Z backward = omega arith
 
 -- An erase: the chip then stands at a place that has the block blank and the others as they are.
-module _ (Z : Sizes) (chip : Chip) (b : ℕ) (b-in : b ≤ Z .n) (store-length : length (chip .store) ≡ storeLength Z) (marks-length : length (chip .marks) ≡ marksLength Z) where
+module _ (Z : Sizes) (chip : Chip) (b : ℕ) (b-in : b ≤ Z .n) (store-length : length (chip .store) ≡ storeLength Z)
+    (marks-length : length (chip .marks) ≡ marksLength Z) where
   open Sizes Z using (n, m, p as P)
 
   abbrev wiped : Chip

@@ -1,5 +1,6 @@
 -- Runs add up, and from rest they lead through the states of the places.
-use Rattle.flash.proofs.Kit.{_≡_, refl, sym, ap, ap₂, _∙_, subst, true, cond, List, ℕ, zero, suc, _+_, _≤_, _<_, zero-add, arith, eqb, length, getD}
+use Rattle.flash.proofs.Kit.{_≡_, refl, sym, ap, ap₂, _∙_, subst, true, cond, List, ℕ, zero, suc, _+_, _*_, _≤_, _<_, zero-add, arith, eqb, length, getD}
+use Rattle.flash.specs.Lists.{part}
 use Rattle.flash.specs.Tables.{refusal}
 use Rattle.flash.specs.declared.sizes.Sizes.{Sizes}
 use Rattle.flash.specs.Geometry.{slot, slotOf, originalCount, workLength}
@@ -15,7 +16,7 @@ use Rattle.method.specs.Step.{Running, steps}
 use Rattle.method.specs.Answers.{RunAnswer, runRows, stepsTaken, runCarriedOut, runAnswer}
 use Rattle.method.specs.Runs.{joined, runsOfOne, RunsAddUp, Start, StatesReached}
 use Rattle.method.proofs.basics.MoveShape.{Holding}
-use Rattle.method.proofs.basics.AcceptedCalls.{RunTaken, run-taken, taken-run}
+use Rattle.method.proofs.basics.AcceptedCalls.{StandsAt, RunTaken, run-taken, taken-run}
 use Rattle.method.proofs.states.StepsAddUp.{steps-add, taken-add}
 use Rattle.method.proofs.places.Tallies.{tally-split}
 use Rattle.method.proofs.places.StepsAtPlaces.{filling-in}
@@ -137,12 +138,24 @@ module _ (R : Request) (chip : Chip) (S : Start R chip) where
         split = S .split-correct;
       }
 
+  pub start-stands : StandsAt W chip 0
+  start-stands = rest-stands (move R) start-accepted chip (S .store-length) (S .marks-length) (S .at-rest)
+
+  pub start-holds : Holding (move R) (originalsIn W chip) chip
+  start-holds = rest-holds (move R) start-accepted chip (S .store-length) (S .marks-length) (S .at-rest)
+
+  pub start-full : length (originalsIn W chip) ≡ originalCount W * W .p
+  start-full = rest-length (move R) start-accepted chip (S .store-length) (S .marks-length) (S .at-rest)
+
+  pub start-page : (k : ℕ) → part (W .p) k (originalsIn W chip) ≡ pageAt (W .p) chip (slotOf (W .m) k)
+  start-page k = sym (rest-page (move R) start-accepted chip (S .store-length) (S .marks-length) (S .at-rest) k)
+
   module _ (work : List ℕ) (work-length : length work ≡ workLength W) where
-    pub start-taken : RunTaken R chip work 0
+    start-taken : RunTaken R chip work 0
     start-taken = record {
       accepted = start-accepted;
       lent = record { store-length = S .store-length; marks-length = S .marks-length; work-length = work-length };
-      stands = rest-stands (move R) start-accepted chip (S .store-length) (S .marks-length) (S .at-rest);
+      stands = start-stands;
     }
 
     started : (t : ℕ) → t ≤ lastPlace W → runAnswer R chip work 0 t ≡ runCarriedOut (move R) chip work 0 t
@@ -150,9 +163,6 @@ module _ (R : Request) (chip : Chip) (S : Start R chip) where
     started t h =
         let all : stepsTaken W 0 t ≡ t = omega arith in
         run-answer R chip work 0 t (taken-run R chip work 0 start-taken) ∙ ap (runCarriedOut (move R) chip work 0) all
-
-    first-holds : Holding (move R) (originalsIn W chip) chip
-    first-holds = rest-holds (move R) start-accepted chip (S .store-length) (S .marks-length) (S .at-rest)
 
     module _ (t : ℕ) (h : t ≤ lastPlace W) where
       abbrev after : Running
@@ -163,8 +173,8 @@ module _ (R : Request) (chip : Chip) (S : Start R chip) where
 
       after-holds : Holding (move R) (originalsIn W chip) (after .chip)
       after-holds =
-          steps-hold (move R) start-accepted (originalsIn W chip) (rest-length (move R) start-accepted chip (S .store-length) (S .marks-length) (S .at-rest)) t 0
-          (record { chip = chip; work = work }) (omega arith) (record { lent = start-taken .lent; stands = start-taken .stands }) first-holds
+          steps-hold (move R) start-accepted (originalsIn W chip) start-full t 0 (record { chip = chip; work = work }) (omega arith)
+          (record { lent = start-taken .lent; stands = start-stands }) start-holds
 
       after-steps : (runAnswer R chip work 0 t .number ≡ 0) × (runAnswer R chip work 0 t .place ≡ t) × (runAnswer R chip work 0 t .chip ≡ stateOf (move R) (originalsIn W chip) t)
       unfolding runCarriedOut
@@ -185,8 +195,8 @@ module _ (R : Request) (chip : Chip) (S : Start R chip) where
         let end : Chip = after last (omega arith) .chip in
         let N = stands-moment W end (0 + last) (after-taken last (omega arith) .stands) in
         rw (started last (omega arith))
-        (finished-page (move R) start-accepted (originalsIn W chip) end (subst (Moment W (end .marks)) (ap (resumesAt W) (zero-add last) ∙ resumes-last W) N) (after-holds last (omega arith)) k h
-        ∙ sym (rest-page (move R) start-accepted chip (S .store-length) (S .marks-length) (S .at-rest) k))
+        (finished-page (move R) start-accepted (originalsIn W chip) end
+        (subst (Moment W (end .marks)) (ap (resumesAt W) (zero-add last) ∙ resumes-last W) N) (after-holds last (omega arith)) k h ∙ start-page k)
 
 pub states-reached : StatesReached
 states-reached = record {
