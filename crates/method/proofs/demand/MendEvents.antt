@@ -10,13 +10,14 @@ use Rattle.method.specs.Place.{Operation, erase, done, filling, filled}
 use Rattle.method.specs.Step.{isErase}
 use Rattle.method.specs.Cut.{CutInside}
 use Rattle.method.specs.Mend.{Reading, reading}
-use Rattle.method.specs.Answers.{MendAnswer, mendAnswer}
+use Rattle.method.specs.Answers.{MendAnswer, mended, mendAnswer}
 use Rattle.method.specs.Events.{Call, mend, CutPoint, uncut, between, inside, History, numberOf, mendSteps, stepsOf, chipAfter, chipReturned, returnsFinished, isMend, during, returned, cutShort, afterCall, stepsFinished, sizesGiven}
 use Rattle.method.specs.Demand3.{CutObeys}
 use Rattle.method.proofs.basics.MoveShape.{Holding}
 use Rattle.method.proofs.places.Turns.{turn}
 use Rattle.method.proofs.recovery.Moments.{Moment}
-use Rattle.method.proofs.recovery.MendAnswers.{Mends, erases, keeps, Recovered, mends, recovers}
+use Rattle.method.proofs.recovery.MendFinds.{Finds, torn, full, finds}
+use Rattle.method.proofs.recovery.MendAnswers.{Recovered, answers, recovers}
 use Rattle.method.proofs.recovery.MarksFade.{cut-fades, holding-fades}
 use Rattle.method.proofs.recovery.CutsLeave.{mend-cut}
 use Rattle.method.proofs.demand.KeptByHistories.{count-take, Bounded, within, once-more, Kept}
@@ -41,11 +42,13 @@ module _ (M : Move) (A : AcceptedMove M) (originals : List ℕ) (h : History) (K
       ap (λ (x : ℕ). cond (eqb x 0) (mendSteps (reading Z (h .chip .marks))) []) (R .number-is) ∙ ap mendSteps e
 
   -- ---- nothing to erase
-  keeps-all : reading Z (h .chip .marks) ≡ some (record { place = K .place; toErase = none }) → answer ≡ record { number = 0; place = K .place; erases = 0; chip = h .chip }
+  keeps-all : reading Z (h .chip .marks) ≡ some (record { place = K .place; toErase = none })
       → (cut : CutPoint) → CutObeys call cut (h .chip) → EventKept M originals h call cut
-  unfolding mendSteps chipAfter chipReturned returnsFinished
-  keeps-all e a =
-      idle M originals h K call (steps-are (record { place = K .place; toErase = none }) e) refl (ap (λ (x : MendAnswer). x .chip) a) refl
+  unfolding mendSteps chipAfter chipReturned returnsFinished mended
+  keeps-all e =
+      let found : Reading = record { place = K .place; toErase = none } in
+      idle M originals h K call (steps-are found e) refl
+      (ap (λ (x : MendAnswer). x .chip) (answers Z (A .ranges) (h .chip) (K .store-length) (K .place) (K .moment) found e)) refl
 
   -- ---- a block to erase
   module _ (z : filled Z (K .place) ≡ 0) (e : reading Z (h .chip .marks) ≡ some (record { place = K .place; toErase = some (filling Z (K .place)) })) where
@@ -122,8 +125,8 @@ module _ (M : Move) (A : AcceptedMove M) (originals : List ℕ) (h : History) (K
     erases-one (inside (suc f) left) o = absurd (omega (arith, steps-count, o .0))
 
   pub mend-kept : (cut : CutPoint) → CutObeys call cut (h .chip) → EventKept M originals h call cut
-  mend-kept = go (mends Z (A .ranges) (h .chip) (K .store-length) (K .place) (K .moment))
+  mend-kept = go (finds Z (A .ranges) (h .chip .marks) (K .place) (K .moment))
     where
-      go : Mends Z (h .chip) (K .place) → (cut : CutPoint) → CutObeys call cut (h .chip) → EventKept M originals h call cut
-      go (erases z e a) = erases-one z e
-      go (keeps k e a) = keeps-all e a
+      go : Finds Z (h .chip .marks) (K .place) → (cut : CutPoint) → CutObeys call cut (h .chip) → EventKept M originals h call cut
+      go (torn z S e) = erases-one z e
+      go (full k F e) = keeps-all e

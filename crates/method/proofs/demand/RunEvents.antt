@@ -233,11 +233,11 @@ module _ (R : Request) (A : AcceptedMove (move R)) (originals : List ℕ) (full 
           begun = ap (count isErase) (begun-to (suc i) l)
 
           go : AfterCut Z (place + i) (left .marks) → Kept M originals (cutShort h call (suc i) left)
-          go (in-write k op m) = kept-left (resumesAt Z (place + i)) m (within (omega (arith, begun, one-more, turn-resumes Z (place + i), turn-writes Z (place + i) k)))
-          go (in-erase k op m) =
+          go (in-write k m) = kept-left (resumesAt Z (place + i)) m (within (omega (arith, begun, one-more, turn-resumes Z (place + i), turn-writes Z (place + i) k)))
+          go (in-erase k m) =
               kept-left (resumesAt Z (place + i)) m
               (once-more refl (ap (filled Z) (resumes-there Z (place + i) k) ∙ k) (omega (arith, begun, one-more, turn-resumes Z (place + i), turn-erases Z (place + i) k)))
-          go (torn-erase k op m) = kept-left (suc (place + i)) m (within (omega (arith, begun, one-more)))
+          go (torn-erase m) = kept-left (suc (place + i)) m (within (omega (arith, begun, one-more)))
 
   pub run-kept : (cut : CutPoint) → CutObeys call cut (h .chip) → EventKept M originals h call cut
   unfolding stepsFinished afterCall sizesGiven

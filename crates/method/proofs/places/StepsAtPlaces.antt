@@ -1,10 +1,10 @@
 -- Places: the pass, the block that is being filled and its pages; the step at each place, and the place that it leads to.
-use Rattle.flash.proofs.Kit.{_≡_, refl, sym, ap, ap₂, _∙_, subst, _⊎_, inl, inr, ⊎-elim, _≢_, List, [], _∷_, _++_, ℕ, suc, _+_, _-_, _*_, _/_}
+use Rattle.flash.proofs.Kit.{_≡_, refl, sym, ap, ap₂, _∙_, subst, _⊎_, inl, inr, ⊎-elim, List, [], _∷_, _++_, ℕ, suc, _+_, _-_, _*_, _/_}
 use Rattle.flash.proofs.Kit.{_%_, _≤_, _<_, suc-mul, div-add-mod', mod-lt, div-lt-iff-lt-mul, add-mul, arith, length, getD, List·getD-append}
 use Rattle.flash.proofs.Kit.{List·getD-eq-default, getD-append-add, getD-at, lt-ltb, le-ltb}
 use Rattle.flash.specs.Lists.{range, downFrom, concatMap}
 use Rattle.flash.specs.declared.sizes.Sizes.{Sizes}
-use Rattle.flash.proofs.Comparisons.{eq-cases, lt-cases}
+use Rattle.flash.proofs.Comparisons.{lt-cases}
 use Rattle.flash.proofs.Ranges.{length-range, range-at}
 use Rattle.method.specs.Place.{Pass, forward, backward, Operation, write, erase, done, writes, forwardTurn, backwardTurn, operations, lastPlace, operationAt, passAt, filling, filled}
 use Rattle.method.specs.Claims.{StepsCounted}
@@ -121,10 +121,9 @@ module _ (Z : Sizes) where
 
   -- so with a page written in its block the move is not over
   pub filled-early : (place : ℕ) → place ≤ lastPlace Z → 0 < filled Z place → place < lastPlace Z
-  filled-early place h k = ⊎-elim
-      (λ (e : place ≡ lastPlace Z). absurd (omega (arith, ap (filled Z) e ∙ last-stands .pages-is)))
-      (λ (ne : place ≢ lastPlace Z). omega arith)
-      (eq-cases place (lastPlace Z))
+  filled-early place h k =
+      let not-last : place ≡ lastPlace Z → ⊥ = λ e. omega (arith, ap (filled Z) e ∙ last-stands .pages-is) in
+      omega arith
 
   -- before it, a turn is not over
   pub turn-in : (place : ℕ) → place < lastPlace Z → turnOf (passAt Z place) (filling Z place) < 2 * n

@@ -21,12 +21,9 @@ use Rattle.method.proofs.recovery.MarksFade.{Fades, torn-mark, cut-fade
 -- What a cut inside the step of a place may leave: all that a caller has to tell apart. A write loses nothing that was there; an erase
 -- has taken no mark yet, or has made the block that is filled next unfinished.
 pub data AfterCut (Z : Sizes) (place : ℕ) (marks : List ℕ) : Type 0 where
-  in-write : filled Z place < Z .m → operationAt Z place ≡ write (passAt Z place) (filling Z place) (filled Z place)
-      → Moment Z marks (resumesAt Z place) → AfterCut Z place marks
-  in-erase : filled Z place ≡ Z .m → operationAt Z place ≡ erase (nextBlock (passAt Z place) (filling Z place))
-      → Moment Z marks (resumesAt Z place) → AfterCut Z place marks
-  torn-erase : filled Z place ≡ Z .m → operationAt Z place ≡ erase (nextBlock (passAt Z place) (filling Z place))
-      → Moment Z marks (suc place) → AfterCut Z place marks
+  in-write : filled Z place < Z .m → Moment Z marks (resumesAt Z place) → AfterCut Z place marks
+  in-erase : filled Z place ≡ Z .m → Moment Z marks (resumesAt Z place) → AfterCut Z place marks
+  torn-erase : Moment Z marks (suc place) → AfterCut Z place marks
 
 module _ (Z : Sizes) where
   open Sizes Z using (n, m)
@@ -139,10 +136,10 @@ module _ (Z : Sizes) where
         moment = place-moment Z place (omega arith) (left .marks)
 
         go : Change Z place → AfterCut Z place (left .marks)
-        go (by-write k e W) = in-write k e (moment (write-cut (passAt Z place) W (rw e at C)))
+        go (by-write k e W) = in-write k (moment (write-cut (passAt Z place) W (rw e at C)))
         go (by-erase k e E) =
             let D : CutInside Z (erase next) before left = rw e at C in
             ⊎-elim
-            (λ (r : (q : ℕ) × (q < m) × (erased? q ≡ true)). torn-erase k e (harmed k E D (r .0) (r .1) (eqb-true _ _ (r .2))))
-            (λ (f : (q : ℕ) → q < m → erased? q ≡ false). in-erase k e (moment (unharmed k E D f)))
+            (λ (r : (q : ℕ) × (q < m) × (erased? q ≡ true)). torn-erase (harmed k E D (r .0) (r .1) (eqb-true _ _ (r .2))))
+            (λ (f : (q : ℕ) → q < m → erased? q ≡ false). in-erase k (moment (unharmed k E D f)))
             (seek erased? m)

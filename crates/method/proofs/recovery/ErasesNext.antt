@@ -24,10 +24,9 @@ module _ (Z : Sizes) (pages : 1 ≤ Z .m) (marks : List ℕ) where
 
   last-turn : (turn : ℕ) → lastPlace Z ≤ turn * (m + 1) → 2 * n ≤ turn
   unfolding lastPlace
-  last-turn turn h = ⊎-elim
-      (λ (l : turn < 2 * n). (let less = slot-lt (m + 1) turn 0 (2 * n) l (omega arith) in absurd (omega arith)))
-      (λ (l : 2 * n ≤ turn). l)
-      (lt-cases turn (2 * n))
+  last-turn turn h =
+      let not-before : turn < 2 * n → ⊥ = λ l. (let less = slot-lt (m + 1) turn 0 (2 * n) l (omega arith) in absurd (omega arith)) in
+      omega arith
 
   -- a turn starts with page 0 of its block, and after the last turn no step is left
   turn-starts : (pass : Pass) (b : ℕ) → Fills Z pass b → (2 * n ≤ turnOf Z pass b → b ≡ 0) → WrittenNext Z (turnOf Z pass b * (m + 1)) b
@@ -41,7 +40,7 @@ module _ (Z : Sizes) (pages : 1 ≤ Z .m) (marks : List ℕ) where
       (λ (l : lastPlace Z ≤ at). inr (operation-done Z at l, last (last-turn (turnOf Z pass b) l)))
       (lt-cases at (lastPlace Z))
 
-  -- and one that has it goes by that block
+  -- a reading that has one is of that block
   erased-next : {at place block : ℕ} (b : ℕ) → WrittenNext Z at b
       → _≡_ {A = Reading} (record { place = at; toErase = some b }) (record { place = place; toErase = some block }) → WrittenNext Z place block
   erased-next {at} {place} {block} b W e =

@@ -29,13 +29,6 @@ erased-between Z marks low high i b q S h k e =
     let not-above : high ≤ b → ⊥ = λ l. absurd (omega (arith, full-at (Z .m) marks b (letter Z i) q (S .above b l h) k)) in
     (omega arith, omega arith)
 
--- what mend does where it is not refused: all that a caller has to tell apart
-pub data Mends (Z : Sizes) (chip : Chip) (place : ℕ) : Type 0 where
-  erases : filled Z place ≡ 0 → reading Z (chip .marks) ≡ some (record { place = place; toErase = some (filling Z place) })
-      → mendAnswer Z chip ≡ record { number = 0; place = place; erases = 1; chip = eraseBlock (Z .m) (Z .p) (filling Z place) chip } → Mends Z chip place
-  keeps : filled Z place ≡ Z .m → reading Z (chip .marks) ≡ some (record { place = place; toErase = none })
-      → mendAnswer Z chip ≡ record { number = 0; place = place; erases = 0; chip = chip } → Mends Z chip place
-
 -- an answer by which the move goes on at a place
 pub record Recovered (Z : Sizes) (chip : Chip) (place : ℕ) (answer : MendAnswer) : Type 0 where
   pub number-is : answer .number ≡ 0
@@ -55,17 +48,9 @@ module _ (Z : Sizes) (B : Bounds Z) (chip : Chip) (store-length : length (chip .
       let lengths : badChip Z chip ≡ false = rw (eq-eqb _ _ store-length, eq-eqb _ _ (C .marks-length)) refl in
       refusal-skip _ _ (ap not (range-in Z B)) (refusal-skip _ _ lengths (refusal-skip _ [] (ap fitsNone e) refusal-nil))
 
-  answers : (found : Reading) → reading Z (chip .marks) ≡ some found → mendAnswer Z chip ≡ mended Z chip found
+  pub answers : (found : Reading) → reading Z (chip .marks) ≡ some found → mendAnswer Z chip ≡ mended Z chip found
   unfolding mendAnswer
   answers found e = rw (accepted found e, e)
-
-  pub mends : Mends Z chip place
-  unfolding mended
-  mends = go (finds Z B (chip .marks) place C)
-    where
-      go : Finds Z (chip .marks) place → Mends Z chip place
-      go (torn z S e) = erases z e (answers (record { place = place; toErase = some (filling Z place) }) e)
-      go (full k A e) = keeps k e (answers (record { place = place; toErase = none }) e)
 
   -- with no block unfinished nothing is marked 255
   stands-full : filled Z place ≡ m → MarksAt Z place (chip .marks) → StandsAt Z chip place

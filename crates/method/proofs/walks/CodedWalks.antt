@@ -40,7 +40,7 @@ module _ (M : Move) (A : AcceptedMove M) (marks : List ℕ) (low high i : ℕ) (
 
   -- ---- a walk over coded pages of a set
   module _ (set : ℕ) (set-ok : set < m) (tip : ℕ) where
-    met-stored : (b : ℕ) → Met M low set tip b → Stored M marks low high 1 (codedSlot M marks set b) (coded M set b)
+    met-stored : (b : ℕ) → Met M low set tip b → Stored M marks 1 (codedSlot M marks set b) (coded M set b)
     met-stored b o = code-stored M marks low high A i S set b set-ok (o .inside) (o .under)
 
     -- each coded page has a slot of its own
@@ -53,20 +53,20 @@ module _ (M : Move) (A : AcceptedMove M) (marks : List ℕ) (low high i : ℕ) (
     -- The slots of a walk from b on sum to original `x b`; `last` tells what follows the last coded page.
     module _ (last : ℕ → List ℕ) (x : ℕ → ℕ) where
       record End (bound c : ℕ) : Type 0 where
-        reads : Reads M marks low high bound (codedSlot M marks set c ∷ last c) (x c)
+        reads : Reads M marks bound (codedSlot M marks set c ∷ last c) (x c)
         apart : (b : ℕ) → Met M low set tip b → Each (λ t. t ≢ codedSlot M marks set b) (last c)
 
       -- the coded page of c and one page more
-      end-two : (j c t y : ℕ) → Met M low set tip c → last c ≡ t ∷ [] → letter (M .sizes) j ≢ letter (M .sizes) 1 → Stored M marks low high j t (y ∷ []) → Adds M (coded M set c) (x c) y → End 2 c
+      end-two : (j c t y : ℕ) → Met M low set tip c → last c ≡ t ∷ [] → letter (M .sizes) j ≢ letter (M .sizes) 1 → Stored M marks j t (y ∷ []) → Adds M (coded M set c) (x c) y → End 2 c
       end-two j c t y o is ne s a = record {
-        reads = rw is (reads-add M marks low high 1 1 (codedSlot M marks set c) (x c) y (coded M set c) (t ∷ []) (met-stored c o) a (differs c o) (reads-one M marks low high j t y s));
+        reads = rw is (reads-add M marks 1 1 (codedSlot M marks set c) (x c) y (coded M set c) (t ∷ []) (met-stored c o) a (differs c o) (reads-one M marks j t y s));
         apart = λ b p. rw is (differs b p);
       }
         where
           differs : (b : ℕ) → Met M low set tip b → Each (λ u. u ≢ codedSlot M marks set b) (t ∷ [])
           differs b p =
               each-one (λ u. u ≢ codedSlot M marks set b) t
-              (stored-apart M marks low high j 1 t (codedSlot M marks set b) (y ∷ []) (coded M set b) ne s (met-stored b p))
+              (stored-apart M marks j 1 t (codedSlot M marks set b) (y ∷ []) (coded M set b) ne s (met-stored b p))
 
       module _ (f : ℕ → ℕ) (ends : ℕ → Bool)
           (stays : (b : ℕ) → Met M low set tip b → ends b ≡ false → Met M low set tip (f b))
@@ -78,7 +78,7 @@ module _ (M : Move) (A : AcceptedMove M) (marks : List ℕ) (low high i : ℕ) (
         met-way (suc d) b E o (suc j) h =
             met-way d (f b) (ends-next f ends d b E) (stays b o (E .not-before 0 (omega arith))) j (omega arith)
 
-        reads-way : (bound d b : ℕ) → Ends f ends d b → Met M low set tip b → End bound (iterate f d b) → Reads M marks low high (d + bound) (way f (codedSlot M marks set) last d b) (x b)
+        reads-way : (bound d b : ℕ) → Ends f ends d b → Met M low set tip b → End bound (iterate f d b) → Reads M marks (d + bound) (way f (codedSlot M marks set) last d b) (x b)
         unfolding iterate way
         reads-way bound zero b E o end = rw (zero-add bound) (end .reads)
         reads-way bound (suc d) b E o end =
@@ -89,14 +89,14 @@ module _ (M : Move) (A : AcceptedMove M) (marks : List ℕ) (low high i : ℕ) (
             (λ j h e. once f ends (suc d) b E 0 (suc j) (omega arith) (omega arith) (sym (coded-same (iterate f j (f b)) b (met-way d (f b) E′ o′ j h) o e)))
             (end .apart b o) in
             rw (suc-add d bound)
-            (reads-add M marks low high (d + bound) 1 (codedSlot M marks set b) (x b) (x (f b)) (coded M set b) (way f (codedSlot M marks set) last d (f b))
+            (reads-add M marks (d + bound) 1 (codedSlot M marks set b) (x b) (x (f b)) (coded M set b) (way f (codedSlot M marks set) last d (f b))
             (met-stored b o) (adds b o goes) fresh (reads-way bound d (f b) E′ o′ end))
 
         reads-walk : (bound d b : ℕ) → Ends f ends d b → Met M low set tip b → (Met M low set tip (iterate f d b) → End bound (iterate f d b)) → 1 ≤ bound → d + bound ≤ n
-            → Reads M marks low high n (walk f (codedSlot M marks set) last ends n b) (x b)
+            → Reads M marks n (walk f (codedSlot M marks set) last ends n b) (x b)
         reads-walk bound d b E o end h l =
             rw (walk-is f (codedSlot M marks set) last ends n d b E (omega arith))
-            (reads-within M marks low high (d + bound) n (x b) (way f (codedSlot M marks set) last d b) l
+            (reads-within M marks (d + bound) n (x b) (way f (codedSlot M marks set) last d b) l
             (reads-way bound d b E o (end (met-way d b E o d (omega arith)))))
 
     -- ---- rule 2
@@ -115,9 +115,9 @@ module _ (M : Move) (A : AcceptedMove M) (marks : List ℕ) (low high i : ℕ) (
       end-top : (c : ℕ) → Met M low set tip c → isTop M set c ≡ true → End (backLast M marks set) (D M set) 1 c
       unfolding backLast
       end-top c o is-top =
-          let s : Stored M marks low high 1 (codedSlot M marks set c) (D M set c ∷ []) = rw (coded-top M A set set-ok c (o .inside) is-top) at (met-stored c o) in
+          let s : Stored M marks 1 (codedSlot M marks set c) (D M set c ∷ []) = rw (coded-top M A set set-ok c (o .inside) is-top) at (met-stored c o) in
           record {
-            reads = rw is-top (reads-one M marks low high 1 (codedSlot M marks set c) (D M set c) s);
+            reads = rw is-top (reads-one M marks 1 (codedSlot M marks set c) (D M set c) s);
             apart = λ b p. rw is-top (λ j h. absurd (not-suc-le-zero h));
           }
 
@@ -131,7 +131,7 @@ module _ (M : Move) (A : AcceptedMove M) (marks : List ℕ) (low high i : ℕ) (
           (plain-stored M marks low high A i S (D M set u) (page .inside) (rw (page .at-block) full))
           (coded-adds M A set set-ok c (o .inside) not-top)
 
-      pub reads-back : Reads M marks low high n (goBack M marks set n v) (D M set v)
+      pub reads-back : Reads M marks n (goBack M marks set n v) (D M set v)
       reads-back =
           let e = back-ends M A marks set set-ok v (v-met .inside) in
           let d : ℕ = e .0 in
@@ -180,7 +180,7 @@ module _ (M : Move) (A : AcceptedMove M) (marks : List ℕ) (low high i : ℕ) (
           (final-stored M marks low high A i S (D M set c) (D-page M A set set-ok c (o .inside) .inside) here)
           (adds-before c o)
 
-      pub reads-on : Reads M marks low high n (goOn M marks set n v) (D M set v)
+      pub reads-on : Reads M marks n (goOn M marks set n v) (D M set v)
       unfolding before
       reads-on =
           let e = on-ends M A marks set set-ok v v-in (rw v-top tip-full) not-there in

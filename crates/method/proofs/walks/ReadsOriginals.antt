@@ -28,7 +28,7 @@ module _ (M : Move) (A : AcceptedMove M) (marks : List ℕ) (low high i : ℕ) (
   -- a block that is not full of s + i lies below `high`
   below-high : (b : ℕ) → b ≤ n → fullOf M marks i b ≡ false → b < high
   unfolding fullOf
-  below-high b h e = ⊎-elim (λ (l : b < high). l) (λ (l : high ≤ b). absurd (never-both (S .above b l h) e)) (lt-cases b high)
+  below-high b h e = (let not-above : high ≤ b → ⊥ = λ l. never-both (S .above b l h) e in omega arith)
 
   -- no block is full of another letter than the shape says
   not-full : (j b : ℕ) → b ≤ n → (b < low → letter (M .sizes) 1 ≢ letter (M .sizes) j) → (high ≤ b → letter (M .sizes) i ≢ letter (M .sizes) j) → fullOf M marks j b ≡ false
@@ -55,8 +55,8 @@ module _ (M : Move) (A : AcceptedMove M) (marks : List ℕ) (low high : ℕ) (k 
   set-ok = set-in M A k k-in
 
   -- rule 1
-  one-page : (j t : ℕ) → Stored M marks low high j t (k ∷ []) → Reads M marks low high n (t ∷ []) k
-  one-page j t s = reads-within M marks low high 1 n k (t ∷ []) (A .ranges .n-low) (reads-one M marks low high j t k s)
+  one-page : (j t : ℕ) → Stored M marks j t (k ∷ []) → Reads M marks n (t ∷ []) k
+  one-page j t s = reads-within M marks 1 n k (t ∷ []) (A .ranges .n-low) (reads-one M marks j t k s)
 
   -- ---- the first pass
   module _ (S : Shape (M .sizes) marks low high 0) where
@@ -78,7 +78,7 @@ module _ (M : Move) (A : AcceptedMove M) (marks : List ℕ) (low high : ℕ) (k 
         (λ (l : high ≤ n). rw (any-is (fullOf M marks 0) 0 (n + 1) n (omega arith) (omega arith) (S .above n l (omega arith)), or-true))
         (lt-cases n high)
 
-    reads-forward : Reads M marks low high n (readSlots M marks k) k
+    reads-forward : Reads M marks n (readSlots M marks k) k
     unfolding readSlots letter
     reads-forward = ⊎-elim
         (λ (plain : fullOf M marks 0 v ≡ true).
@@ -96,7 +96,7 @@ module _ (M : Move) (A : AcceptedMove M) (marks : List ℕ) (low high : ℕ) (k 
     no-plain b h = not-full M A marks low high 2 S 0 b h (λ l. omega arith) (λ l. omega arith)
 
     -- the whole cycle is still coded
-    reads-coded : fullOf M marks 1 (top M set v - 1) ≡ true → Reads M marks low high n (goBack M marks set n v) k
+    reads-coded : fullOf M marks 1 (top M set v - 1) ≡ true → Reads M marks n (goBack M marks set n v) k
     unfolding letter fullOf
     reads-coded full = rw (D-is M A k k-in) at (reads-back M A marks low high 2 S set set-ok (top M set v) v v-met near-top)
       where
@@ -120,23 +120,21 @@ module _ (M : Move) (A : AcceptedMove M) (marks : List ℕ) (low high : ℕ) (k 
     module _ (gone : fullOf M marks 1 (top M set v - 1) ≡ false) where
       over : low < top M set v
       unfolding fullOf
-      over = ⊎-elim
-          (λ (l : low < top M set v). l)
-          (λ (l : top M set v ≤ low).
+      over =
           let t-in = top-in M A set set-ok v v-in in
-          absurd (never-both (S .below (top M set v - 1) (omega arith)) gone))
-          (lt-cases low (top M set v))
+          let not-under : top M set v ≤ low → ⊥ = λ l. never-both (S .below (top M set v - 1) (omega arith)) gone in
+          omega arith
 
       top-final : fullOf M marks 2 (top M set v) ≡ true
       unfolding fullOf
       top-final = S .above (top M set v) (omega (arith, S .near, over)) (top-in M A set set-ok v v-in .high)
 
-      reads-final : fullOf M marks 2 (dest M set v) ≡ false → Reads M marks low high n (goOn M marks set n v) k
+      reads-final : fullOf M marks 2 (dest M set v) ≡ false → Reads M marks n (goOn M marks set n v) k
       reads-final not-there =
           rw (D-is M A k k-in) at (reads-on M A marks low high 2 S set set-ok (top M set v) v v-in refl over top-final not-there
           (λ b b-in e. omega (arith, below-high M A marks low high 2 S (dest M set b) (dest-in M A set set-ok b b-in .high) e, S .near)))
 
-    reads-backward : Reads M marks low high n (readSlots M marks k) k
+    reads-backward : Reads M marks n (readSlots M marks k) k
     unfolding readSlots
     reads-backward = ⊎-elim
         (λ (there : fullOf M marks 2 (dest M set v) ≡ true).
@@ -149,7 +147,7 @@ module _ (M : Move) (A : AcceptedMove M) (marks : List ℕ) (low high : ℕ) (k 
         (bool-cases (fullOf M marks 1 (top M set v - 1))))
         (bool-cases (fullOf M marks 2 (dest M set v)))
 
-  pub reads : (i : ℕ) → (i ≡ 0) ⊎ (i ≡ 2) → Shape (M .sizes) marks low high i → Reads M marks low high n (readSlots M marks k) k
+  pub reads : (i : ℕ) → (i ≡ 0) ⊎ (i ≡ 2) → Shape (M .sizes) marks low high i → Reads M marks n (readSlots M marks k) k
   reads i which S = ⊎-elim
       (λ (e : i ≡ 0). reads-forward (rw e at S))
       (λ (e : i ≡ 2). reads-backward (rw e at S))

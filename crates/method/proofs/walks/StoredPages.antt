@@ -45,7 +45,7 @@ module _ (M : Move) where
   pub swap-adds : {xs : List ℕ} {x y : ℕ} → Adds xs x y → Adds xs y x
   swap-adds {xs} {x} {y} a = record { x-in = a .y-in; y-in = a .x-in; sums = λ page. a .sums page ∙ ⊕-comm (page x) (page y) }
 
-module _ (M : Move) (marks : List ℕ) (low high : ℕ) where
+module _ (M : Move) (marks : List ℕ) where
   open Sizes (M .sizes) using (n, m, p as P)
 
   -- a slot marked s + j whose page holds the sum of some originals
@@ -103,16 +103,11 @@ module _ (M : Move) (marks : List ℕ) (low high : ℕ) where
   pub stored-apart : (i j t u : ℕ) (xs ys : List ℕ) → letter (M .sizes) i ≢ letter (M .sizes) j → Stored i t xs → Stored j u ys → t ≢ u
   stored-apart i j t u xs ys ne a b e = ne (sym (a .marked) ∙ ap (markAt marks) e ∙ b .marked)
 
-  module _ (A : AcceptedMove M) (i : ℕ) (S : Shape (M .sizes) marks low high i) where
+  module _ (low high : ℕ) (A : AcceptedMove M) (i : ℕ) (S : Shape (M .sizes) marks low high i) where
     -- a full block is below `low` or from `high` on
     pub full-clear : (j b : ℕ) → isFull m marks b (letter (M .sizes) j) ≡ true → (b < low) ⊎ (high ≤ b)
-    full-clear j b e = ⊎-elim
-        (λ (h : b < low). inl h)
-        (λ (h : low ≤ b).
-        ⊎-elim
-        (λ (l : b < high). absurd (never-both e (S .between b h l j)))
-        (λ (l : high ≤ b). inr l)
-        (lt-cases b high))
+    full-clear j b e = ⊎-elim inl
+        (λ (h : low ≤ b). (let not-between : b < high → ⊥ = λ l. never-both e (S .between b h l j) in inr (omega arith)))
         (lt-cases b low)
 
     -- a page of a full block
