@@ -13,5 +13,4 @@ pub mod Blocks
 pub mod Chips
 pub mod Loops
 pub mod Bounds
-pub mod TermLaws
 pub mod PassLaws

@@ -1,62 +1,68 @@
--- A sum taken four pages a pass: what a pass adds.
-use Rattle.flash.proofs.Kit.{_≡_, refl, sym, ap, _∙_, subst, ⊎-elim, List, [], _∷_, _++_, ℕ, zero, suc, _+_, _-_, _*_, _≤_, _<_}
-use Rattle.flash.proofs.Kit.{not-suc-le-zero, le-of-suc-le-suc, arith, length, getD, take, drop, length-drop, List·getD-eq-default, take-add}
-use Rattle.flash.proofs.Kit.{getD-drop, getD-take, length-take-le, lt-ltb}
+-- A sum taken four pages a pass: the bytes that a pass leaves, and what is left to sum after it.
+use Rattle.flash.proofs.Kit.{_≡_, refl, sym, ap, _∙_, ⊎-elim, Bool, true, false, cond, List, [], _∷_, ℕ, zero, suc, _+_, _-_, _*_, _≤_, _<_}
+use Rattle.flash.proofs.Kit.{not-suc-le-zero, arith, bitXor, length, getD, take, drop, length-take, getD-take, take-add, le-ltb}
+use native.Mathlib.Nat.{zero-sub}
+use native.Mathlib.Numerals.{unary-clauses}
+use lib.Seq.{take-nil}
+use Rattle.flash.specs.Lists.{part}
 use Rattle.flash.specs.PageSum.{_⊕_, sum}
-use Rattle.flash.specs.inner.Terms.{termsSum}
-use Rattle.flash.specs.inner.Passes.{fourFrom}
-use Rattle.flash.specs.declared.slots.Four.{Four}
-use Rattle.flash.proofs.Comparisons.{lt-cases}
-use Rattle.flash.proofs.Sums.{⊕-nil, sum-append}
+use Rattle.flash.specs.inner.Terms.{byteSum}
+use Rattle.flash.proofs.Bools.{bool-cases}
+use Rattle.flash.proofs.Parts.{length-part, part-at}
+use Rattle.flash.proofs.Sums.{⊕-at, ⊕-nil, length-⊕, length-sum, sum-append}
+use Rattle.flash.proofs.Xor.{xor-assoc}
 
--- the first four of a list, or as many as it has
-four : (page : ℕ → List ℕ) (x : ℕ) (xs : List ℕ)
-    → sum page (take 4 (x ∷ xs)) ≡ termsSum (suc (length xs)) (page x) (page (getD xs 0 x)) (page (getD xs 1 x)) (page (getD xs 2 x))
-unfolding sum termsSum _⊕_
-four page x [] = refl
-four page x (y ∷ []) = refl
-four page x (y ∷ z ∷ []) = refl
-four page x (y ∷ z ∷ w ∷ ws) =
+-- the slot at an index, or the first behind the last
+abbrev pub slotAt : (slots : List ℕ) (at : ℕ) → ℕ
+slotAt slots at = getD slots at (getD slots 0 0)
+
+-- byte i of the sum of the first four pages, or of as many as there are
+four-at : (page : ℕ → List ℕ) (i : ℕ) (slots : List ℕ) → 1 ≤ length slots
+    → byteSum (length slots) (getD (page (slotAt slots 0)) i 0) (getD (page (slotAt slots 1)) i 0) (getD (page (slotAt slots 2)) i 0) (getD (page (slotAt slots 3)) i 0)
+    ≡ getD (sum page (take 4 slots)) i 0
+unfolding sum
+four-at page i [] h = absurd (not-suc-le-zero h)
+four-at page i (x ∷ []) h = rw ⊕-nil
+four-at page i (x ∷ y ∷ []) h = rw (⊕-nil, ⊕-at)
+four-at page i (x ∷ y ∷ z ∷ []) h = rw (⊕-nil, ⊕-at, ⊕-at, xor-assoc)
+four-at page i (x ∷ y ∷ z ∷ w ∷ ws) h =
     let n : ℕ = suc (suc (suc (suc (length ws)))) in
-    rw (lt-ltb 1 n (omega arith), lt-ltb 2 n (omega arith), lt-ltb 3 n (omega arith)) (ap (λ (s : List ℕ). page x ⊕ (page y ⊕ (page z ⊕ s))) (⊕-nil (page w)))
+    rw (le-ltb n 2 (omega arith), le-ltb n 3 (omega arith), le-ltb n 4 (omega arith), ⊕-nil, ⊕-at, ⊕-at, ⊕-at, xor-assoc, xor-assoc)
 
-four-of : (page : ℕ → List ℕ) (xs : List ℕ) → 1 ≤ length xs
-    → sum page (take 4 xs) ≡ termsSum (length xs) (page (getD xs 0 0)) (page (getD xs 1 (getD xs 0 0))) (page (getD xs 2 (getD xs 0 0))) (page (getD xs 3 (getD xs 0 0)))
-four-of page [] h = absurd (not-suc-le-zero h)
-four-of page (x ∷ xs) h = four page x xs
+kept-at : (add : Bool) (page : List ℕ) (i : ℕ) → getD (cond add page []) i 0 ≡ cond add (getD page i 0) 0
+kept-at true page i = refl
+kept-at false page i = refl
 
-module _ (page : ℕ → List ℕ) (slots : List ℕ) (i : ℕ) (left : i < length slots) where
-  abbrev f : Four
-  f = fourFrom slots i
+-- what a pass leaves in a page
+abbrev pub passed : (store : List ℕ) (p : ℕ) (slots page : List ℕ) (add : Bool) → List ℕ
+passed store p slots page add = cond add page [] ⊕ sum (λ t. part p t store) (take 4 slots)
 
-  -- one pass more
-  pub pass-more : sum page (take (i + 4) slots)
-      ≡ sum page (take i slots) ⊕ termsSum (length slots - i) (page (f .a)) (page (f .b)) (page (f .c)) (page (f .d))
-  pass-more =
-      let none : i + 0 ≡ i = omega arith in
-      let first : getD (drop i slots) 0 0 ≡ getD slots i 0 = getD-drop i slots 0 0 ∙ ap (λ (k : ℕ). getD slots k 0) none in
-      let a : ℕ = getD slots i 0 in
-      let size : length (drop i slots) ≡ length slots - i = length-drop i slots in
-      ap (sum page) (take-add i 4 slots) ∙ sum-append page (take i slots) (take 4 (drop i slots))
-      ∙ ap (λ (s : List ℕ). sum page (take i slots) ⊕ s)
-      (four-of page (drop i slots) (omega arith) ∙ rw (size, first, getD-drop i slots 1 a, getD-drop i slots 2 a, getD-drop i slots 3 a))
+module _ (store : List ℕ) (p : ℕ) (slots page : List ℕ) (add : Bool) (some : 1 ≤ length slots) where
+  pub length-passed : length page ≡ p → ((j : ℕ) → j < length slots → getD slots j 0 * p + p ≤ length store) → length (passed store p slots page add) ≡ length page
+  length-passed whole each =
+      let size = length-take 4 slots in
+      let sum-size = length-sum (λ t. part p t store) p (take 4 slots) (λ j h. rw (getD-take 4 slots j 0 (omega arith)) (length-part p (getD slots j 0) store (each j (omega arith)))) (omega arith) in
+      ⊎-elim
+      (λ (a : add ≡ true). rw a (omega (arith, length-⊕ page (sum (λ t. part p t store) (take 4 slots)))))
+      (λ (a : add ≡ false). rw a (omega (arith, length-⊕ [] (sum (λ t. part p t store) (take 4 slots)))))
+      (bool-cases add)
 
--- an entry is the same whatever stands for those that are missing
-pub getD-any : (xs : List ℕ) (j d e : ℕ) → j < length xs → getD xs j d ≡ getD xs j e
-getD-any [] j d e h = absurd (not-suc-le-zero h)
-getD-any (x ∷ xs) zero d e h = refl
-getD-any (x ∷ xs) (suc j) d e h = getD-any xs j d e (le-of-suc-le-suc h)
+  -- byte i of it, from the bytes that are read in that turn
+  pub passed-at : (one two three four i : ℕ) → one ≡ slotAt slots 0 * p → two ≡ slotAt slots 1 * p → three ≡ slotAt slots 2 * p → four ≡ slotAt slots 3 * p → i < p
+      → bitXor (cond add (getD page i 0) 0) (byteSum (length slots) (getD store (one + i) 0) (getD store (two + i) 0) (getD store (three + i) 0) (getD store (four + i) 0))
+      ≡ getD (passed store p slots page add) i 0
+  passed-at one two three four i a b c d h =
+      let at : (slot : ℕ) → getD store (slot * p + i) 0 ≡ getD (part p slot store) i 0 = λ slot. sym (part-at p slot store i 0 h) in
+      rw (a, b, c, d, at (slotAt slots 0), at (slotAt slots 1), at (slotAt slots 2), at (slotAt slots 3), ⊕-at, kept-at, four-at (λ t. part p t store) i slots some)
 
-pub taken-each : (P : ℕ → Type 0) (slots : List ℕ) (count : ℕ) → count ≤ length slots → ((j : ℕ) → j < count → P (getD slots j 0))
-    → (j : ℕ) → j < length (take count slots) → P (getD (take count slots) j 0)
-taken-each P slots count fits f j h =
-    let l : j < count = omega (arith, length-take-le count slots fits) in
-    subst P (sym (getD-take count slots j 0 l)) (f j l)
+-- what is left of the first n after i of them
+drop-take : (i n : ℕ) (xs : List ℕ) → drop i (take n xs) ≡ take (n - i) (drop i xs)
+drop-take zero n xs = simp unary-clauses
+drop-take (suc i) zero xs = rw zero-sub
+drop-take (suc i) (suc n) [] = sym (take-nil (suc n - suc i))
+drop-take (suc i) (suc n) (x ∷ xs) = simp unary-clauses (drop-take i n xs)
 
--- what holds of every slot holds of those of a pass
-pub four-each : (P : ℕ → Type 0) (slots : List ℕ) (i : ℕ) → i < length slots → ((j : ℕ) → j < length slots → P (getD slots j 0))
-    → P (fourFrom slots i .a) × P (fourFrom slots i .b) × P (fourFrom slots i .c) × P (fourFrom slots i .d)
-four-each P slots i h f = (f i h, other (i + 1), other (i + 2), other (i + 3))
-  where
-    other : (j : ℕ) → P (getD slots j (getD slots i 0))
-    other j = ⊎-elim (λ (l : j < length slots). subst P (getD-any slots j 0 (getD slots i 0) l) (f j l)) (λ (l : length slots ≤ j). subst P (sym (List·getD-eq-default slots (getD slots i 0) l)) (f i h)) (lt-cases j (length slots))
+-- a pass more
+pub pass-more : (page : ℕ → List ℕ) (i n : ℕ) (xs : List ℕ)
+    → sum page (take (i + 4) (take n xs)) ≡ sum page (take i (take n xs)) ⊕ sum page (take 4 (take (n - i) (drop i xs)))
+pass-more page i n xs = ap (sum page) (take-add i 4 (take n xs)) ∙ sum-append page (take i (take n xs)) (take 4 (drop i (take n xs))) ∙ rw (drop-take i n xs)

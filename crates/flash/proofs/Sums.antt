@@ -1,8 +1,7 @@
 -- Laws of the page sum. `⊕` fills the shorter page up with zeros, so most of them ask nothing of lengths.
-use Rattle.flash.proofs.Kit.{_≡_, refl, sym, ap, ap₂, _∙_, ⊎-elim, Bool, true, false, cond, List, [], _∷_, _++_, ℕ, zero, suc, _≤_, _<_, max}
+use Rattle.flash.proofs.Kit.{_≡_, refl, sym, ap, ap₂, _∙_, List, [], _∷_, _++_, ℕ, zero, suc, _≤_, _<_, max}
 use Rattle.flash.proofs.Kit.{not-suc-le-zero, le-of-suc-le-suc, arith, length, getD, bitXor, xor-comm, xor-zero-r}
-use Rattle.flash.specs.PageSum.{_⊕_, sum, putOrAdd}
-use Rattle.flash.proofs.Bools.{bool-cases}
+use Rattle.flash.specs.PageSum.{_⊕_, sum}
 use Rattle.flash.proofs.Xor.{xor-assoc, xor-cancel}
 
 pub nil-⊕ : (a : List ℕ) → [] ⊕ a ≡ a
@@ -80,21 +79,3 @@ length-sum page size (t ∷ []) f h = ap length (⊕-nil (page t)) ∙ f 0 (omeg
 length-sum page size (t ∷ u ∷ ts) f h =
     length-⊕ (page t) (sum page (u ∷ ts))
     ∙ omega (arith, f 0 (omega arith), length-sum page size (u ∷ ts) (λ i l. f (suc i) (omega arith)) (omega arith))
-
-module _ (add : Bool) (work page : List ℕ) where
-  pub length-putOrAdd : length page ≡ length work → length (putOrAdd add work page) ≡ length work
-  unfolding putOrAdd
-  length-putOrAdd e =
-      ⊎-elim
-      (λ (a : add ≡ true). rw a (omega (arith, length-⊕ work page)))
-      (λ (a : add ≡ false). rw a e)
-      (bool-cases add)
-
-  -- what is put is added to nothing
-  pub putOrAdd-is : putOrAdd add work page ≡ cond add work [] ⊕ page
-  unfolding putOrAdd
-  putOrAdd-is =
-      ⊎-elim
-      (λ (a : add ≡ true). rw a refl)
-      (λ (a : add ≡ false). rw a (sym (nil-⊕ page)))
-      (bool-cases add)

@@ -1,5 +1,4 @@
 -- Rule 1.10: the sum of pages.
-use mathlib.Core.Bool.{Bool, cond}
 use mathlib.Core.List.{List, [], _∷_}
 use Prim.Native.Nat.{ℕ}
 use lib.Bits.{bitXor}
@@ -15,7 +14,3 @@ _⊕_ (x ∷ xs) (y ∷ ys) = bitXor x y ∷ (xs ⊕ ys)
 unfoldable pub sum : (page : ℕ → List ℕ) → List ℕ → List ℕ
 sum page [] = []
 sum page (t ∷ ts) = page t ⊕ sum page ts
-
--- What the code sums is put into a page, or added to what is there.
-unfoldable pub putOrAdd : (add : Bool) → (work page : List ℕ) → List ℕ
-putOrAdd add work page = cond add (work ⊕ page) page

@@ -1,4 +1,3 @@
 -- How the code works inside: a division by a product. Nothing here has to be believed.
 pub mod Reciprocal
 pub mod Terms
-pub mod Passes

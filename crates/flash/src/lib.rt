@@ -8,7 +8,6 @@ pub mod page;
 pub mod quotient;
 pub mod sizes;
 pub mod slots;
-pub mod terms;
 
 // A byte or a mark that is not written.
 pub const ERASED: u8 = 255;

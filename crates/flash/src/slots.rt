@@ -1,42 +1,82 @@
-// The sum of the pages of slots that stand in an array, four pages a pass.
+// The page sum: of the pages of slots that stand in an array, four pages a pass. Nothing else sums pages.
 
 ghost use mathlib.Core.Path.{_≡_};
+ghost use mathlib.Core.Bool.{cond};
+ghost use mathlib.Core.List.{[]};
 ghost use Prim.Native.Nat.{ℕ, _+_, _*_, _≤_, _<_};
+ghost use lib.Bits.{bitXor};
 ghost use lib.ListN.{length, getD, take};
 ghost use Rattle.flash.specs.Lists.{part};
-ghost use Rattle.flash.specs.PageSum.{sum};
-ghost use Rattle.flash.specs.inner.Passes.{fourFrom};
-use crate::terms::MOST_TERMS;
-use crate::terms::sum_from;
+ghost use Rattle.flash.specs.PageSum.{_⊕_, sum};
+ghost use Rattle.flash.specs.inner.Terms.{byteSum};
 
-// Entry `at` of the first `count`, or another number behind them.
-fn entry_or(slots: &[usize], count: usize, at: usize, otherwise: usize) -> usize
-    requires { ⌜ count ≤ length (now slots) ⌝ }
-    ensures { λ r. ⌜ r ≡ getD (take count (now (slots .entry))) at otherwise ⌝ }
+// The most pages of one pass.
+const MOST_TERMS: usize = 4;
+
+// The sum of the first `terms` of four bytes. In a loop the tests are the same in every turn, so that the compiler makes a loop of vector
+// instructions for each number of terms.
+fn byte_sum(terms: usize, a: u8, b: u8, c: u8, d: u8) -> u8
+    ensures { λ r. ⌜ r ≡ byteSum terms a b c d ⌝ }
 {
-    if at < count { slots[at] } else { otherwise }
+    if terms < 2 {
+        return a;
+    }
+    if terms < 3 {
+        return a ^ b;
+    }
+    if terms < 4 {
+        return a ^ b ^ c;
+    }
+    a ^ b ^ c ^ d
 }
 
-// The slots of one pass. Where fewer are left the first stands for the others; they do not count.
-pub struct Four {
-    pub a: usize,
-    pub b: usize,
-    pub c: usize,
-    pub d: usize,
-}
-
-fn four_from(slots: &[usize], count: usize, i: usize) -> Four
-    requires { ⌜ (i < count) × (count ≤ length (now slots)) × (count ≤ 4096) ⌝ }
-    ensures { λ r. ⌜ r ≡ fourFrom (take count (now (slots .entry))) i ⌝ }
+// A byte, added to another or not.
+fn added(add: bool, old: u8, byte: u8) -> u8
+    ensures { λ r. ⌜ r ≡ bitXor (cond add old 0) byte ⌝ }
 {
-    let a = slots[i];
-    let b = entry_or(slots, count, i + 1, a);
-    let c = entry_or(slots, count, i + 2, a);
-    let d = entry_or(slots, count, i + 3, a);
-    Four { a, b, c, d }
+    if add { old ^ byte } else { byte }
 }
 
-// The sum goes into a page.
+// Where the page of a slot starts. Behind the last slot the first stands for the others; they do not count.
+fn start_of(store: &[u8], p: usize, slots: &[usize], at: usize) -> usize
+    requires { ⌜ 1 ≤ length (now slots) ⌝ }
+    requires { ⌜ ((j : ℕ) → j < length (now slots) → getD (now slots) j 0 * p + p ≤ length (now store)) ⌝ }
+    ensures { λ r. ⌜ (r ≡ getD (now (slots .entry)) at (getD (now (slots .entry)) 0 0) * p) × (r + p ≤ length (now (store .entry))) ⌝ }
+{
+    if at < slots.len() {
+        slots[at] * p
+    } else {
+        slots[0] * p
+    }
+}
+
+// The sum of the pages of the first four slots, or of all where there are fewer, goes into a page or is added to it.
+fn sum_from(store: &[u8], p: usize, slots: &[usize], page: &mut [u8], add: bool)
+    requires { ⌜ (1 ≤ length (now slots)) × (length (now page) ≡ p) ⌝ }
+    requires { ⌜ ((j : ℕ) → j < length (now slots) → getD (now slots) j 0 * p + p ≤ length (now store)) ⌝ }
+    ensures { λ _. ⌜ now (page .exit)
+        ≡ cond add (now (page .entry)) [] ⊕ sum (λ t. part p t (now (store .entry))) (take 4 (now (slots .entry))) ⌝ }
+{
+    let terms = slots.len();
+    let one = start_of(store, p, slots, 0);
+    let two = start_of(store, p, slots, 1);
+    let three = start_of(store, p, slots, 2);
+    let four = start_of(store, p, slots, 3);
+    let mut i = 0;
+    while i < p {
+        let sum = byte_sum(
+            terms,
+            store[one + i],
+            store[two + i],
+            store[three + i],
+            store[four + i],
+        );
+        page[i] = added(add, page[i], sum);
+        i += 1;
+    }
+}
+
+// The sum of the pages of the first `count` slots goes into a page.
 pub fn sum_to_page(store: &[u8], p: usize, slots: &[usize], count: usize, page: &mut [u8])
     requires { ⌜ (1 ≤ count) × (count ≤ length (now slots)) × (count ≤ 4096) × (length (now page) ≡ p) ⌝ }
     requires { ⌜ ((j : ℕ) → j < count → getD (now slots) j 0 * p + p ≤ length (now store)) ⌝ }
@@ -44,18 +84,7 @@ pub fn sum_to_page(store: &[u8], p: usize, slots: &[usize], count: usize, page: 
 {
     let mut i = 0;
     while i < count {
-        let pass = four_from(slots, count, i);
-        sum_from(
-            store,
-            p,
-            pass.a,
-            pass.b,
-            pass.c,
-            pass.d,
-            count - i,
-            page,
-            0 < i,
-        );
+        sum_from(store, p, &slots[i..count], page, 0 < i);
         i += MOST_TERMS;
     }
 }

@@ -1,7 +1,7 @@
 -- `added` adds a byte to another, or leaves it.
 use Rattle.flash.proofs.Kit.{sym, xor-zero-l}
-use Rattle.flash.proofs.terms.added.Statement.{statement}
-use Rattle.flash.proofs.terms.added.Tie as tie
+use Rattle.flash.proofs.slots.added.Statement.{statement}
+use Rattle.flash.proofs.slots.added.Tie as tie
 
 returns : tie.Need-returns
 returns c = rw (c .if1 .taken)
