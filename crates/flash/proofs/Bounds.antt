@@ -1,46 +1,33 @@
 -- Laws of the sizes: their bounds, and where blocks and slots end. They show what the functions of this crate require.
-use Rattle.flash.proofs.Kit.{_≡_, Bool, true, _&&_, ℕ, _+_, _*_, _≤_, _<_, mul-assoc, mul-le-mul, arith, digits-lt, leb, ltb, leb-true}
-use Rattle.flash.proofs.Kit.{ltb-true, le-leb, lt-ltb}
+use Rattle.flash.proofs.Kit.{_≡_, true, ℕ, _+_, _*_, _≤_, _<_, mul-assoc, mul-le-mul, arith, digits-lt, leb-true, ltb-true, le-leb, lt-ltb}
 use Rattle.flash.specs.declared.sizes.Sizes.{Sizes}
 use Rattle.flash.specs.Geometry.{isLetter, inRange, Bounds, slot, slotCount, storeLength}
-use Rattle.flash.proofs.Bools.{and-left, and-right}
+use Rattle.flash.proofs.Bools.{both}
 use Rattle.flash.proofs.Parts.{part-fits}
 
 pub in-range : (Z : Sizes) → inRange Z ≡ true → Bounds Z
 unfolding inRange isLetter
 in-range Z e =
-    let t1 : Bool = leb 1 (Z .n) in
-    let t2 : Bool = t1 && leb (Z .n) 64 in
-    let t3 : Bool = t2 && leb 1 (Z .m) in
-    let t4 : Bool = t3 && leb (Z .m) 64 in
-    let t5 : Bool = t4 && leb 1 (Z .p) in
-    let t6 : Bool = t5 && leb (Z .p) 4096 in
-    let e6 : t6 ≡ true = and-left t6 (ltb (Z .s) 3) e in
-    let e5 : t5 ≡ true = and-left t5 (leb (Z .p) 4096) e6 in
-    let e4 : t4 ≡ true = and-left t4 (leb 1 (Z .p)) e5 in
-    let e3 : t3 ≡ true = and-left t3 (leb (Z .m) 64) e4 in
-    let e2 : t2 ≡ true = and-left t2 (leb 1 (Z .m)) e3 in
+    let s = both _ _ e in
+    let p = both _ _ (s .0) in
+    let p-low = both _ _ (p .0) in
+    let m = both _ _ (p-low .0) in
+    let m-low = both _ _ (m .0) in
+    let n = both _ _ (m-low .0) in
     record {
-      n-low = leb-true 1 (Z .n) (and-left t1 (leb (Z .n) 64) e2);
-      n-high = leb-true (Z .n) 64 (and-right t1 (leb (Z .n) 64) e2);
-      m-low = leb-true 1 (Z .m) (and-right t2 (leb 1 (Z .m)) e3);
-      m-high = leb-true (Z .m) 64 (and-right t3 (leb (Z .m) 64) e4);
-      p-low = leb-true 1 (Z .p) (and-right t4 (leb 1 (Z .p)) e5);
-      p-high = leb-true (Z .p) 4096 (and-right t5 (leb (Z .p) 4096) e6);
-      s-high = ltb-true (Z .s) 3 (and-right t6 (ltb (Z .s) 3) e);
+      n-low = leb-true _ _ (n .0);
+      n-high = leb-true _ _ (n .1);
+      m-low = leb-true _ _ (m-low .1);
+      m-high = leb-true _ _ (m .1);
+      p-low = leb-true _ _ (p-low .1);
+      p-high = leb-true _ _ (p .1);
+      s-high = ltb-true _ _ (s .1);
     }
 
 pub range-in : (Z : Sizes) → Bounds Z → inRange Z ≡ true
 unfolding inRange isLetter
 range-in Z B =
-    rw (
-      le-leb _ _ (B .n-low),
-      le-leb _ _ (B .n-high),
-      le-leb _ _ (B .m-low),
-      le-leb _ _ (B .m-high),
-      le-leb _ _ (B .p-low),
-      le-leb _ _ (B .p-high),
-    )
+    rw (le-leb _ _ (B .n-low), le-leb _ _ (B .n-high), le-leb _ _ (B .m-low), le-leb _ _ (B .m-high), le-leb _ _ (B .p-low), le-leb _ _ (B .p-high))
     (lt-ltb _ _ (B .s-high))
 
 -- a product of bounded numbers

@@ -54,13 +54,6 @@ blank-page P chip t fits e =
 
 module _ (m P block : ℕ) (chip : Chip)
     (store-fits : block * (m * P) + m * P ≤ length (chip .store)) (marks-fit : block * m + m ≤ length (chip .marks)) where
-  -- what the erase leaves in the block's two parts
-  abbrev blank-store : List ℕ
-  blank-store = replicate (m * P) erased
-
-  abbrev blank-marks : List ℕ
-  blank-marks = replicate m erased
-
   store-whole : length (replicate (m * P) erased) ≡ m * P
   store-whole = length-replicate (m * P) erased
 
@@ -69,11 +62,11 @@ module _ (m P block : ℕ) (chip : Chip)
 
   pub erase-store-length : length (eraseBlock m P block chip .store) ≡ length (chip .store)
   unfolding eraseBlock
-  erase-store-length = length-setPart (m * P) block (chip .store) blank-store store-fits store-whole
+  erase-store-length = length-setPart (m * P) block (chip .store) _ store-fits store-whole
 
   pub erase-marks-length : length (eraseBlock m P block chip .marks) ≡ length (chip .marks)
   unfolding eraseBlock
-  erase-marks-length = length-setPart m block (chip .marks) blank-marks marks-fit marks-whole
+  erase-marks-length = length-setPart m block (chip .marks) _ marks-fit marks-whole
 
   module _ (page : ℕ) (inside : page < m) where
     -- the pages of the block become blank
@@ -81,13 +74,13 @@ module _ (m P block : ℕ) (chip : Chip)
     unfolding pageAt eraseBlock
     erase-page =
         sym (part-part P m block page (eraseBlock m P block chip .store) inside)
-        ∙ ap (part P page) (part-setPart (m * P) block (chip .store) blank-store store-fits store-whole)
+        ∙ ap (part P page) (part-setPart (m * P) block (chip .store) _ store-fits store-whole)
         ∙ part-replicate P page (m * P) erased (part-fits page m P inside)
 
     pub erase-mark : markAt (eraseBlock m P block chip .marks) (slot m block page) ≡ erased
     unfolding markAt eraseBlock
     erase-mark =
-        setPart-at m block (chip .marks) blank-marks marks-fit marks-whole page erased inside
+        setPart-at m block (chip .marks) _ marks-fit marks-whole page erased inside
         ∙ getD-replicate m page erased erased inside
 
     pub erase-blank : isBlank P (eraseBlock m P block chip) (slot m block page) ≡ true
@@ -99,14 +92,14 @@ module _ (m P block : ℕ) (chip : Chip)
       unfolding pageAt eraseBlock
       erase-page-other =
           sym (part-part P m other page (eraseBlock m P block chip .store) inside)
-          ∙ ap (part P page) (part-setPart-other (m * P) block (chip .store) blank-store store-fits store-whole other apart)
+          ∙ ap (part P page) (part-setPart-other (m * P) block (chip .store) _ store-fits store-whole other apart)
           ∙ part-part P m other page (chip .store) inside
 
       pub erase-mark-other : markAt (eraseBlock m P block chip .marks) (slot m other page) ≡ markAt (chip .marks) (slot m other page)
       unfolding markAt eraseBlock
       erase-mark-other =
           sym (part-at m other (eraseBlock m P block chip .marks) page erased inside)
-          ∙ ap (λ (p : List ℕ). getD p page erased) (part-setPart-other m block (chip .marks) blank-marks marks-fit marks-whole other apart)
+          ∙ ap (λ (p : List ℕ). getD p page erased) (part-setPart-other m block (chip .marks) _ marks-fit marks-whole other apart)
           ∙ part-at m other (chip .marks) page erased inside
 
 module _ (P t : ℕ) (page : List ℕ) (mark : ℕ) (chip : Chip) where

@@ -1,14 +1,7 @@
 -- Two numbers are equal or not, and one is below the other or not.
-use Rattle.flash.proofs.Kit.{_≡_, refl, ap, _⊎_, inl, inr, _≢_, ⊎-elim, true, false, ℕ, zero, suc, _≤_, _<_, arith, eqb, ltb, eqb-true}
+use Rattle.flash.proofs.Kit.{_≡_, _⊎_, inl, inr, _≢_, ⊎-elim, true, false, ℕ, _≤_, _<_, arith, eqb, ltb, eqb-true}
 use Rattle.flash.proofs.Kit.{eqb-false, ltb-true, ltb-false}
 use Rattle.flash.proofs.Bools.{bool-cases}
-
-pub ne-lt : (x y : ℕ) → x ≢ y → (x < y) ⊎ (y < x)
-ne-lt zero zero ne = absurd (ne refl)
-ne-lt zero (suc y) ne = inl (omega arith)
-ne-lt (suc x) zero ne = inr (omega arith)
-ne-lt (suc x) (suc y) ne =
-    ⊎-elim (λ (h : x < y). inl (omega arith)) (λ (h : y < x). inr (omega arith)) (ne-lt x y (λ e. ne (ap suc e)))
 
 pub eq-cases : (x y : ℕ) → (x ≡ y) ⊎ (x ≢ y)
 eq-cases x y = ⊎-elim (λ (q : eqb x y ≡ true). inl (eqb-true x y q)) (λ (q : eqb x y ≡ false). inr (eqb-false x y q))
@@ -17,3 +10,6 @@ eq-cases x y = ⊎-elim (λ (q : eqb x y ≡ true). inl (eqb-true x y q)) (λ (q
 pub lt-cases : (x y : ℕ) → (x < y) ⊎ (y ≤ x)
 lt-cases x y = ⊎-elim (λ (q : ltb x y ≡ true). inl (ltb-true x y q)) (λ (q : ltb x y ≡ false). inr (ltb-false x y q))
     (bool-cases (ltb x y))
+
+pub ne-lt : (x y : ℕ) → x ≢ y → (x < y) ⊎ (y < x)
+ne-lt x y ne = ⊎-elim (λ (h : x < y). inl h) (λ (h : y ≤ x). inr (omega arith)) (lt-cases x y)

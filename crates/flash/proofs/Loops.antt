@@ -1,43 +1,25 @@
 -- What one turn of a loop over bytes does.
-use Rattle.flash.proofs.Kit.{_≡_, refl, sym, ap, _∙_, subst, _&&_, and-true, List, [], _∷_, _++_, ℕ, zero, suc, _+_, _<_, not-suc-le-zero}
-use Rattle.flash.proofs.Kit.{le-of-suc-le-suc, add-one, arith, bitOr, bitXor, or-add-and, and-le-l, and-le-r, xor-self, eqb, length, getD, set}
-use Rattle.flash.proofs.Kit.{take, drop, take-suc, drop-set-lt, drop-drop, eqb-true, eq-eqb}
+use Rattle.flash.proofs.Kit.{_≡_, refl, sym, ap, _∙_, _&&_, and-true, List, [], _∷_, _++_, ℕ, suc, _+_, _<_, add-one}
+use Rattle.flash.proofs.Kit.{arith, bitOr, bitXor, or-add-and, and-le-l, and-le-r, xor-self, eqb, length, getD, set}
+use Rattle.flash.proofs.Kit.{take, drop, take-suc, drop-cons, append-snoc, getD-at, length-take-le, drop-set-lt, drop-drop, eqb-true, eq-eqb}
 use Rattle.flash.specs.Lists.{all}
+use lib.Seq.{set-at}
 use Rattle.flash.proofs.Bools.{and-left, and-right, bool-eq}
 use Rattle.flash.proofs.Searches.{all-append}
 use Rattle.flash.proofs.Xor.{xor-zero-eq}
 
--- A loop that makes a list `old` into a list `new` of its length, one element a turn: after i turns it is `take i new ++ drop i old`.
-pub front-at : (new old : List ℕ) (i : ℕ) → length new ≡ length old → i < length old
-    → getD (take i new ++ drop i old) i 0 ≡ getD old i 0
-front-at new [] i e l = absurd (not-suc-le-zero l)
-front-at [] (y ∷ old) i e l = absurd (omega arith)
-front-at (x ∷ new) (y ∷ old) zero e l = refl
-front-at (x ∷ new) (y ∷ old) (suc i) e l = front-at new old i (omega arith) (le-of-suc-le-suc l)
-
-front-suc : (new old : List ℕ) (i : ℕ) → length new ≡ length old → i < length old
-    → set (take i new ++ drop i old) i (getD new i 0) ≡ take (suc i) new ++ drop (suc i) old
-front-suc new [] i e l = absurd (not-suc-le-zero l)
-front-suc [] (y ∷ old) i e l = absurd (omega arith)
-front-suc (x ∷ new) (y ∷ old) zero e l = refl
-front-suc (x ∷ new) (y ∷ old) (suc i) e l = ap (λ (t : List ℕ). x ∷ t) (front-suc new old i (omega arith) (le-of-suc-le-suc l))
-
-pub front-more : (new old : List ℕ) (i : ℕ) → length new ≡ length old → i < length old
-    → set (take i new ++ drop i old) i (getD new i 0) ≡ take (i + 1) new ++ drop (i + 1) old
-front-more new old i e l = rw add-one (front-suc new old i e l)
-
 -- one more element written behind a front that lies over an area
-over-suc : (front area : List ℕ) (v : ℕ) → length front < length area
-    → set (front ++ drop (length front) area) (length front) v ≡ (front ++ (v ∷ [])) ++ drop (suc (length front)) area
-over-suc [] [] v l = absurd (not-suc-le-zero l)
-over-suc [] (y ∷ area) v l = refl
-over-suc (x ∷ front) [] v l = absurd (not-suc-le-zero l)
-over-suc (x ∷ front) (y ∷ area) v l = ap (λ (t : List ℕ). x ∷ t) (over-suc front area v (le-of-suc-le-suc l))
-
 pub over-more : (front area : List ℕ) (i v : ℕ) → length front ≡ i → i < length area
     → set (front ++ drop i area) i v ≡ (front ++ (v ∷ [])) ++ drop (i + 1) area
-over-more front area i v e l = subst (λ (k : ℕ). set (front ++ drop k area) k v ≡ (front ++ (v ∷ [])) ++ drop (k + 1) area) e
-    (rw (add-one (length front)) (over-suc front area v (rw e l)))
+over-more front area i v e l = rw (add-one i, append-snoc, drop-cons area i 0 l) (set-at front (getD area i 0) (drop (suc i) area) v i e)
+
+-- A loop that makes a list `old` into a list `new` of its length, one element a turn: after i turns it is `take i new ++ drop i old`.
+module _ (new old : List ℕ) (i : ℕ) (e : length new ≡ length old) (l : i < length old) where
+  pub front-at : getD (take i new ++ drop i old) i 0 ≡ getD old i 0
+  front-at = rw (drop-cons old i 0 l) (getD-at (take i new) (getD old i 0) (drop (suc i) old) 0 i (length-take-le i new (omega arith)))
+
+  pub front-more : set (take i new ++ drop i old) i (getD new i 0) ≡ take (i + 1) new ++ drop (i + 1) old
+  front-more = over-more (take i new) old i (getD new i 0) (length-take-le i new (omega arith)) l ∙ rw (add-one i, take-suc new i 0 (omega arith))
 
 -- what lies behind the element that is written stays
 pub rest-more : (area old : List ℕ) (i value : ℕ) → drop i area ≡ drop i old → drop (i + 1) (set area i value) ≡ drop (i + 1) old

@@ -1,14 +1,11 @@
 -- A sum taken four pages a pass: the bytes that a pass leaves, and what is left to sum after it.
 use Rattle.flash.proofs.Kit.{_≡_, refl, sym, ap, _∙_, ⊎-elim, Bool, true, false, cond, List, [], _∷_, ℕ, zero, suc, _+_, _-_, _*_, _≤_, _<_}
 use Rattle.flash.proofs.Kit.{not-suc-le-zero, arith, bitXor, length, getD, take, drop, length-take, getD-take, take-add, le-ltb}
-use native.Mathlib.Nat.{zero-sub}
-use native.Mathlib.Numerals.{unary-clauses}
-use lib.Seq.{take-nil}
 use Rattle.flash.specs.Lists.{part}
 use Rattle.flash.specs.PageSum.{_⊕_, sum}
 use Rattle.flash.specs.inner.Terms.{byteSum}
 use Rattle.flash.proofs.Bools.{bool-cases}
-use Rattle.flash.proofs.Parts.{length-part, part-at}
+use Rattle.flash.proofs.Parts.{length-part, part-at, drop-take}
 use Rattle.flash.proofs.Sums.{⊕-at, ⊕-nil, length-⊕, length-sum, sum-append}
 use Rattle.flash.proofs.Xor.{xor-assoc}
 
@@ -54,13 +51,6 @@ module _ (store : List ℕ) (p : ℕ) (slots page : List ℕ) (add : Bool) (some
   passed-at one two three four i a b c d h =
       let at : (slot : ℕ) → getD store (slot * p + i) 0 ≡ getD (part p slot store) i 0 = λ slot. sym (part-at p slot store i 0 h) in
       rw (a, b, c, d, at (slotAt slots 0), at (slotAt slots 1), at (slotAt slots 2), at (slotAt slots 3), ⊕-at, kept-at, four-at (λ t. part p t store) i slots some)
-
--- what is left of the first n after i of them
-drop-take : (i n : ℕ) (xs : List ℕ) → drop i (take n xs) ≡ take (n - i) (drop i xs)
-drop-take zero n xs = simp unary-clauses
-drop-take (suc i) zero xs = rw zero-sub
-drop-take (suc i) (suc n) [] = sym (take-nil (suc n - suc i))
-drop-take (suc i) (suc n) (x ∷ xs) = simp unary-clauses (drop-take i n xs)
 
 -- a pass more
 pub pass-more : (page : ℕ → List ℕ) (i n : ℕ) (xs : List ℕ)

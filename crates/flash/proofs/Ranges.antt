@@ -1,10 +1,10 @@
 -- Laws of `range`, and of tests, counts and searches over one.
-use Rattle.flash.proofs.Kit.{_≡_, refl, sym, ap, _∙_, _⊎_, inl, inr, ⊎-elim, Bool, true, false, cond, _||_, or-false, List, [], _∷_, _++_, ℕ}
-use Rattle.flash.proofs.Kit.{zero, suc, _+_, _-_, _≤_, _<_, not-suc-le-zero, le-of-suc-le-suc, add-zero, arith, eqb, length, getD, eqb-true}
-use Rattle.flash.proofs.Kit.{eqb-false}
+use Rattle.flash.proofs.Kit.{_≡_, refl, sym, ap, _∙_, _⊎_, inl, inr, ⊎-elim, _≢_, Bool, true, false, List, [], ℕ}
+use Rattle.flash.proofs.Kit.{zero, suc, _+_, _-_, _≤_, _<_, not-suc-le-zero, le-of-suc-le-suc, add-zero, arith, length, getD, below-more}
 use Rattle.flash.specs.Lists.{range, all, any, count, first}
 use Rattle.flash.proofs.Bools.{bool-cases, never-both, fails}
-use Rattle.flash.proofs.Searches.{any-append, count-append, all-at, all-of, none-at, none-of, any-find, count-none, none-counted, first-none}
+use Rattle.flash.proofs.Comparisons.{eq-cases}
+use Rattle.flash.proofs.Searches.{all-at, all-of, none-at, none-of, any-find, count-none, none-counted, first-none}
 
 pub length-range : (start size : ℕ) → length (range start size) ≡ size
 unfolding range
@@ -17,31 +17,7 @@ range-at start zero i d h = absurd (not-suc-le-zero h)
 range-at start (suc size) zero d h = sym (add-zero start)
 range-at start (suc size) (suc i) d h = range-at (suc start) size i d (le-of-suc-le-suc h) ∙ omega arith
 
-pub range-append : (start a b : ℕ) → range start (a + b) ≡ range start a ++ range (start + a) b
-unfolding range
-range-append start zero b =
-    let e : 0 + b ≡ b = omega arith in
-    let f : start + 0 ≡ start = omega arith in
-    rw (e, f)
-range-append start (suc a) b =
-    let e : suc a + b ≡ suc (a + b) = omega arith in
-    let f : suc start + a ≡ start + suc a = omega arith in
-    rw (e, ← f) (ap (λ (t : List ℕ). start ∷ t) (range-append (suc start) a b))
-
--- one turn of a loop
-pub range-more : (start size : ℕ) → range start (size + 1) ≡ range start size ++ ((start + size) ∷ [])
-unfolding range
-range-more start size = range-append start size 1
-
 module _ (test : ℕ → Bool) (start size : ℕ) where
-  pub any-more : any test (range start (size + 1)) ≡ (any test (range start size) || test (start + size))
-  unfolding any
-  any-more = rw (range-more start size, any-append test (range start size), or-false)
-
-  pub count-more : count test (range start (size + 1)) ≡ count test (range start size) + cond (test (start + size)) 1 0
-  unfolding count
-  count-more = rw (range-more start size) (count-append test (range start size) ((start + size) ∷ []))
-
   index : (j : ℕ) → start ≤ j → j < start + size → getD (range start size) (j - start) 0 ≡ j
   index j a b = range-at start size (j - start) 0 (omega arith) ∙ omega arith
 
@@ -99,11 +75,9 @@ first-hit test start (suc size) j otherwise a b e =
       passes = f .passes;
       before = λ k c d.
           ⊎-elim
-          (λ (s : eqb start k ≡ true). rw (← eqb-true start k s) q)
-          (λ (s : eqb start k ≡ false).
-          let ne : start ≡ k → ⊥ = eqb-false start k s in
-          f .before k (omega arith) d)
-          (bool-cases (eqb start k));
+          (λ (s : start ≡ k). rw (← s) q)
+          (λ (s : start ≢ k). f .before k (omega arith) d)
+          (eq-cases start k);
     }))
     (bool-cases (test start))
 
@@ -205,5 +179,4 @@ one-counted test start (suc size) k O =
 -- one block more that is not full
 pub none-full : (test : ℕ → Bool) (block : ℕ) → any test (range 0 block) ≡ false → test block ≡ false → any test (range 0 (block + 1)) ≡ false
 none-full test block none this =
-    let at : 0 + block ≡ block = omega arith in
-    any-more test 0 block ∙ rw (none, at, this)
+    none-is test 0 (block + 1) (λ j a b. below-more (λ k. test k ≡ false) block (λ k h. none-in test 0 block none k (omega arith) (omega arith)) this j (omega arith))

@@ -30,9 +30,5 @@ pub fn is_blank(store: &[u8], marks: &[u8], p: usize, slot: usize) -> bool
 {
     let start = slot * p;
     let end = start + p;
-    if marks[slot] == ERASED {
-        is_filled(&store[start..end], ERASED)
-    } else {
-        false
-    }
+    marks[slot] == ERASED && is_filled(&store[start..end], ERASED)
 }

@@ -1,5 +1,5 @@
 -- `is_blank` meets its contract.
-use Rattle.flash.proofs.Kit.{_≡_, sym, ap, _∙_, _≢_, List, ℕ, arith, eqb}
+use Rattle.flash.proofs.Kit.{_≡_, sym, ap, _∙_, _≢_, List, ℕ, arith, eqb, ne-eqb}
 use Rattle.flash.specs.Lists.{all}
 use Rattle.flash.specs.Chip.{erased, markAt}
 use Rattle.flash.proofs.Parts.{lent-part}
@@ -41,7 +41,7 @@ returns-2 : tie.Need-returns-2
 returns-2 c =
     let a = c .before .before .before .before .args in
     let mark : markAt (a .marks .now) (a .slot) ≢ erased = λ e. c .if1 .left (sym (mark-is (a .marks .now) (a .slot) (omega arith)) ∙ e) in
-    sym (not-blank (a .p) (record { store = a .store .now; marks = a .marks .now }) (a .slot) mark)
+    ne-eqb _ _ (c .if1 .left) ∙ sym (not-blank (a .p) (record { store = a .store .now; marks = a .marks .now }) (a .slot) mark)
 
 pub is-blank-spec : {M : Type 1} → statement M
 is-blank-spec =

@@ -33,7 +33,7 @@ loop-again c =
     let l = c .before .before .before .before .before .before .loop in
     let r = c .before .before .sum-from in
     let more = pass-more (λ t. part (a .p) t (a .store .now)) (l .i) (a .count) (a .slots .now) in
-    (rw (lt-ltb 0 (l .i + 4) (omega arith)) (r .ensures ∙ rw (l .inv .0) (sym more)), omega arith, omega (arith, r .kept .1 .1 .1 .0))
+    (rw (lt-ltb 0 (l .i + 4) (omega arith), r .ensures, l .inv .0) (sym more), omega arith, omega (arith, r .kept .1 .1 .1 .0))
 
 returns : tie.Need-returns Inv-loop μ-loop
 returns c =
