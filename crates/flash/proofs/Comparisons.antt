@@ -1,6 +1,6 @@
 -- Two numbers are equal or not, and one is below the other or not.
-use Rattle.flash.proofs.Kit.{_≡_, _⊎_, inl, inr, _≢_, ⊎-elim, true, false, ℕ, _≤_, _<_, arith, eqb, ltb, eqb-true}
-use Rattle.flash.proofs.Kit.{eqb-false, ltb-true, ltb-false}
+use Rattle.flash.proofs.Kit.{_≡_, _⊎_, inl, inr, _≢_, ⊎-elim, true, false, ℕ, _≤_, _<_, arith, eqb, ltb, eqb-true, eqb-false, ltb-true}
+use Rattle.flash.proofs.Kit.{ltb-false}
 use Rattle.flash.proofs.Bools.{bool-cases}
 
 pub eq-cases : (x y : ℕ) → (x ≡ y) ⊎ (x ≢ y)

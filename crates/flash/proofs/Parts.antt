@@ -1,8 +1,9 @@
 -- Laws of a list cut into parts of one size: of pages of the store, blocks of the store and blocks of the marks alike.
-use Rattle.flash.proofs.Kit.{_≡_, refl, sym, ap, _∙_, ⊎-elim, List, [], _∷_, _++_, append-assoc, ℕ, zero, suc, _+_, _-_, _*_, _/_, _%_, _≤_, _<_, suc-mul}
-use Rattle.flash.proofs.Kit.{add-mul, mul-assoc, mul-zero, mul-le-mul-right, mod-lt, div-add-mod', div-lt-iff-lt-mul, arith, length, getD}
-use Rattle.flash.proofs.Kit.{take, drop, replicate, length-append, length-take, length-drop, length-replicate, replicate-append-replicate, length-take-le}
-use Rattle.flash.proofs.Kit.{getD-take, getD-drop, drop-drop, ext-getD, take-append-le, drop-append-le, drop-append-add, take-append-drop, take-at, drop-at, take-take}
+use Rattle.flash.proofs.Kit.{_≡_, sym, ap, _∙_, ⊎-elim, List, [], _∷_, _++_, append-assoc, ℕ, zero, suc, _+_, _-_, _*_, _/_, _%_, _≤_, _<_}
+use Rattle.flash.proofs.Kit.{suc-mul, add-mul, mul-assoc, mul-zero, mul-le-mul-right, mod-lt, div-add-mod', div-lt-iff-lt-mul, arith, length}
+use Rattle.flash.proofs.Kit.{getD, take, drop, replicate, length-append, length-take, length-drop, length-replicate}
+use Rattle.flash.proofs.Kit.{replicate-append-replicate, length-take-le, getD-take, getD-drop, drop-drop, ext-getD, take-append-le}
+use Rattle.flash.proofs.Kit.{drop-append-le, drop-append-add, take-append-drop, take-at, drop-at, take-take}
 use native.Mathlib.Nat.{zero-sub}
 use native.Mathlib.Numerals.{unary-clauses}
 use lib.Seq.{take-nil}

@@ -1,5 +1,5 @@
 -- A sum taken four pages a pass: the bytes that a pass leaves, and what is left to sum after it.
-use Rattle.flash.proofs.Kit.{_≡_, refl, sym, ap, _∙_, ⊎-elim, Bool, true, false, cond, List, [], _∷_, ℕ, zero, suc, _+_, _-_, _*_, _≤_, _<_}
+use Rattle.flash.proofs.Kit.{_≡_, refl, sym, ap, _∙_, ⊎-elim, Bool, true, false, cond, List, [], _∷_, ℕ, suc, _+_, _-_, _*_, _≤_, _<_}
 use Rattle.flash.proofs.Kit.{not-suc-le-zero, arith, bitXor, length, getD, take, drop, length-take, getD-take, take-add, le-ltb}
 use Rattle.flash.specs.Lists.{part}
 use Rattle.flash.specs.PageSum.{_⊕_, sum}
@@ -15,7 +15,8 @@ slotAt slots at = getD slots at (getD slots 0 0)
 
 -- byte i of the sum of the first four pages, or of as many as there are
 four-at : (page : ℕ → List ℕ) (i : ℕ) (slots : List ℕ) → 1 ≤ length slots
-    → byteSum (length slots) (getD (page (slotAt slots 0)) i 0) (getD (page (slotAt slots 1)) i 0) (getD (page (slotAt slots 2)) i 0) (getD (page (slotAt slots 3)) i 0)
+    → byteSum (length slots) (getD (page (slotAt slots 0)) i 0) (getD (page (slotAt slots 1)) i 0) (getD (page (slotAt slots 2)) i 0)
+    (getD (page (slotAt slots 3)) i 0)
     ≡ getD (sum page (take 4 slots)) i 0
 unfolding sum
 four-at page i [] h = absurd (not-suc-le-zero h)
@@ -35,24 +36,33 @@ abbrev pub passed : (store : List ℕ) (p : ℕ) (slots page : List ℕ) (add : 
 passed store p slots page add = cond add page [] ⊕ sum (λ t. part p t store) (take 4 slots)
 
 module _ (store : List ℕ) (p : ℕ) (slots page : List ℕ) (add : Bool) (some : 1 ≤ length slots) where
-  pub length-passed : length page ≡ p → ((j : ℕ) → j < length slots → getD slots j 0 * p + p ≤ length store) → length (passed store p slots page add) ≡ length page
+  abbrev pages : ℕ → List ℕ
+  pages t = part p t store
+
+  pub length-passed : length page ≡ p → ((j : ℕ) → j < length slots → getD slots j 0 * p + p ≤ length store)
+      → length (passed store p slots page add) ≡ length page
   length-passed whole each =
-      let size = length-take 4 slots in
-      let sum-size = length-sum (λ t. part p t store) p (take 4 slots) (λ j h. rw (getD-take 4 slots j 0 (omega arith)) (length-part p (getD slots j 0) store (each j (omega arith)))) (omega arith) in
+      let count = length-take 4 slots in
+      let size = length-sum pages p (take 4 slots)
+      (λ j h. rw (getD-take 4 slots j 0 (omega arith)) (length-part p (getD slots j 0) store (each j (omega arith)))) (omega arith) in
       ⊎-elim
-      (λ (a : add ≡ true). rw a (omega (arith, length-⊕ page (sum (λ t. part p t store) (take 4 slots)))))
-      (λ (a : add ≡ false). rw a (omega (arith, length-⊕ [] (sum (λ t. part p t store) (take 4 slots)))))
+      (λ (a : add ≡ true). rw a (omega (arith, length-⊕ page (sum pages (take 4 slots)))))
+      (λ (a : add ≡ false). rw a (omega (arith, length-⊕ [] (sum pages (take 4 slots)))))
       (bool-cases add)
 
   -- byte i of it, from the bytes that are read in that turn
-  pub passed-at : (one two three four i : ℕ) → one ≡ slotAt slots 0 * p → two ≡ slotAt slots 1 * p → three ≡ slotAt slots 2 * p → four ≡ slotAt slots 3 * p → i < p
-      → bitXor (cond add (getD page i 0) 0) (byteSum (length slots) (getD store (one + i) 0) (getD store (two + i) 0) (getD store (three + i) 0) (getD store (four + i) 0))
+  pub passed-at : (one two three four i : ℕ)
+      → one ≡ slotAt slots 0 * p → two ≡ slotAt slots 1 * p → three ≡ slotAt slots 2 * p → four ≡ slotAt slots 3 * p → i < p
+      → bitXor (cond add (getD page i 0) 0)
+      (byteSum (length slots) (getD store (one + i) 0) (getD store (two + i) 0) (getD store (three + i) 0) (getD store (four + i) 0))
       ≡ getD (passed store p slots page add) i 0
   passed-at one two three four i a b c d h =
-      let at : (slot : ℕ) → getD store (slot * p + i) 0 ≡ getD (part p slot store) i 0 = λ slot. sym (part-at p slot store i 0 h) in
-      rw (a, b, c, d, at (slotAt slots 0), at (slotAt slots 1), at (slotAt slots 2), at (slotAt slots 3), ⊕-at, kept-at, four-at (λ t. part p t store) i slots some)
+      let at : (slot : ℕ) → getD store (slot * p + i) 0 ≡ getD (pages slot) i 0 = λ slot. sym (part-at p slot store i 0 h) in
+      rw (a, b, c, d, at (slotAt slots 0), at (slotAt slots 1), at (slotAt slots 2), at (slotAt slots 3), ⊕-at, kept-at)
+      (ap (bitXor (cond add (getD page i 0) 0)) (four-at pages i slots some))
 
 -- a pass more
 pub pass-more : (page : ℕ → List ℕ) (i n : ℕ) (xs : List ℕ)
     → sum page (take (i + 4) (take n xs)) ≡ sum page (take i (take n xs)) ⊕ sum page (take 4 (take (n - i) (drop i xs)))
-pass-more page i n xs = ap (sum page) (take-add i 4 (take n xs)) ∙ sum-append page (take i (take n xs)) (take 4 (drop i (take n xs))) ∙ rw (drop-take i n xs)
+pass-more page i n xs =
+    ap (sum page) (take-add i 4 (take n xs)) ∙ sum-append page (take i (take n xs)) (take 4 (drop i (take n xs))) ∙ rw (drop-take i n xs)

@@ -1,6 +1,6 @@
 -- Laws of the page sum. `⊕` fills the shorter page up with zeros, so most of them ask nothing of lengths.
-use Rattle.flash.proofs.Kit.{_≡_, refl, sym, ap, ap₂, _∙_, List, [], _∷_, _++_, ℕ, zero, suc, _≤_, _<_, max}
-use Rattle.flash.proofs.Kit.{not-suc-le-zero, le-of-suc-le-suc, arith, length, getD, bitXor, xor-comm, xor-zero-r}
+use Rattle.flash.proofs.Kit.{_≡_, refl, sym, ap, ap₂, _∙_, List, [], _∷_, _++_, ℕ, zero, suc, _≤_, _<_, max, not-suc-le-zero, le-of-suc-le-suc}
+use Rattle.flash.proofs.Kit.{arith, length, getD, bitXor, xor-comm, xor-zero-r}
 use Rattle.flash.specs.PageSum.{_⊕_, sum}
 use Rattle.flash.proofs.Xor.{xor-assoc, xor-cancel}
 

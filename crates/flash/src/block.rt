@@ -16,12 +16,8 @@ pub fn erase_block(store: &mut [u8], marks: &mut [u8], m: usize, p: usize, block
         ≡ eraseBlock m p block (record { store = now (store .entry); marks = now (marks .entry) }) ⌝ }
 {
     let size = m * p;
-    let start = block * size;
-    let end = start + size;
-    fill(&mut store[start..end], ERASED);
-    let first = block * m;
-    let past = first + m;
-    fill(&mut marks[first..past], ERASED);
+    fill(&mut store[block * size..block * size + size], ERASED);
+    fill(&mut marks[block * m..block * m + m], ERASED);
 }
 
 // Whether all marks of the block are this letter.
@@ -29,7 +25,5 @@ pub fn is_full(marks: &[u8], m: usize, block: usize, letter: u8) -> bool
     requires { ⌜ block * m + m ≤ length (now marks) ⌝ }
     ensures { λ r. ⌜ r ≡ isFull m (now (marks .entry)) block letter ⌝ }
 {
-    let start = block * m;
-    let end = start + m;
-    is_filled(&marks[start..end], letter)
+    is_filled(&marks[block * m..block * m + m], letter)
 }

@@ -16,9 +16,7 @@ pub fn write_page(store: &mut [u8], marks: &mut [u8], p: usize, slot: usize, wor
     ensures { λ _. ⌜ record { store = now (store .exit); marks = now (marks .exit) }
         ≡ writePage p slot (now (work .entry)) mark (record { store = now (store .entry); marks = now (marks .entry) }) ⌝ }
 {
-    let to = slot * p;
-    let end = to + p;
-    copy(&mut store[to..end], work);
+    copy(&mut store[slot * p..slot * p + p], work);
     marks[slot] = mark;
 }
 
@@ -28,7 +26,5 @@ pub fn is_blank(store: &[u8], marks: &[u8], p: usize, slot: usize) -> bool
     requires { ⌜ slot < length (now marks) ⌝ }
     ensures { λ r. ⌜ r ≡ isBlank p (record { store = now (store .entry); marks = now (marks .entry) }) slot ⌝ }
 {
-    let start = slot * p;
-    let end = start + p;
-    marks[slot] == ERASED && is_filled(&store[start..end], ERASED)
+    marks[slot] == ERASED && is_filled(&store[slot * p..slot * p + p], ERASED)
 }

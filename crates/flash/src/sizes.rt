@@ -14,14 +14,10 @@ pub const MOST_PAGE_BYTES: usize = 4096;
 
 // What each call is given besides the lent parts. The definitions use this struct as it is.
 pub struct Sizes {
-    // Data blocks, 1 to 64, numbered 1 to n. Block 0 is the spare.
-    pub n: usize,
-    // Pages of a block, 1 to 64.
-    pub m: usize,
-    // Bytes of a page, 1 to 4,096.
-    pub p: usize,
-    // The start letter, 0 to 2: the mark of the data blocks before the move.
-    pub s: usize,
+    pub n: usize, // data blocks, 1 to 64, numbered 1 to n; block 0 is the spare
+    pub m: usize, // pages of a block, 1 to 64
+    pub p: usize, // bytes of a page, 1 to 4,096
+    pub s: usize, // the start letter, 0 to 2: the mark of the data blocks before the move
 }
 
 // Whether the sizes are in their ranges. Nothing is multiplied before they are.

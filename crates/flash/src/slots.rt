@@ -10,9 +10,6 @@ ghost use Rattle.flash.specs.Lists.{part};
 ghost use Rattle.flash.specs.PageSum.{_⊕_, sum};
 ghost use Rattle.flash.specs.inner.Terms.{byteSum};
 
-// The most pages of one pass.
-const MOST_TERMS: usize = 4;
-
 // The sum of the first `terms` of four bytes. In a loop the tests are the same in every turn, so that the compiler makes a loop of vector
 // instructions for each number of terms.
 fn byte_sum(terms: usize, a: u8, b: u8, c: u8, d: u8) -> u8
@@ -85,6 +82,6 @@ pub fn sum_to_page(store: &[u8], p: usize, slots: &[usize], count: usize, page: 
     let mut i = 0;
     while i < count {
         sum_from(store, p, &slots[i..count], page, 0 < i);
-        i += MOST_TERMS;
+        i += 4;
     }
 }

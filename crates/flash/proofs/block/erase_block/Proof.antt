@@ -6,51 +6,6 @@ use Rattle.flash.proofs.Chips.{chip-eq}
 use Rattle.flash.proofs.block.erase_block.Statement.{statement}
 use Rattle.flash.proofs.block.erase_block.Tie as tie
 
-mul-size : tie.Need-mul-size
-mul-size c = omega arith
-
-mul-start : tie.Need-mul-start
-mul-start c = omega arith
-
-add-end : tie.Need-add-end
-add-end c = omega arith
-
-sub-fill : tie.Need-sub-fill
-sub-fill c = omega arith
-
-part-fill-start : tie.Need-part-fill-start
-part-fill-start c = omega arith
-
-part-fill-end : tie.Need-part-fill-end
-part-fill-end c = omega arith
-
-fill-requires : tie.Need-fill-requires
-fill-requires c κs = omega arith
-
-mul-first : tie.Need-mul-first
-mul-first c = omega arith
-
-add-past : tie.Need-add-past
-add-past c = omega arith
-
-sub-fill-2 : tie.Need-sub-fill-2
-sub-fill-2 c = omega arith
-
-part-fill-start-2 : tie.Need-part-fill-start-2
-part-fill-start-2 c = omega arith
-
-part-fill-end-2 : tie.Need-part-fill-end-2
-part-fill-end-2 c = omega arith
-
-fill-requires-2 : tie.Need-fill-requires-2
-fill-requires-2 c κs = omega arith
-
-same-length : tie.Need-same-length
-same-length c = omega arith
-
-same-length-2 : tie.Need-same-length-2
-same-length-2 c = omega arith
-
 returns : tie.Need-returns
 unfolding eraseBlock
 returns c =
@@ -63,20 +18,7 @@ returns c =
 pub erase-block-spec : {M : Type 1} → statement M
 erase-block-spec =
     tie.close
-    (tie.spec
-    mul-size
-    mul-start
-    add-end
-    sub-fill
-    part-fill-start
-    part-fill-end
-    fill-requires
-    mul-first
-    add-past
-    sub-fill-2
-    part-fill-start-2
-    part-fill-end-2
-    fill-requires-2
-    same-length
-    same-length-2
-    returns)
+    (tie.spec (λ c. omega arith)
+    (λ c. omega arith) (λ c. omega arith) (λ c. omega arith) (λ c. omega arith) (λ c. omega arith) (λ c. omega arith) (λ c κs. omega arith)
+    (λ c. omega arith) (λ c. omega arith) (λ c. omega arith) (λ c. omega arith) (λ c. omega arith) (λ c. omega arith) (λ c κs. omega arith)
+    (λ c. omega arith) (λ c. omega arith) returns)

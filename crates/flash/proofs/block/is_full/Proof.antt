@@ -6,24 +6,6 @@ use Rattle.flash.proofs.Blocks.{full-part}
 use Rattle.flash.proofs.block.is_full.Statement.{statement}
 use Rattle.flash.proofs.block.is_full.Tie as tie
 
-mul-start : tie.Need-mul-start
-mul-start c = omega arith
-
-add-end : tie.Need-add-end
-add-end c = omega arith
-
-sub-is-filled : tie.Need-sub-is-filled
-sub-is-filled c = omega arith
-
-part-is-filled-start : tie.Need-part-is-filled-start
-part-is-filled-start c = omega arith
-
-part-is-filled-end : tie.Need-part-is-filled-end
-part-is-filled-end c = omega arith
-
-is-filled-requires : tie.Need-is-filled-requires
-is-filled-requires c κs = omega arith
-
 returns : tie.Need-returns
 returns c =
     let a = c .before .before .before .args in
@@ -34,11 +16,5 @@ returns c =
 pub is-full-spec : {M : Type 1} → statement M
 is-full-spec =
     tie.close
-    (tie.spec
-    mul-start
-    add-end
-    sub-is-filled
-    part-is-filled-start
-    part-is-filled-end
-    is-filled-requires
+    (tie.spec (λ c. omega arith) (λ c. omega arith) (λ c. omega arith) (λ c. omega arith) (λ c. omega arith) (λ c. omega arith) (λ c κs. omega arith)
     returns)

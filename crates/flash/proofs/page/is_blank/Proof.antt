@@ -8,27 +8,6 @@ use Rattle.flash.proofs.Chips.{blank-is, not-blank}
 use Rattle.flash.proofs.page.is_blank.Statement.{statement}
 use Rattle.flash.proofs.page.is_blank.Tie as tie
 
-mul-start : tie.Need-mul-start
-mul-start c = omega arith
-
-add-end : tie.Need-add-end
-add-end c = omega arith
-
-shared-slice-read-if1 : tie.Need-shared-slice-read-if1
-shared-slice-read-if1 c = omega arith
-
-sub-is-filled : tie.Need-sub-is-filled
-sub-is-filled c = omega arith
-
-part-is-filled-start : tie.Need-part-is-filled-start
-part-is-filled-start c = omega arith
-
-part-is-filled-end : tie.Need-part-is-filled-end
-part-is-filled-end c = omega arith
-
-is-filled-requires : tie.Need-is-filled-requires
-is-filled-requires c κs = omega arith
-
 returns : tie.Need-returns
 returns c =
     let a = c .before .before .before .before .before .before .args in
@@ -46,13 +25,6 @@ returns-2 c =
 pub is-blank-spec : {M : Type 1} → statement M
 is-blank-spec =
     tie.close
-    (tie.spec
-    mul-start
-    add-end
-    shared-slice-read-if1
-    sub-is-filled
-    part-is-filled-start
-    part-is-filled-end
-    is-filled-requires
-    returns
-    returns-2)
+    (tie.spec (λ c. omega arith)
+    (λ c. omega arith) (λ c. omega arith) (λ c. omega arith) (λ c. omega arith) (λ c. omega arith) (λ c. omega arith) (λ c κs. omega arith)
+    returns returns-2)

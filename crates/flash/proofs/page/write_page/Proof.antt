@@ -7,33 +7,6 @@ use Rattle.flash.proofs.Chips.{chip-eq}
 use Rattle.flash.proofs.page.write_page.Statement.{statement}
 use Rattle.flash.proofs.page.write_page.Tie as tie
 
-mul-to : tie.Need-mul-to
-mul-to c = omega arith
-
-add-end : tie.Need-add-end
-add-end c = omega arith
-
-sub-copy : tie.Need-sub-copy
-sub-copy c = omega arith
-
-part-copy-start : tie.Need-part-copy-start
-part-copy-start c = omega arith
-
-part-copy-end : tie.Need-part-copy-end
-part-copy-end c = omega arith
-
-copy-requires : tie.Need-copy-requires
-copy-requires c κs = omega arith
-
-slice-write-marks : tie.Need-slice-write-marks
-slice-write-marks c = omega arith
-
-same-length : tie.Need-same-length
-same-length c = omega arith
-
-same-length-2 : tie.Need-same-length-2
-same-length-2 c = simp length-set
-
 returns : tie.Need-returns
 unfolding writePage
 returns c =
@@ -44,14 +17,5 @@ returns c =
 pub write-page-spec : {M : Type 1} → statement M
 write-page-spec =
     tie.close
-    (tie.spec
-    mul-to
-    add-end
-    sub-copy
-    part-copy-start
-    part-copy-end
-    copy-requires
-    slice-write-marks
-    same-length
-    same-length-2
-    returns)
+    (tie.spec (λ c. omega arith) (λ c. omega arith) (λ c. omega arith) (λ c. omega arith) (λ c. omega arith) (λ c. omega arith) (λ c κs. omega arith)
+    (λ c. omega arith) (λ c. omega arith) (λ c. simp length-set) returns)

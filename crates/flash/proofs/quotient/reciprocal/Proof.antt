@@ -4,9 +4,6 @@ use Rattle.flash.specs.inner.Reciprocal.{scale, reciprocalOf}
 use Rattle.flash.proofs.quotient.reciprocal.Statement.{statement}
 use Rattle.flash.proofs.quotient.reciprocal.Tie as tie
 
-div-result : tie.Need-div-result
-div-result c = search needs
-
 add-result : tie.Need-add-result
 add-result c = record { fits = omega (arith, div-le-self scale (c .args .m)) }
 
@@ -15,4 +12,4 @@ unfolding reciprocalOf
 returns c = refl
 
 pub reciprocal-spec : {M : Type 1} → statement M
-reciprocal-spec = tie.close (tie.spec div-result add-result returns)
+reciprocal-spec = tie.close (tie.spec (λ c. search needs) add-result returns)

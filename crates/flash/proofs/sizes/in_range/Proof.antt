@@ -4,12 +4,9 @@ use Rattle.flash.specs.Geometry.{inRange, isLetter}
 use Rattle.flash.proofs.sizes.in_range.Statement.{statement}
 use Rattle.flash.proofs.sizes.in_range.Tie as tie
 
-cast-result : tie.Need-cast-result
-cast-result c = search needs
-
 returns : tie.Need-returns
 unfolding inRange isLetter
 returns c = search needs
 
 pub in-range-spec : {M : Type 1} → statement M
-in-range-spec = tie.close (tie.spec cast-result returns)
+in-range-spec = tie.close (tie.spec (λ c. search needs) returns)

@@ -4,9 +4,6 @@ use Rattle.flash.proofs.Bounds.{product-le}
 use Rattle.flash.proofs.sizes.store_length.Statement.{statement}
 use Rattle.flash.proofs.sizes.store_length.Tie as tie
 
-slot-count-requires : tie.Need-slot-count-requires
-slot-count-requires c κs = omega arith
-
 mul-result : tie.Need-mul-result
 mul-result c =
     let a = c .before .before .args in
@@ -17,4 +14,4 @@ returns : tie.Need-returns
 returns c = ap (λ (slots : ℕ). slots * c .before .before .args .sizes .p) (c .before .slot-count .ensures)
 
 pub store-length-spec : {M : Type 1} → statement M
-store-length-spec = tie.close (tie.spec slot-count-requires mul-result returns)
+store-length-spec = tie.close (tie.spec (λ c κs. omega arith) mul-result returns)

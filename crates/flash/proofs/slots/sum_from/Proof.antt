@@ -1,6 +1,6 @@
 -- `sum_from` leaves the sum of up to four pages of the store in a page outside it.
-use Rattle.flash.proofs.Kit.{_≡_, refl, ap, ap₂, _∙_, cond, _++_, append-nil, ℕ, _+_, _-_, _*_, _≤_, _<_, arith, bitXor, length, getD}
-use Rattle.flash.proofs.Kit.{set, take, drop, length-set, drop-length, take-all, needs}
+use Rattle.flash.proofs.Kit.{_≡_, refl, _∙_, _++_, append-nil, _-_, _≤_, arith, length, getD, take, drop, length-set, drop-length, take-all}
+use Rattle.flash.proofs.Kit.{needs}
 use Rattle.flash.proofs.Loops.{front-at, front-more}
 use Rattle.flash.proofs.PassLaws.{passed, length-passed, passed-at}
 use Rattle.flash.proofs.slots.sum_from.Statement.{statement}
@@ -13,6 +13,9 @@ Inv-loop store p slots page₀ add terms one two three four i₀ page i =
 
 abbrev μ-loop : tie.MeasureT-loop
 μ-loop store p slots page₀ add terms one two three four i₀ page i = p - i
+
+loop-holds : tie.Need-loop-holds Inv-loop μ-loop
+loop-holds c = (refl, omega arith, omega arith)
 
 loop-again : tie.Need-loop-again Inv-loop μ-loop
 loop-again c =
@@ -43,28 +46,10 @@ returns c =
 pub sum-from-spec : {M : Type 1} → statement M
 sum-from-spec =
     tie.close
-    (tie.spec
-    Inv-loop
-    μ-loop
-    (λ c κs. search needs)
-    (λ c κs. search needs)
-    (λ c κs. search needs)
-    (λ c κs. search needs)
-    (λ c. (refl, omega arith, omega arith))
-    (λ c. omega arith)
-    (λ c. omega arith)
-    (λ c. omega arith)
-    (λ c. omega arith)
-    (λ c. omega arith)
-    (λ c. omega arith)
-    (λ c. omega arith)
-    (λ c. omega arith)
-    (λ c κs. search needs)
-    (λ c. omega arith)
-    (λ c κs. search needs)
-    (λ c. omega arith)
-    (λ c. omega arith)
-    (λ c. omega arith)
-    loop-again
-    (λ c. search needs)
-    returns)
+    (tie.spec Inv-loop μ-loop
+    (λ c κs. search needs) (λ c κs. search needs) (λ c κs. search needs) (λ c κs. search needs)
+    loop-holds
+    (λ c. omega arith) (λ c. omega arith) (λ c. omega arith) (λ c. omega arith)
+    (λ c. omega arith) (λ c. omega arith) (λ c. omega arith) (λ c. omega arith) (λ c κs. search needs)
+    (λ c. omega arith) (λ c κs. search needs) (λ c. omega arith)
+    (λ c. omega arith) (λ c. omega arith) loop-again (λ c. search needs) returns)

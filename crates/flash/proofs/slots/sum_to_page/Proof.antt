@@ -1,8 +1,8 @@
 -- `sum_to_page` leaves the sum of the pages of all slots in a page: a read.
-use Rattle.flash.proofs.Kit.{_≡_, refl, sym, ap, _∙_, cond, List, [], ℕ, _+_, _-_, _*_, _≤_, _<_, arith, ltb, length, getD, take, drop}
-use Rattle.flash.proofs.Kit.{length-take, length-drop, length-take-le, getD-take, getD-drop, take-all, lt-ltb, needs}
+use Rattle.flash.proofs.Kit.{_≡_, refl, sym, cond, [], _+_, _-_, _≤_, arith, ltb, length, take, drop, length-take, length-drop, length-take-le}
+use Rattle.flash.proofs.Kit.{getD-take, getD-drop, take-all, lt-ltb, needs}
 use Rattle.flash.specs.Lists.{part}
-use Rattle.flash.specs.PageSum.{_⊕_, sum}
+use Rattle.flash.specs.PageSum.{sum}
 use Rattle.flash.proofs.PassLaws.{pass-more}
 use Rattle.flash.proofs.slots.sum_to_page.Statement.{statement}
 use Rattle.flash.proofs.slots.sum_to_page.Tie as tie
@@ -24,8 +24,10 @@ sum-from-requires c κs =
     let start = c .before .before .before .before .before .before .before in
     let a = start .args in
     let i = c .before .before .before .loop .i in
-    let size = simp length-drop at (length-take (a .count - i) (drop i (a .slots .now))) in
-    ((omega arith, omega arith), λ j h. rw (getD-take (a .count - i) (drop i (a .slots .now)) j 0 (omega arith), getD-drop) (start .pre .1 (i + j) (omega arith)))
+    let size = simp length-drop at (length-take (a .count - i) (drop i (a .slots .now))) in (
+      (omega arith, omega arith),
+      λ j h. rw (getD-take (a .count - i) (drop i (a .slots .now)) j 0 (omega arith), getD-drop) (start .pre .1 (i + j) (omega arith)),
+    )
 
 loop-again : tie.Need-loop-again Inv-loop μ-loop
 loop-again c =
@@ -45,17 +47,6 @@ returns c =
 pub sum-to-page-spec : {M : Type 1} → statement M
 sum-to-page-spec =
     tie.close
-    (tie.spec
-    Inv-loop
-    μ-loop
-    loop-holds
-    (λ c. search needs)
-    (λ c. search needs)
-    (λ c. search needs)
-    (λ c. search needs)
-    sum-from-requires
-    (λ c. search needs)
-    (λ c. search needs)
-    loop-again
-    (λ c. search needs)
-    returns)
+    (tie.spec Inv-loop μ-loop loop-holds
+    (λ c. search needs) (λ c. search needs) (λ c. search needs) (λ c. search needs) sum-from-requires
+    (λ c. search needs) (λ c. search needs) loop-again (λ c. search needs) returns)
