@@ -84,7 +84,7 @@ module _ (m : ℕ) (marks : List ℕ) (block : ℕ) where
   unfolding markAt
   full-part letter fits =
       let size = length-part m block marks fits in
-      bool-eq (isFull m marks block letter) (all (λ mark. eqb mark letter) (part m block marks))
+      bool-eq _ _
       (λ e.
       all-of (λ mark. eqb mark letter) (part m block marks) erased
       (λ page h.
@@ -92,6 +92,4 @@ module _ (m : ℕ) (marks : List ℕ) (block : ℕ) where
       eq-eqb _ _ (part-at m block marks page erased l ∙ full-at letter page e l)))
       (λ e.
       full-of letter
-      (λ page h.
-      sym (part-at m block marks page erased h)
-      ∙ eqb-true _ _ (all-at (λ mark. eqb mark letter) (part m block marks) page erased e (omega arith))))
+      (λ page h. sym (part-at m block marks page erased h) ∙ eqb-true _ _ (all-at (λ mark. eqb mark letter) (part m block marks) page erased e (omega arith))))

@@ -4,7 +4,7 @@ use Rattle.flash.proofs.Kit.{or-add-and, and-le-l, and-le-r, xor-self, 
 use Rattle.flash.proofs.Kit.{getD-at, length-take-le, drop-set-lt, drop-drop, eqb-true, eq-eqb}
 use Rattle.flash.specs.Lists.{all}
 use lib.Seq.{set-at}
-use Rattle.flash.proofs.Bools.{and-left, and-right, bool-eq}
+use Rattle.flash.proofs.Bools.{bool-eq, both, and-both}
 use Rattle.flash.proofs.Searches.{all-append}
 use Rattle.flash.proofs.Xor.{xor-zero-eq}
 
@@ -28,22 +28,17 @@ rest-more area old i value e = drop-set-lt (i + 1) area i value (omega arith) �
 -- A loop that gathers the bits in which bytes differ from a value: they are none while each byte is that value.
 or-none : (a b : ℕ) → eqb (bitOr a b) 0 ≡ (eqb a 0 && eqb b 0)
 or-none a b =
-    bool-eq (eqb (bitOr a b) 0) (eqb a 0 && eqb b 0)
+    bool-eq _ _
     (λ e.
-    let z = eqb-true (bitOr a b) 0 e in
-    let s = or-add-and a b in
-    let l = and-le-l a b in
-    let r = and-le-r a b in
-    rw (eq-eqb a 0 (omega arith), eq-eqb b 0 (omega arith)))
-    (λ e.
-    let a-is = eqb-true a 0 (and-left (eqb a 0) (eqb b 0) e) in
-    let b-is = eqb-true b 0 (and-right (eqb a 0) (eqb b 0) e) in
-    rw (a-is, b-is))
+    let none = eqb-true (bitOr a b) 0 e in
+    let sum = or-add-and a b in
+    and-both _ _ (eq-eqb a 0 (omega (arith, and-le-r a b))) (eq-eqb b 0 (omega (arith, and-le-l a b))))
+    (λ e. let h = both _ _ e in rw (eqb-true a 0 (h .0), eqb-true b 0 (h .1)))
 
 xor-none : (a b : ℕ) → eqb (bitXor a b) 0 ≡ eqb a b
 xor-none a b =
-    bool-eq (eqb (bitXor a b) 0) (eqb a b)
-    (λ e. eq-eqb a b (xor-zero-eq a b (eqb-true (bitXor a b) 0 e)))
+    bool-eq _ _
+    (λ e. eq-eqb a b (xor-zero-eq a b (eqb-true _ _ e)))
     (λ e. eq-eqb (bitXor a b) 0 (rw (eqb-true a b e) (xor-self b)))
 
 pub filled-more : (part : List ℕ) (value different i : ℕ) → i < length part

@@ -4,10 +4,6 @@ use Rattle.flash.proofs.Kit.{arith, length, getD, bitXor, xor-comm, xor
 use Rattle.flash.specs.PageSum.{_⊕_, sum}
 use Rattle.flash.proofs.Xor.{xor-assoc, xor-cancel}
 
-pub nil-⊕ : (a : List ℕ) → [] ⊕ a ≡ a
-unfolding _⊕_
-nil-⊕ a = refl
-
 pub ⊕-nil : (a : List ℕ) → a ⊕ [] ≡ a
 unfolding _⊕_
 ⊕-nil [] = refl
@@ -50,8 +46,8 @@ unfolding _⊕_
 
 module _ (page : ℕ → List ℕ) where
   pub sum-append : (xs ys : List ℕ) → sum page (xs ++ ys) ≡ sum page xs ⊕ sum page ys
-  unfolding sum
-  sum-append [] ys = sym (nil-⊕ (sum page ys))
+  unfolding sum _⊕_
+  sum-append [] ys = refl
   sum-append (t ∷ ts) ys =
       ap (λ (s : List ℕ). page t ⊕ s) (sum-append ts ys) ∙ sym (⊕-assoc (page t) (sum page ts) (sum page ys))
 

@@ -1,3 +1,3 @@
--- How the code works inside: a division by a product. Nothing here has to be believed.
+-- How the code works inside: a division by a product, the bytes of a pass. Nothing here has to be believed.
 pub mod Reciprocal
 pub mod Terms

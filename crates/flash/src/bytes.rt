@@ -1,4 +1,4 @@
-// Bytes of one part of the store or the marks. All loops over bytes are here.
+// Bytes of one part of the store or the marks. All loops over bytes are here, but for the sum's.
 
 ghost use mathlib.Core.Path.{_≡_};
 ghost use lib.Dec.{eqb};
