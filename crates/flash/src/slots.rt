@@ -34,7 +34,7 @@ fn added(add: bool, old: u8, byte: u8) -> u8
     if add { old ^ byte } else { byte }
 }
 
-// Where the page of a slot starts. Behind the last slot the first stands for the others; they do not count.
+// Where the page of a slot starts in the store. Behind the last slot the first stands for the others; they do not count.
 fn start_of(store: &[u8], p: usize, slots: &[usize], at: usize) -> usize
     requires { ⌜ 1 ≤ length (now slots) ⌝ }
     requires { ⌜ ((j : ℕ) → j < length (now slots) → getD (now slots) j 0 * p + p ≤ length (now store)) ⌝ }
