@@ -14,3 +14,4 @@ pub mod Chips
 pub mod Loops
 pub mod Bounds
 pub mod PassLaws
+pub mod SlotLaws

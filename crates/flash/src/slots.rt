@@ -1,12 +1,13 @@
 // The page sum: of the pages of slots that stand in an array, four pages a pass. Nothing else sums pages.
 
 ghost use mathlib.Core.Path.{_≡_};
+ghost use mathlib.Core.Logic.{_≢_};
 ghost use mathlib.Core.Bool.{cond};
 ghost use mathlib.Core.List.{[]};
 ghost use Prim.Native.Nat.{ℕ, _+_, _*_, _≤_, _<_};
 ghost use lib.Bits.{bitXor};
 ghost use lib.ListN.{length, getD, take};
-ghost use Rattle.flash.specs.Lists.{part};
+ghost use Rattle.flash.specs.Lists.{part, setPart};
 ghost use Rattle.flash.specs.PageSum.{_⊕_, sum};
 ghost use Rattle.flash.specs.inner.Terms.{byteSum};
 
@@ -73,6 +74,34 @@ fn sum_from(store: &[u8], p: usize, slots: &[usize], page: &mut [u8], add: bool)
     }
 }
 
+// The same within the store, where the page is that of a slot that is none of the summed ones.
+fn sum_within(store: &mut [u8], p: usize, slots: &[usize], to: usize, add: bool)
+    requires { ⌜ (1 ≤ length (now slots)) × (to * p + p ≤ length (now store)) ⌝ }
+    requires { ⌜ ((j : ℕ) → j < length (now slots) → getD (now slots) j 0 * p + p ≤ length (now store)) ⌝ }
+    requires { ⌜ ((j : ℕ) → j < length (now slots) → getD (now slots) j 0 ≢ to) ⌝ }
+    ensures { λ _. ⌜ now (store .exit) ≡ setPart p to (now (store .entry))
+        (cond add (part p to (now (store .entry))) [] ⊕ sum (λ t. part p t (now (store .entry))) (take 4 (now (slots .entry)))) ⌝ }
+{
+    let terms = slots.len();
+    let one = start_of(store, p, slots, 0);
+    let two = start_of(store, p, slots, 1);
+    let three = start_of(store, p, slots, 2);
+    let four = start_of(store, p, slots, 3);
+    let target = to * p;
+    let mut i = 0;
+    while i < p {
+        let sum = byte_sum(
+            terms,
+            store[one + i],
+            store[two + i],
+            store[three + i],
+            store[four + i],
+        );
+        store[target + i] = added(add, store[target + i], sum);
+        i += 1;
+    }
+}
+
 // The sum of the pages of the first `count` slots goes into a page.
 pub fn sum_to_page(store: &[u8], p: usize, slots: &[usize], count: usize, page: &mut [u8])
     requires { ⌜ (1 ≤ count) × (count ≤ length (now slots)) × (count ≤ 4096) × (length (now page) ≡ p) ⌝ }
@@ -82,6 +111,21 @@ pub fn sum_to_page(store: &[u8], p: usize, slots: &[usize], count: usize, page: 
     let mut i = 0;
     while i < count {
         sum_from(store, p, &slots[i..count], page, 0 < i);
+        i += 4;
+    }
+}
+
+// The same sum goes straight into the page of a slot that is none of the summed ones.
+pub fn sum_to_slot(store: &mut [u8], p: usize, slots: &[usize], count: usize, to: usize)
+    requires { ⌜ (1 ≤ count) × (count ≤ length (now slots)) × (count ≤ 4096) × (to * p + p ≤ length (now store)) ⌝ }
+    requires { ⌜ ((j : ℕ) → j < count → getD (now slots) j 0 * p + p ≤ length (now store)) ⌝ }
+    requires { ⌜ ((j : ℕ) → j < count → getD (now slots) j 0 ≢ to) ⌝ }
+    ensures { λ _. ⌜ now (store .exit)
+        ≡ setPart p to (now (store .entry)) (sum (λ t. part p t (now (store .entry))) (take count (now (slots .entry)))) ⌝ }
+{
+    let mut i = 0;
+    while i < count {
+        sum_within(store, p, &slots[i..count], to, 0 < i);
         i += 4;
     }
 }
