@@ -1,9 +1,10 @@
 -- `sum_to_page` leaves the sum of the pages of all slots in a page: a read.
-use Rattle.flash.proofs.Kit.{_≡_, refl, sym, cond, [], _+_, _-_, _≤_, arith, ltb, length, take, drop, length-take, length-drop, length-take-le}
-use Rattle.flash.proofs.Kit.{getD-take, getD-drop, take-all, lt-ltb, needs}
+use Rattle.flash.proofs.Kit.{_≡_, refl, sym, cond, [], _+_, _-_, _*_, _≤_, arith, ltb, length, take, drop, length-take, length-drop}
+use Rattle.flash.proofs.Kit.{length-take-le, take-all, lt-ltb, needs}
 use Rattle.flash.specs.Lists.{part}
 use Rattle.flash.specs.PageSum.{sum}
 use Rattle.flash.proofs.PassLaws.{pass-more}
+use Rattle.flash.proofs.SlotLaws.{rest-each}
 use Rattle.flash.proofs.slots.sum_to_page.Statement.{statement}
 use Rattle.flash.proofs.slots.sum_to_page.Tie as tie
 
@@ -26,7 +27,7 @@ sum-from-requires c κs =
     let i = c .before .before .before .loop .i in
     let size = simp length-drop at (length-take (a .count - i) (drop i (a .slots .now))) in (
       (omega arith, omega arith),
-      λ j h. rw (getD-take (a .count - i) (drop i (a .slots .now)) j 0 (omega arith), getD-drop) (start .pre .1 (i + j) (omega arith)),
+      rest-each (λ t. t * a .p + a .p ≤ length (a .store .now)) i (a .count) (a .slots .now) (omega arith) (start .pre .1),
     )
 
 loop-again : tie.Need-loop-again Inv-loop μ-loop

@@ -1,9 +1,11 @@
 -- `sum_to_slot` leaves the sum of the pages of all slots in the page of another slot: a step's write.
-use Rattle.flash.proofs.Kit.{_≡_, _≢_, refl, sym, ap, _∙_, cond, [], _+_, _-_, _*_, _≤_, arith, ltb, length, take, drop, length-take, length-drop}
-use Rattle.flash.proofs.Kit.{length-take-le, take-all, lt-ltb, needs}
+use Rattle.flash.proofs.Kit.{_≡_, _≢_, refl, sym, ap, _∙_, cond, List, [], ℕ, _+_, _-_, _*_, _≤_, arith, ltb, length, take, drop, length-take}
+use Rattle.flash.proofs.Kit.{length-drop, length-take-le, take-all, lt-ltb, needs}
 use Rattle.flash.specs.Lists.{part, setPart}
 use Rattle.flash.specs.PageSum.{sum}
-use Rattle.flash.proofs.SlotLaws.{setPart-self, rest-each, slot-more}
+use Rattle.flash.proofs.Parts.{length-part, part-setPart}
+use Rattle.flash.proofs.PassLaws.{passed, length-passed, pass-more}
+use Rattle.flash.proofs.SlotLaws.{rest-each, setPart-self, setPart-twice, passed-kept}
 use Rattle.flash.proofs.slots.sum_to_slot.Statement.{statement}
 use Rattle.flash.proofs.slots.sum_to_slot.Tie as tie
 
@@ -42,9 +44,20 @@ loop-again c =
     let a = start .args in
     let l = at .loop in
     let r = c .before .before .sum-within in
-    let more = slot-more (a .store .now) (l .store) (a .p) (a .to) (l .i) (a .count) (a .slots .now) (start .pre .0 .3) (l .inv .3)
-    (omega arith) (omega arith) (start .pre .1 .0) (start .pre .1 .1) (l .inv .1) (l .inv .0) (r .last .0) (r .ensures) in
-    (rw (lt-ltb 0 (l .i + 4) (omega arith)) (more .0), more .1, omega arith, omega (arith, r .kept .0))
+    let asked = sum-within-requires (c .before .before .before) (start .κs) in
+    let rest = take (a .count - l .i) (drop (l .i) (a .slots .now)) in
+    let page = part (a .p) (a .to) (l .store) in
+    let whole = length-part (a .p) (a .to) (l .store) (omega arith) in
+    let next = passed (l .store) (a .p) rest page (ltb 0 (l .i)) in
+    let size = length-passed (l .store) (a .p) rest page (ltb 0 (l .i)) (asked .0 .0) whole (asked .1 .0) ∙ whole in
+    let put : part (a .p) (a .to) (r .last .0) ≡ next = rw (r .ensures) (part-setPart (a .p) (a .to) (l .store) next (asked .0 .1) size) in
+    let kept = passed-kept (a .p) (a .to) (a .store .now) page (l .store) (start .pre .0 .3) whole (l .inv .1) rest page (ltb 0 (l .i)) (asked .1 .1) in
+    let more = pass-more (λ t. part (a .p) t (a .store .now)) (l .i) (a .count) (a .slots .now) in (
+      rw (lt-ltb 0 (l .i + 4) (omega arith), put, kept, l .inv .0) (sym more),
+      rw put (r .ensures ∙ setPart-twice (a .p) (a .to) (a .store .now) page (l .store) (start .pre .0 .3) whole (l .inv .1) next),
+      omega arith,
+      omega (arith, r .kept .0),
+    )
 
 returns : tie.Need-returns Inv-loop μ-loop
 returns c =

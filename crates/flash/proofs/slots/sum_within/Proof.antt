@@ -1,13 +1,15 @@
 -- `sum_within` leaves the sum of up to four pages of the store in another page of it.
-use Rattle.flash.proofs.Kit.{_≡_, refl, sym, ap, _∙_, cond, _+_, _-_, _*_, _≤_, arith, bitXor, length, getD, length-set, needs}
-use Rattle.flash.proofs.SlotLaws.{setPart-self, turned, turned-more, turned-all}
+use Rattle.flash.proofs.Kit.{_≡_, refl, sym, ap, _∙_, List, ℕ, _+_, _-_, _*_, _≤_, arith, length, getD, length-set, needs}
+use Rattle.flash.specs.Lists.{part, setPart}
+use Rattle.flash.proofs.Parts.{length-part, setPart-at}
+use Rattle.flash.proofs.SlotLaws.{setPart-self, set-setPart, passed-kept, turned, length-turned, turned-more, turned-all}
 use Rattle.flash.proofs.slots.sum_within.Statement.{statement}
 use Rattle.flash.proofs.slots.sum_within.Tie as tie
 
 -- the bytes of the slot before i are those of the sum, and all others are as they were
 abbrev Inv-loop : tie.InvT-loop
 Inv-loop store₀ p slots to add terms one two three four target i₀ store i =
-    (store ≡ turned store₀ p to slots add i) × (i ≤ p) × (length store ≡ length store₀)
+    (store ≡ setPart p to store₀ (turned store₀ p slots (part p to store₀) add i)) × (i ≤ p) × (length store ≡ length store₀)
 
 abbrev μ-loop : tie.MeasureT-loop
 μ-loop store₀ p slots to add terms one two three four target i₀ store i = p - i
@@ -21,12 +23,21 @@ loop-again c =
     let l = at .loop in
     let start = at .before .before .before .before .before .before .before .before .before .before .before in
     let a = start .args in
-    let byte = c .added .ensures
-    ∙ ap (bitXor (cond (a .add) (getD (l .store) (a .to * a .p + l .i) 0) 0)) (c .before .before .byte-sum .ensures) in (
-      turned-more (a .store .now) (a .p) (a .to) (a .slots .now) (a .add) (start .pre .0 .1) (start .pre .1 .1) (start .pre .0 .0) (start .pre .1 .0)
-          _ _ _ _ (l .i) _ (l .store)
-          (at .before .before .before .before .before .before .before .start-of .ensures .0) (at .before .before .before .before .before .start-of2 .ensures .0)
-          (at .before .before .before .start-of3 .ensures .0) (at .before .start-of4 .ensures .0) (omega arith) (l .inv .0) byte,
+    let fits = start .pre .0 .1 in
+    let page = part (a .p) (a .to) (a .store .now) in
+    let whole = length-part (a .p) (a .to) (a .store .now) fits in
+    let mid = turned (a .store .now) (a .p) (a .slots .now) page (a .add) (l .i) in
+    let size = length-turned (a .store .now) (a .p) (a .slots .now) page (a .add) (start .pre .0 .0) whole (start .pre .1 .0) (l .i) in
+    let old = ap (λ (s : List ℕ). getD s (a .to * a .p + l .i) 0) (l .inv .0)
+    ∙ setPart-at (a .p) (a .to) (a .store .now) mid fits size (l .i) 0 (omega arith) in
+    let same = passed-kept (a .p) (a .to) (a .store .now) mid (l .store) fits size (l .inv .0) (a .slots .now) page (a .add) (start .pre .1 .1) in
+    let more = turned-more (a .store .now) (a .p) (a .slots .now) page (a .add) (start .pre .0 .0) whole (start .pre .1 .0)
+    (l .store) _ _ _ _ (l .i) _ _ _ same
+    (at .before .before .before .before .before .before .before .start-of .ensures .0) (at .before .before .before .before .before .start-of2 .ensures .0)
+    (at .before .before .before .start-of3 .ensures .0) (at .before .start-of4 .ensures .0) (omega arith)
+    old (c .before .before .byte-sum .ensures) (c .added .ensures) in (
+      set-setPart (a .p) (a .to) (a .store .now) mid (l .store) fits size (l .inv .0) (l .i) (c .added .result) (omega arith)
+          ∙ ap (setPart (a .p) (a .to) (a .store .now)) more,
       omega arith,
       simp length-set (omega arith),
     )
@@ -37,8 +48,9 @@ returns c =
     let a = start .args in
     let l = c .before .loop in
     l .inv .0
-    ∙ turned-all (a .store .now) (a .p) (a .to) (a .slots .now) (a .add) (start .pre .0 .1) (start .pre .1 .1) (start .pre .0 .0) (start .pre .1 .0) (l .i)
-    (omega arith)
+    ∙ ap (setPart (a .p) (a .to) (a .store .now))
+    (turned-all (a .store .now) (a .p) (a .slots .now) (part (a .p) (a .to) (a .store .now)) (a .add) (start .pre .0 .0)
+    (length-part (a .p) (a .to) (a .store .now) (start .pre .0 .1)) (start .pre .1 .0) (l .i) (omega arith))
 
 pub sum-within-spec : {M : Type 1} → statement M
 sum-within-spec =
