@@ -22,32 +22,19 @@ use Rattle.method.proofs.cycles.Orbits.{DataBlock, OneToOne, iterate, iterate-l
 use Rattle.method.proofs.cycles.SetCycles.{set-in, block-in, dest-in, pred-in, dest-is, dest-one, dest-pred, pred-dest, sent-in, entry-sent}
 use Rattle.method.proofs.cycles.Tops.{top-in, top-is, top-ge, top-ge-self, top-dest, top-ahead, isTop-true, top-isTop}
 use Rattle.method.proofs.walks.WalkSlots.{Ends, ends-by, way, walk-is, backEnds, backLast, back-walk}
-use Rattle.method.proofs.walks.WalkBounds.{on-bound}
 use Rattle.walk.specs.inner.Moments.{Tells, momentIn}
 use Rattle.walk.specs.inner.Rows.{entryOf, PagesRow}
-use Rattle.walk.specs.inner.Slots.{SumsAs}
-use Rattle.walk.specs.inner.Walks.{codedAt, onBy, backwardBy}
-use Rattle.walk.proofs.OnLaws.{sentFrom, on-is, on-round}
-use Rattle.walk.proofs.ReadLaws.{any-plain}
-use Rattle.walk.proofs.RowLaws.{sent-on}
+use Rattle.walk.specs.inner.Slots.{SumsAs, codedAt, backwardBy}
+use Rattle.walk.proofs.ReadLaws.{read-walks}
+use Rattle.walk.proofs.RowLaws.{length-way, way-end, on-same, on-is}
 use Rattle.walk.proofs.RoundLaws.{round-le, back-in, same-top}
 
 -- ---- a walk the other way round
 module _ (f slot : ℕ → ℕ) where
-  way-end : (last : ℕ → List ℕ) (d b : ℕ) → last (iterate f d b) ≡ [] → way f slot last d b ≡ way f slot (λ _. []) d b
-  unfolding way iterate
-  way-end last zero b e = rw e
-  way-end last (suc d) b e = ap (λ (ts : List ℕ). slot b ∷ ts) (way-end last d (f b) e)
-
   way-last : (d b : ℕ) → way f slot (λ _. []) (suc d) b ≡ way f slot (λ _. []) d b ++ (slot (iterate f (suc d) b) ∷ [])
   unfolding way iterate
   way-last zero b = refl
   way-last (suc d) b = ap (λ (ts : List ℕ). slot b ∷ ts) (way-last d (f b))
-
-  length-way : (d b : ℕ) → length (way f slot (λ _. []) d b) ≡ suc d
-  unfolding way
-  length-way zero b = refl
-  length-way (suc d) b = ap suc (length-way d (f b))
 
 module _ (n : ℕ) (f g slot : ℕ → ℕ) (F : OneToOne n f) (back : (b : ℕ) → DataBlock n b → g (f b) ≡ b) (page : ℕ → List ℕ) where
   way-turned : (d b : ℕ) → DataBlock n b → sum page (way f slot (λ _. []) d b) ≡ sum page (way g slot (λ _. []) d (iterate f d b))
@@ -107,27 +94,18 @@ module _ (M : Move) (A : AcceptedMove M) (k : ℕ) (k-in : k < originalCount (M 
     not-plain : (u : ℕ) → u ≤ n → fullOf M marks 0 u ≡ false
     not-plain u h = T .plain-is u h ∙ lt-leb (n + 1) u (omega arith)
 
-    read-by : (t : Bool) (ts : List ℕ) → ltb (top M set b - 1) b ≡ t → cond t (goBack M marks set n v) (goOn M marks set n v) ≡ ts → readSlots M marks k ≡ ts
-    unfolding readSlots
-    read-by t ts e f =
-        let t-in = top-in M A set set-ok b b-in in
-        rw (not-plain v (v-in .high), dest-v, T .done-is b (b-in .high), lt-leb (b + 1) b (omega arith), top-v, T .coded-is (top M set b - 1) (omega arith), e, any-plain M A marks (momentIn true n b (b + 1)) T, lt-leb (n + 1) n (omega arith), or-false) f
-
-    start : getD (M .list) (numberAt m b (entryOf pages b)) 0 ≡ sentFrom M set b
-    start = sent-on M set pages P b b-in
+    walks : (t : Bool) → ltb (top M set b - 1) b ≡ t → readSlots M marks k ≡ cond t (goBack M marks set n v) (goOn M marks set n v)
+    unfolding destBlock
+    walks t e =
+        read-walks M A marks (momentIn true n b (b + 1)) T k k-in (omega (arith, v-in .high)) (rw goes (omega arith)) ∙ rw (top-v, e, lt-leb (n + 1) n (omega arith), or-false)
 
     -- ---- not the top: a block above b is met before b comes again
     below-top : top M set b ≢ b → backwardBy m (M .list) set pages n b ≡ readSlots M marks k
-    unfolding backwardBy goOn codedSlot
     below-top ne =
         let high : b < top M set b = omega (arith, top-ge-self M A set set-ok b b-in, ne) in
-        let t-in = top-in M A set set-ok b b-in in
-        let r = top-ahead M A set set-ok b b-in in
-        let above : ℕ → Bool = λ c. leb (b + 1) (dest M set c) in
-        let E = ends-by (dest M set) above (r .0) b (rw (r .2) (le-leb (b + 1) (top M set b) (omega arith))) in
-        let o = on-is M A set set-ok pages P (b + 1) b marks (T .done-is) (E .0) b b-in (E .2) (omega (arith, E .1, r .1)) (λ j h. fails (λ e. ne (round-top j (iterate-last (dest M set) j b ∙ eqb-true (dest M set (iterate (dest M set) j b)) b e) (none-above (E .0) (E .2) j h)))) in
-        let bound = on-bound M A marks set set-ok v v-in (rw (top-v, T .done-is (top M set b) (t-in .high)) (le-leb (b + 1) (top M set b) (omega arith))) (rw (dest-v, T .done-is b (b-in .high)) (lt-leb (b + 1) b (omega arith))) 1 in
-        sym (read-by false (codedAt m set b ∷ onBy m (M .list) set pages (b + 1) b n (sentFrom M set b)) (le-ltb (top M set b - 1) b (omega arith)) (sym bound ∙ rw (add-one n, dest-v, o)) ∙ rw start)
+        let o = on-is M A set set-ok pages P (b + 1) b marks (T .done-is) v v-in b dest-v (rw top-v (omega arith)) (omega arith)
+        (λ d E j h. fails (λ e. ne (round-top j (iterate-last (dest M set) j b ∙ eqb-true (dest M set (iterate (dest M set) j b)) b e) (none-above d E j h)))) in
+        o .0 ∙ sym (walks false (le-ltb (top M set b - 1) b (omega arith)))
 
     -- ---- the top: the whole cycle, which read goes round the other way
     module _ (is-top : top M set b ≡ b) where
@@ -184,25 +162,24 @@ module _ (M : Move) (A : AcceptedMove M) (k : ℕ) (k-in : k < originalCount (M 
       back-way : readSlots M marks k ≡ way (pred M set) (codedAt m set) (λ _. []) d v
       unfolding backLast codedSlot
       back-way =
-          read-by true (way (pred M set) (codedAt m set) (λ _. []) d v) (lt-ltb (top M set b - 1) b (omega (arith, b-in .low)))
-          (back-walk M marks set n v
+          walks true (lt-ltb (top M set b - 1) b (omega (arith, b-in .low)))
+          ∙ back-walk M marks set n v
           ∙ walk-is (pred M set) (codedAt m set) (backLast M marks set) (backEnds M marks set) n d v back-ends (closes .1)
-          ∙ way-end (pred M set) (codedAt m set) (backLast M marks set) d v (rw (back-home, top-isTop M set b is-top)))
+          ∙ way-end (pred M set) (codedAt m set) (backLast M marks set) (λ _. []) d v (rw (back-home, top-isTop M set b is-top))
 
       on-way : backwardBy m (M .list) set pages n b ≡ way (dest M set) (codedAt m set) (λ _. []) d b
-      unfolding backwardBy
       on-way =
-          rw start
-          (on-round M A set set-ok pages P (b + 1) b n d b b-in
-          (λ j. lt-leb (b + 1) (dest M set (iterate (dest M set) j b)) (omega (arith, iterate-last (dest M set) j b, top-ge M A set set-ok (suc j) b b-in)))
-          (closes .2) (closes .1))
+          let low : (j : ℕ) → leb (b + 1) (dest M set (iterate (dest M set) j b)) ≡ false = λ j. lt-leb (b + 1) (dest M set (iterate (dest M set) j b)) (omega (arith, iterate-last (dest M set) j b, top-ge M A set set-ok (suc j) b b-in)) in
+          on-same M A set set-ok pages P (b + 1) b b b-in
+          ∙ walk-is (dest M set) (codedAt m set) _ _ n d b (record { here = rw (low d) (closes .2 .here); not-before = λ j h. rw (low j) (closes .2 .not-before j h) }) (closes .1)
+          ∙ way-end (dest M set) (codedAt m set) _ (λ _. []) d b (rw (low d))
 
       at-top : SumsAs (backwardBy m (M .list) set pages n b) (readSlots M marks k)
       at-top =
           let meets : iterate (dest M set) d b ≡ v = sym (pred-dest M A set set-ok (iterate (dest M set) d b) (iterate-in n (dest M set) F d b b-in)) ∙ ap (pred M set) (eqb-true (dest M set (iterate (dest M set) d b)) b (closes .2 .here)) ∙ pred-b in
           rw (on-way, back-way)
           (record {
-            number = length-way (dest M set) (codedAt m set) d b ∙ sym (length-way (pred M set) (codedAt m set) d v);
+            number = length-way (dest M set) (codedAt m set) (λ _. []) d b ∙ sym (length-way (pred M set) (codedAt m set) (λ _. []) d v);
             sums = λ page. rw meets at (way-turned n (dest M set) (pred M set) (codedAt m set) F (pred-dest M A set set-ok) page d b b-in);
           })
 

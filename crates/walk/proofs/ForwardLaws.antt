@@ -1,6 +1,6 @@
 -- The slots of a write in the forward pass: D(i) lies plain in its block, and the way back tells whether i is the top.
-use Rattle.flash.proofs.Kit.{_≡_, refl, sym, ap, _∙_, ⊎-elim, inr, _≢_, true, false, or-true, List, [], _∷_, append-nil, ℕ, zero, suc, _+_, _/_, _≤_}
-use Rattle.flash.proofs.Kit.{_<_, not-suc-le-zero, le-antisymm, arith, eqb, leb, length, getD, eq-eqb, ne-eqb, leb-true, leb-false, le-leb, lt-leb}
+use Rattle.flash.proofs.Kit.{_≡_, refl, sym, ap, _∙_, ⊎-elim, _≢_, Bool, true, false, cond, _||_, or-true, List, [], _∷_, append-nil, ℕ, zero, suc, _+_, _/_, _≤_}
+use Rattle.flash.proofs.Kit.{_<_, le-antisymm, arith, eqb, leb, length, getD, drop, eq-eqb, ne-eqb, leb-true, leb-false, le-leb, lt-leb}
 use Rattle.flash.specs.Lists.{concatMap}
 use Rattle.flash.specs.declared.sizes.Sizes.{Sizes}
 use Rattle.flash.proofs.Comparisons.{eq-cases}
@@ -8,21 +8,30 @@ use Rattle.split.specs.Split.{sourceBlock}
 use Rattle.method.specs.Move.{Move, AcceptedMove}
 use Rattle.method.specs.Cycle.{D, dest, pred, top, isTop, coded}
 use Rattle.method.specs.Place.{forward, written}
-use Rattle.method.specs.Read.{plainSlot, readSlots}
+use Rattle.method.specs.Read.{fullOf, codedSlot, plainSlot, goBack, readSlots}
 use Rattle.method.specs.State.{heldOriginals}
 use Rattle.method.specs.Step.{originalsOf, writeSlots}
 use Rattle.method.proofs.basics.Indexes.{slot-div}
-use Rattle.method.proofs.cycles.Orbits.{DataBlock, iterate}
+use Rattle.method.proofs.cycles.Orbits.{DataBlock, iterate, iterate-last}
 use Rattle.method.proofs.cycles.SetCycles.{D-page, dest-in, pred-in}
 use Rattle.method.proofs.cycles.Tops.{top-ge-self, top-pred, top-behind}
-use Rattle.method.proofs.walks.WalkSlots.{Ends, ends-by, ends-next}
+use Rattle.method.proofs.walks.WalkSlots.{Ends, ends-by, way, walk-is, backEnds, backLast, back-walk}
 use Rattle.walk.specs.inner.Moments.{Tells, momentIn}
 use Rattle.walk.specs.inner.Rows.{entryOf, PagesRow, SourcesRow}
-use Rattle.walk.specs.inner.Walks.{codedAt, plainAt, backBy, forwardBy}
-use Rattle.walk.proofs.BackLaws.{readBack, back-is}
+use Rattle.walk.specs.inner.Slots.{codedAt, plainAt, backBy, forwardBy}
 use Rattle.walk.proofs.ReadLaws.{any-plain}
-use Rattle.walk.proofs.RowLaws.{plain-at}
-use Rattle.walk.proofs.RoundLaws.{round-le, back-in, back-le}
+use Rattle.walk.proofs.RowLaws.{walk-same, way-end, plain-at}
+use Rattle.walk.proofs.RoundLaws.{round-le, back-in, same-top, back-le}
+
+-- rule 2 from a block on that may be plain itself
+abbrev readBack : (M : Move) (marks : List ℕ) (set bound v : ℕ) → List ℕ
+readBack M marks set bound v = cond (fullOf M marks 0 v) (plainSlot M marks (D M set v) ∷ []) (goBack M marks set bound v)
+
+-- the last slot of a way that ends with one
+last-of : (f slotAt at : ℕ → ℕ) (d b y : ℕ) → (let ts = way f slotAt (λ v. at v ∷ []) d b in getD (y ∷ ts) (length ts) 0 ≡ at (iterate f d b))
+unfolding way iterate
+last-of f slotAt at zero b y = refl
+last-of f slotAt at (suc d) b y = last-of f slotAt at d (f b) (slotAt b)
 
 module _ (M : Move) (A : AcceptedMove M) (set : ℕ) (set-ok : set < M .sizes .m) (pages sources : List ℕ) (P : PagesRow M set pages) (S : SourcesRow M set sources)
     (i : ℕ) (b : DataBlock (M .sizes .n) i) where
@@ -34,41 +43,26 @@ module _ (M : Move) (A : AcceptedMove M) (set : ℕ) (set-ok : set < M .sizes .m
   u-in : DataBlock n u
   u-in = pred-in M A set set-ok i b
 
-  rest : (bound v : ℕ) → List ℕ
-  rest = backBy m set pages sources i 0
+  -- the way back from i until a block that is not below i
+  abbrev ends : ℕ → Bool
+  ends v = leb i (pred M set v)
 
-  rest-ends : (bound v : ℕ) → leb i v ≡ true → rest (suc bound) v ≡ plainAt m pages v ∷ []
-  unfolding rest backBy
-  rest-ends bound v e = rw e
+  abbrev last : ℕ → List ℕ
+  last v = plainAt m pages (pred M set v) ∷ []
 
-  rest-more : (bound v : ℕ) → DataBlock n v → leb i v ≡ false → rest (suc bound) v ≡ codedAt m set v ∷ rest bound (pred M set v)
-  unfolding rest backBy
-  rest-more bound v v-in e = rw (e, ne-eqb v 0 (λ z. omega (arith, v-in .low)), S .is v (v-in .low) (v-in .high))
-
-  -- the last slot is the plain page of the first block on the way that is not below i
-  last-at : (bound d v y : ℕ) → DataBlock n v → Ends (pred M set) (leb i) d v → d < bound → getD (y ∷ rest bound v) (length (rest bound v)) 0 ≡ plainAt m pages (iterate (pred M set) d v)
+  passed : (j : ℕ) → pred M set (iterate (pred M set) j i) ≡ iterate (pred M set) j u
   unfolding iterate
-  last-at zero d v y v-in E h = absurd (not-suc-le-zero h)
-  last-at (suc bound) zero v y v-in E h = rw (rest-ends bound v (E .here))
-  last-at (suc bound) (suc d) v y v-in E h =
-      rw (rest-more bound v v-in (E .not-before 0 (omega arith)))
-      (last-at bound d (pred M set v) (codedAt m set v) (pred-in M A set set-ok v v-in) (ends-next (pred M set) (leb i) d v E) (omega arith))
+  passed j = sym (iterate-last (pred M set) j i)
 
-  plain-same : (v w : ℕ) → DataBlock n v → DataBlock n w → plainAt m pages v ≡ plainAt m pages w → v ≡ w
-  plain-same v w v-in w-in e =
-      sym (slot-div m v (entryOf pages v) (P .fits .page-lt v (v-in .low) (v-in .high)))
-      ∙ ap (λ (t : ℕ). t / m) e
-      ∙ slot-div m w (entryOf pages w) (P .fits .page-lt w (w-in .low) (w-in .high))
-
-  ends : (d : ℕ) × (d < n) × Ends (pred M set) (leb i) d u
-  ends =
+  round : (d : ℕ) × (d < n) × Ends (pred M set) ends d i
+  round =
       let r = top-behind M A set set-ok u u-in in
       let high = top-ge-self M A set set-ok i b in
-      let E = ends-by (pred M set) (leb i) (r .0) u (rw (r .2) (le-leb i (top M set u) (omega (arith, top-pred M A set set-ok i b)))) in
+      let E = ends-by (pred M set) ends (r .0) i (rw (passed (r .0), r .2) (le-leb i (top M set u) (omega (arith, top-pred M A set set-ok i b)))) in
       (E .0, omega (arith, E .1, r .1), E .2)
 
   abbrev d : ℕ
-  d = ends .0
+  d = round .0
 
   abbrev w : ℕ
   w = iterate (pred M set) d u
@@ -76,10 +70,31 @@ module _ (M : Move) (A : AcceptedMove M) (set : ℕ) (set-ok : set < M .sizes .m
   w-in : DataBlock n w
   w-in = back-in M A set set-ok u u-in d
 
+  all-is : backBy m set pages sources i 0 n i ≡ way (pred M set) (codedAt m set) last d i
+  all-is =
+      walk-same (entryOf sources) (codedAt m set) (λ c. cond (eqb c 0) [] (plainAt m pages (entryOf sources c) ∷ [])) (λ c. eqb c 0 || leb i (entryOf sources c)) (DataBlock n) (pred M set) last ends
+      (λ c h.
+      let e = S .is c (h .low) (h .high) in
+      let some = ne-eqb c 0 (λ z. omega (arith, h .low)) in
+      (e, pred-in M A set set-ok c h, rw (e, some), rw (e, some)))
+      n i b
+      ∙ walk-is (pred M set) (codedAt m set) last ends n d i (round .2) (round .1)
+
+  last-slot : (e : ℕ) (own : ℕ) → (let rest = drop 1 (way (pred M set) (codedAt m set) last e i) in getD (own ∷ rest) (length rest) 0 ≡ plainAt m pages (iterate (pred M set) e u))
+  unfolding way iterate
+  last-slot zero own = refl
+  last-slot (suc e) own = last-of (pred M set) (codedAt m set) (λ v. plainAt m pages (pred M set v)) e u own ∙ ap (plainAt m pages) (passed (suc e))
+
+  plain-same : (v w : ℕ) → DataBlock n v → DataBlock n w → plainAt m pages v ≡ plainAt m pages w → v ≡ w
+  plain-same v w v-in w-in e =
+      sym (slot-div m v (entryOf pages v) (P .fits .page-lt v (v-in .low) (v-in .high)))
+      ∙ ap (λ (t : ℕ). t / m) e
+      ∙ slot-div m w (entryOf pages w) (P .fits .page-lt w (w-in .low) (w-in .high))
+
   -- that block is i itself exactly where i is the top
   top-comes : top M set i ≡ i → w ≡ i
   top-comes t =
-      le-antisymm (omega (arith, back-le M A set set-ok u u-in d, top-pred M A set set-ok i b)) (leb-true i w (ends .2 .here))
+      le-antisymm (omega (arith, back-le M A set set-ok u u-in d, top-pred M A set set-ok i b)) (leb-true i w (rw (passed d) at (round .2 .here)))
 
   comes-top : w ≡ i → top M set i ≡ i
   unfolding iterate
@@ -90,7 +105,7 @@ module _ (M : Move) (A : AcceptedMove M) (set : ℕ) (set-ok : set < M .sizes .m
     where
       met-le : (j : ℕ) → j ≤ d → iterate (pred M set) j i ≤ i
       met-le zero h = omega arith
-      met-le (suc j) h = (let l = leb-false i (iterate (pred M set) j u) (ends .2 .not-before j h) in omega arith)
+      met-le (suc j) h = (let l = leb-false i (pred M set (iterate (pred M set) j i)) (round .2 .not-before j h) in omega (arith, passed j))
 
   -- ---- at the moment of the write
   module _ (marks : List ℕ) (below : ℕ) (T : Tells M marks (momentIn false n below i)) where
@@ -103,30 +118,43 @@ module _ (M : Move) (A : AcceptedMove M) (set : ℕ) (set-ok : set < M .sizes .m
 
     own-slots : readSlots M marks (D M set i) ≡ plainAt m pages i ∷ []
     unfolding plainSlot
-    own-slots = read-is i b ∙ rw (T .plain-is i (b .high), le-leb i i (omega arith), plain-at M set pages P i b)
+    own-slots = read-is i b ∙ rw (T .plain-is i (b .high), le-leb i i (omega arith), plain-at M A set set-ok pages P i b)
 
-    rest-slots : rest n (entryOf sources i) ≡ readSlots M marks (D M set u)
-    unfolding rest isTop
-    rest-slots =
-        let tip = top-ge-self M A set set-ok i b in
-        rw (S .is i (b .low) (b .high))
-        (back-is M A set set-ok pages sources marks P S i 0 (T .plain-is) (top M set i) (inr tip)
-        (λ c c-in t p.
-        let below = leb-false i c p in
-        ne-eqb (top M set c) c (λ e. omega arith) ∙ sym (ne-eqb c 0 (λ z. omega (arith, c-in .low))))
-        u u-in (top-pred M A set set-ok i b)
-        ∙ sym (read-is u u-in))
+    -- the blocks on the way lie below i, and so are not the top
+    not-top : (j : ℕ) → ends (iterate (pred M set) j i) ≡ false → isTop M set (iterate (pred M set) j u) ≡ false
+    unfolding isTop
+    not-top j e =
+        let low = leb-false i (pred M set (iterate (pred M set) j i)) e in
+        ne-eqb (top M set (iterate (pred M set) j u)) (iterate (pred M set) j u)
+        (λ q. omega (arith, passed j, same-top M A set set-ok u u-in j, top-pred M A set set-ok i b, top-ge-self M A set set-ok i b))
+
+    rest-slots : (e : ℕ) → Ends (pred M set) ends e i → e < n → drop 1 (way (pred M set) (codedAt m set) last e i) ≡ readBack M marks set n u
+    unfolding way iterate plainSlot backEnds backLast codedSlot
+    rest-slots zero E h = rw (T .plain-is u (u-in .high), E .here, plain-at M A set set-ok pages P u u-in)
+    rest-slots (suc e) E h =
+        let x : ℕ → ℕ = λ j. iterate (pred M set) j u in
+        let y-in : (j : ℕ) → DataBlock n (pred M set (x j)) = λ j. pred-in M A set set-ok (x j) (back-in M A set set-ok u u-in j) in
+        rw (T .plain-is u (u-in .high), E .not-before 0 (omega arith))
+        (sym (back-walk M marks set n u
+        ∙ walk-is (pred M set) (codedSlot M marks set) (backLast M marks set) (backEnds M marks set) n e u
+        (record {
+          here = rw (not-top e (E .not-before e (omega arith)), T .plain-is (pred M set (x e)) (y-in e .high)) (E .here);
+          not-before = λ j l. rw (not-top j (E .not-before j (omega arith)), T .plain-is (pred M set (x j)) (y-in j .high)) (E .not-before (suc j) (omega arith));
+        })
+        (omega arith)
+        ∙ way-end (pred M set) (codedAt m set) (backLast M marks set) last e u (rw (not-top e (E .not-before e (omega arith)), plain-at M A set set-ok pages P (pred M set (x e)) (y-in e)))))
 
     slots-are : forwardBy m set pages sources n i ≡ concatMap (readSlots M marks) (coded M set i)
-    unfolding forwardBy concatMap coded rest isTop
+    unfolding forwardBy concatMap coded isTop
     slots-are =
         let own : ℕ = plainAt m pages i in
-        let last : getD (own ∷ rest n (entryOf sources i)) (length (rest n (entryOf sources i))) 0 ≡ plainAt m pages w = rw (S .is i (b .low) (b .high)) (last-at n d u own u-in (ends .2) (ends .1)) in
-        ⊎-elim
-        (λ (t : top M set i ≡ i). rw (last, top-comes t, eq-eqb own own refl, eq-eqb (top M set i) i t, own-slots))
+        rw (all-is, last-slot d own)
+        (⊎-elim
+        (λ (t : top M set i ≡ i). rw (top-comes t, eq-eqb own own refl, eq-eqb (top M set i) i t, own-slots))
         (λ (t : top M set i ≢ i).
-        rw (last, ne-eqb (plainAt m pages w) own (λ e. t (comes-top (plain-same w i w-in b e))), ne-eqb (top M set i) i t, own-slots, append-nil) (ap (λ (ts : List ℕ). own ∷ ts) rest-slots))
-        (eq-cases (top M set i) i)
+        rw (ne-eqb (plainAt m pages w) own (λ e. t (comes-top (plain-same w i w-in b e))), ne-eqb (top M set i) i t, own-slots, append-nil)
+        (ap (λ (ts : List ℕ). own ∷ ts) (rest-slots d (round .2) (round .1) ∙ sym (read-is u u-in))))
+        (eq-cases (top M set i) i))
 
 pub forward-slots : (M : Move) → AcceptedMove M → (set : ℕ) → set < M .sizes .m → (pages sources : List ℕ) → PagesRow M set pages → SourcesRow M set sources
     → (block : ℕ) → block < M .sizes .n → (marks : List ℕ) → Tells M marks (momentIn false (M .sizes .n) block (block + 1))
@@ -134,16 +162,3 @@ pub forward-slots : (M : Move) → AcceptedMove M → (set : ℕ) → set < M .s
 unfolding writeSlots originalsOf written heldOriginals
 forward-slots M A set set-ok pages sources P S block h marks T =
     slots-are M A set set-ok pages sources P S (block + 1) (record { low = omega arith; high = omega arith }) marks block T
-
--- ---- the two cases, as the code tells them apart
-module _ (m set : ℕ) (pages sources : List ℕ) (n i own u : ℕ) (own-is : own ≡ plainAt m pages i) (u-is : u ≡ entryOf sources i) where
-  abbrev behind : List ℕ
-  behind = backBy m set pages sources i 0 n u
-
-  pub forward-alone : getD (own ∷ behind) (length behind) 0 ≡ own → forwardBy m set pages sources n i ≡ own ∷ []
-  unfolding forwardBy
-  forward-alone e = rw (← own-is, ← u-is, eq-eqb (getD (own ∷ behind) (length behind) 0) own e)
-
-  pub forward-all : getD (own ∷ behind) (length behind) 0 ≢ own → forwardBy m set pages sources n i ≡ own ∷ behind
-  unfolding forwardBy
-  forward-all ne = rw (← own-is, ← u-is, ne-eqb (getD (own ∷ behind) (length behind) 0) own ne)

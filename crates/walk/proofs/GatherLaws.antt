@@ -3,63 +3,53 @@ use Rattle.flash.proofs.Kit.{_≡_, refl, sym, ap, _∙_, List, [], _∷_, _++_
 use Rattle.flash.proofs.Kit.{length, getD, set, take, drop, length-set, take-suc-set, getD-take, length-take-le}
 use Rattle.flash.proofs.Loops.{rest-more}
 use Rattle.method.proofs.basics.EachNumber.{Each}
-use Rattle.walk.specs.inner.Slots.{slotsLength, Appends}
+use Rattle.walk.specs.inner.Slots.{slotsLength, StartsWith}
 
--- the array with `count` slots, of all that are to stand behind the first `at` but for those that are left
-pub record Gathered (before : List ℕ) (at : ℕ) (all after : List ℕ) (count : ℕ) (left : List ℕ) : Type 0 where
-  pub slots-are : take count after ++ left ≡ take at before ++ all
+-- the array with `count` slots, of all that are to be gathered but for those that are left
+pub record Gathered (before all after : List ℕ) (count : ℕ) (left : List ℕ) : Type 0 where
+  pub slots-are : take count after ++ left ≡ all
   pub rest-is : drop count after ≡ drop count before
   pub room : length after ≡ slotsLength
 
-module _ (before : List ℕ) (at : ℕ) (all : List ℕ) where
-  pub gather-none : length before ≡ slotsLength → Gathered before at all before at all
-  gather-none h = record { slots-are = refl; rest-is = refl; room = h }
+pub gather-none : {before all : List ℕ} → length before ≡ slotsLength → Gathered before all before 0 all
+gather-none h = record { slots-are = refl; rest-is = refl; room = h }
 
-  module _ (after : List ℕ) (count : ℕ) (left : List ℕ) (G : Gathered before at all after count left) where
-    pub gather-more : (t : ℕ) (more : List ℕ) → left ≡ t ∷ more → count < slotsLength → Gathered before at all (set after count t) (count + 1) more
-    gather-more t more e h = record {
-      slots-are = rw (add-one count, take-suc-set after count t (omega (arith, G .room)), append-assoc) (rw e at (G .slots-are));
-      rest-is = rest-more after before count t (G .rest-is);
-      room = rw length-set (G .room);
-    }
+module _ {before all after : List ℕ} {count : ℕ} {left : List ℕ} (G : Gathered before all after count left) where
+  pub gather-more : {t : ℕ} {more : List ℕ} → left ≡ t ∷ more → count < slotsLength → Gathered before all (set after count t) (count + 1) more
+  gather-more {t} e h = record {
+    slots-are = rw (add-one count, take-suc-set after count t (omega (arith, G .room)), append-assoc) (rw e at (G .slots-are));
+    rest-is = rest-more after before count t (G .rest-is);
+    room = rw length-set (G .room);
+  }
 
-    pub gather-all : left ≡ [] → at ≤ count → count ≤ at + 64 → Appends before at all after count
-    gather-all e some few = record {
-      slots-are = sym (append-nil (take count after)) ∙ rw e at (G .slots-are);
-      rest-is = G .rest-is;
-      some = some;
-      few = few;
-      room = G .room;
-    }
+  pub gather-all : {spare : ℕ} → left ≡ [] → count + spare ≤ slotsLength → StartsWith before spare all after count
+  gather-all e few = record {
+    slots-are = sym (append-nil (take count after)) ∙ rw e at (G .slots-are);
+    rest-is = G .rest-is;
+    few = few;
+    room = G .room;
+  }
 
--- how many there are where there were none before
-pub count-is : (before more after : List ℕ) (count : ℕ) → Appends before 0 more after count → count ≡ length more
-count-is before more after count G = sym (length-take-le count after (omega (arith, G .few, G .room))) ∙ ap length (G .slots-are)
+-- a slot in place of the first
+put-first : (slots : List ℕ) (own count : ℕ) → 1 ≤ count → count ≤ length slots
+    → (let rest = drop 1 (take count slots) in (take 1 (set slots 0 own) ≡ own ∷ []) × (take count (set slots 0 own) ≡ own ∷ rest) × (getD (set slots 0 own) (count - 1) 0 ≡ getD (own ∷ rest) (length rest) 0))
+put-first [] own count h l = absurd (omega arith)
+put-first (x ∷ xs) own zero h l = absurd (omega arith)
+put-first (x ∷ xs) own (suc count) h l =
+    let at : suc count - 1 ≡ count = omega arith in
+    (refl, refl, rw (at, length-take-le count xs (omega arith)) (sym (getD-take (suc count) (own ∷ xs) count 0 (omega arith))))
 
--- ---- slots behind one that was put first
-first-put : (slots : List ℕ) (own : ℕ) → 0 < length slots → take 1 (set slots 0 own) ≡ own ∷ []
-first-put [] own h = absurd (omega arith)
-first-put (x ∷ xs) own h = refl
+module _ (before slots after : List ℕ) (count : ℕ) {spare : ℕ} (G : StartsWith before spare slots after count) where
+  -- how many there are
+  pub count-is : count ≡ length slots
+  count-is = sym (length-take-le count after (omega (arith, G .few, G .room))) ∙ ap length (G .slots-are)
 
-first-only : (after rest : List ℕ) (own count : ℕ) → take count after ≡ own ∷ rest → take 1 after ≡ own ∷ []
-first-only [] rest own zero e = absurd (omega (arith, ap length e))
-first-only [] rest own (suc count) e = absurd (omega (arith, ap length e))
-first-only (x ∷ xs) rest own zero e = absurd (omega (arith, ap length e))
-first-only (x ∷ xs) rest own (suc count) e = let same : x ≡ own = cc in rw same
+  pub with-room : {ts : List ℕ} (more : ℕ) → ts ≡ slots → length ts + more ≤ slotsLength → StartsWith before more ts after count
+  with-room more e h = record { slots-are = G .slots-are ∙ sym e; rest-is = G .rest-is; few = omega (arith, count-is, ap length e); room = G .room }
 
-module _ (slots after : List ℕ) (own count : ℕ) (rest : List ℕ) (h : length slots ≡ slotsLength) (G : Appends (set slots 0 own) 1 rest after count) where
-  pub behind-first : take count after ≡ own ∷ rest
-  behind-first = G .slots-are ∙ rw (first-put slots own (omega arith))
-
-  pub only-first : take 1 after ≡ own ∷ []
-  only-first = first-only after rest own count behind-first
-
-  pub last-behind : getD after (count - 1) 0 ≡ getD (own ∷ rest) (length rest) 0
-  last-behind =
-      let fits : count ≤ length after = omega (arith, G .few, G .room) in
-      let size : count ≡ suc (length rest) = sym (length-take-le count after fits) ∙ ap length behind-first in
-      let at : count - 1 ≡ length rest = omega arith in
-      sym (getD-take count after (count - 1) 0 (omega (arith, G .some))) ∙ rw (behind-first, at)
+  pub first-put : (own : ℕ) → 1 ≤ count
+      → (take 1 (set after 0 own) ≡ own ∷ []) × (take count (set after 0 own) ≡ own ∷ drop 1 slots) × (getD (set after 0 own) (count - 1) 0 ≡ getD (own ∷ drop 1 slots) (length (drop 1 slots)) 0)
+  first-put own h = rw (G .slots-are) at (put-first after own count h (omega (arith, G .few, G .room)))
 
 -- what holds of each slot holds of those that the array starts with
 pub among : (Q : ℕ → Type 0) (slots ts : List ℕ) (count : ℕ) → count ≤ length slots → take count slots ≡ ts → Each Q ts → (j : ℕ) → j < count → Q (getD slots j 0)

@@ -1,10 +1,8 @@
 -- The laws behind the proofs of this crate.
-pub mod BackLaws
 pub mod BackwardLaws
 pub mod ForwardLaws
 pub mod GatherLaws
 pub mod MomentLaws
-pub mod OnLaws
 pub mod ReadLaws
 pub mod RoundLaws
 pub mod RowLaws

@@ -10,7 +10,7 @@ use Rattle.method.proofs.cycles.Orbits.{DataBlock, iterate, iterate-last}
 use Rattle.method.proofs.cycles.SetCycles.{pred-in}
 use Rattle.method.proofs.cycles.Tops.{top-ge-self, top-pred, top-behind}
 use Rattle.walk.specs.inner.Rows.{entryOf, SourcesRow}
-use Rattle.walk.specs.inner.Walks.{topBy}
+use Rattle.walk.specs.inner.Slots.{topBy}
 
 -- a way that comes back to its start meets nothing above what it has met
 module _ (f : ℕ → ℕ) (d b high : ℕ) (home : iterate f (suc d) b ≡ b) (met : (i : ℕ) → i ≤ d → iterate f i b ≤ high) where

@@ -1,35 +1,25 @@
--- What the rows of a set tell: where D(v) lies before the move, where it goes, and that every slot is one of the store.
-use Rattle.flash.proofs.Kit.{_≡_, ap, _∙_, Bool, true, false, cond, List, [], _∷_, ℕ, zero, suc, _+_, _-_, _*_, _/_, _≤_, _<_, not-suc-le-zero}
-use Rattle.flash.proofs.Kit.{suc-mul, div-add-mod', add-one, arith, eqb, leb, length, getD}
+-- The walks by the rows of a set, turn by turn: they are read's rules 2 and 3, and their slots are slots of the store.
+use Rattle.flash.proofs.Kit.{_≡_, refl, sym, ap, _∙_, ⊎-elim, Bool, true, false, cond, _||_, List, [], _∷_, ℕ, zero, suc, _+_, _-_, _*_, _/_, _≤_, _<_}
+use Rattle.flash.proofs.Kit.{not-suc-le-zero, suc-mul, div-add-mod', add-one, arith, eqb, leb, length, getD, drop, eqb-true, eq-eqb, le-leb, lt-leb}
 use Rattle.flash.specs.declared.sizes.Sizes.{Sizes}
-use Rattle.flash.specs.Geometry.{slotOf, numberAt, slotCount}
+use Rattle.flash.specs.Geometry.{blockOf, slotOf, numberAt, slotCount}
+use Rattle.flash.proofs.Bools.{bool-cases, bool-eq}
 use Rattle.flash.proofs.Bounds.{slot-in-marks}
+use Rattle.split.specs.Split.{destBlock}
 use Rattle.split.proofs.SplitLaws.{block-range}
-use Rattle.method.specs.Move.{Move}
-use Rattle.method.specs.Cycle.{D}
+use Rattle.method.specs.Move.{Move, AcceptedMove}
+use Rattle.method.specs.Cycle.{D, dest, pred, top, isTop}
+use Rattle.method.specs.Read.{fullOf, codedSlot, plainSlot, finalSlot, goBack, goOn}
 use Rattle.method.proofs.basics.EachNumber.{Each, each-cons, each-one}
 use Rattle.method.proofs.basics.Indexes.{slot-lt}
-use Rattle.method.proofs.cycles.Orbits.{DataBlock}
-use Rattle.walk.specs.inner.Rows.{entryOf, PagesIn, BlocksIn, ListIn, PagesRow}
-use Rattle.walk.specs.inner.Walks.{codedAt, plainAt, backBy, onBy, forwardBy, backwardBy}
+use Rattle.method.proofs.cycles.Orbits.{DataBlock, iterate, iterate-in}
+use Rattle.method.proofs.cycles.SetCycles.{dest-in, dest-one, pred-in}
+use Rattle.method.proofs.cycles.Tops.{top-in, top-pred}
+use Rattle.method.proofs.walks.WalkBounds.{back-ends, on-ends}
+use Rattle.method.proofs.walks.WalkSlots.{Ends, way, walk, walk-is, backEnds, backLast, back-walk, onEnds, onLast, on-walk}
+use Rattle.walk.specs.inner.Rows.{entryOf, PagesIn, BlocksIn, ListIn, PagesRow, SourcesRow}
+use Rattle.walk.specs.inner.Slots.{walkBy, codedAt, plainAt, sentBy, backBy, onBy, forwardBy, backwardBy}
 
--- the slot of a page number
-pub home-is : (m k : ℕ) → k + m ≡ slotOf m k
-home-is m k = omega (arith, suc-mul (k / m) m, div-add-mod' k m, add-one (k / m))
-
-block-up : (m v : ℕ) → 1 ≤ v → v * m ≡ (v - 1) * m + m
-block-up m v h = (let e : v ≡ suc (v - 1) = omega arith in ap (λ (x : ℕ). x * m) e ∙ suc-mul (v - 1) m)
-
-module _ (M : Move) (set : ℕ) (pages : List ℕ) (P : PagesRow M set pages) (v : ℕ) (b : DataBlock (M .sizes .n) v) where
-  open Sizes (M .sizes) using (n, m)
-
-  pub plain-at : plainAt m pages v ≡ slotOf m (D M set v)
-  plain-at = rw (← home-is m (D M set v), ← P .is v (b .low) (b .high)) (omega (arith, block-up m v (b .low)))
-
-  pub sent-on : getD (M .list) (numberAt m v (entryOf pages v)) 0 ≡ getD (M .list) (D M set v) 0
-  sent-on = ap (λ (k : ℕ). getD (M .list) k 0) (P .is v (b .low) (b .high))
-
--- ---- the slots of a walk are slots of the store
 module _ (Q : ℕ → Type 0) where
   each-none : Each Q []
   each-none i h = absurd (not-suc-le-zero h)
@@ -38,6 +28,127 @@ module _ (Q : ℕ → Type 0) where
   each-cond true xs ys a b = a
   each-cond false xs ys a b = b
 
+  each-rest : (xs : List ℕ) → Each Q xs → Each Q (drop 1 xs)
+  each-rest [] a = a
+  each-rest (x ∷ xs) a = λ i h. a (suc i) (omega arith)
+
+-- ---- walks
+module _ (next slotAt : ℕ → ℕ) (last : ℕ → List ℕ) (ends : ℕ → Bool) where
+  pub walk-turn : (left v : ℕ) → 0 < left → walkBy next slotAt last ends left v ≡ slotAt v ∷ cond (ends v) (last v) (walkBy next slotAt last ends (left - 1) (next v))
+  unfolding walkBy
+  walk-turn left v more =
+      (let again : left ≡ suc (left - 1) = omega arith in ap (λ (x : ℕ). walkBy next slotAt last ends x v) again)
+
+  pub walk-some : (left v : ℕ) → 0 < left → 1 ≤ length (walkBy next slotAt last ends left v)
+  walk-some left v more = rw (walk-turn left v more) (omega arith)
+
+  -- the same by other functions that agree on the blocks that it may meet
+  module _ (In : ℕ → Type 0) (next′ : ℕ → ℕ) (last′ : ℕ → List ℕ) (ends′ : ℕ → Bool)
+      (same : (v : ℕ) → In v → (next v ≡ next′ v) × In (next′ v) × (last v ≡ last′ v) × (ends v ≡ ends′ v)) where
+    pub walk-same : (bound v : ℕ) → In v → walkBy next slotAt last ends bound v ≡ walk next′ slotAt last′ ends′ bound v
+    unfolding walkBy walk
+    walk-same zero v h = refl
+    walk-same (suc bound) v h = let s = same v h in rw (s .0, s .2, s .3, walk-same bound (next′ v) (s .1))
+
+  -- what holds of all its slots
+  module _ (Q In : ℕ → Type 0) (at : (v : ℕ) → In v → Q (slotAt v) × Each Q (last v) × In (next v)) where
+    pub walk-each : (bound v : ℕ) → In v → Each Q (walkBy next slotAt last ends bound v)
+    unfolding walkBy
+    walk-each zero v h = each-none Q
+    walk-each (suc bound) v h =
+        let a = at v h in
+        let rest : List ℕ = walkBy next slotAt last ends bound (next v) in
+        each-cons Q (slotAt v) (cond (ends v) (last v) rest) (a .0) (each-cond Q (ends v) (last v) rest (a .1) (walk-each bound (next v) (a .2)))
+
+module _ (f slotAt : ℕ → ℕ) where
+  pub length-way : (last : ℕ → List ℕ) (d b : ℕ) → length (way f slotAt last d b) ≡ suc d + length (last (iterate f d b))
+  unfolding way iterate
+  length-way last zero b = omega arith
+  length-way last (suc d) b = omega (arith, length-way last d (f b))
+
+  pub way-end : (last last′ : ℕ → List ℕ) (d b : ℕ) → last (iterate f d b) ≡ last′ (iterate f d b) → way f slotAt last d b ≡ way f slotAt last′ d b
+  unfolding way iterate
+  way-end last last′ zero b e = rw e
+  way-end last last′ (suc d) b e = ap (λ (ts : List ℕ). slotAt b ∷ ts) (way-end last last′ d (f b) e)
+
+-- ---- what the rows tell
+-- the slot of a page number
+pub home-is : (m k : ℕ) → k + m ≡ slotOf m k
+home-is m k = omega (arith, suc-mul (k / m) m, div-add-mod' k m, add-one (k / m))
+
+block-up : (m v : ℕ) → 1 ≤ v → v * m ≡ (v - 1) * m + m
+block-up m v h = (let e : v ≡ suc (v - 1) = omega arith in ap (λ (x : ℕ). x * m) e ∙ suc-mul (v - 1) m)
+
+module _ (M : Move) (A : AcceptedMove M) (set : ℕ) (set-ok : set < M .sizes .m) (pages : List ℕ) (P : PagesRow M set pages) where
+  open Sizes (M .sizes) using (n, m)
+
+  pub plain-at : (v : ℕ) → DataBlock n v → plainAt m pages v ≡ slotOf m (D M set v)
+  plain-at v b = rw (← home-is m (D M set v), ← P .is v (b .low) (b .high)) (omega (arith, block-up m v (b .low)))
+
+  sent-is : (v : ℕ) → DataBlock n v → sentBy m (M .list) pages v ≡ getD (M .list) (D M set v) 0
+  sent-is v b = ap (λ (k : ℕ). getD (M .list) k 0) (P .is v (b .low) (b .high))
+
+  -- ---- rule 2, where the walk stops at the top
+  module _ (sources marks : List ℕ) (S : SourcesRow M set sources) (plain : ℕ) (plain-is : (u : ℕ) → u ≤ n → fullOf M marks 0 u ≡ leb plain u) where
+    pub back-is : (v : ℕ) → DataBlock n v → backBy m set pages sources plain (top M set v) n v ≡ goBack M marks set n v
+    unfolding codedSlot plainSlot backEnds backLast isTop
+    back-is v b =
+        let tip : ℕ = top M set v in
+        walk-same (entryOf sources) (codedAt m set) (λ c. cond (eqb c tip) [] (plainAt m pages (entryOf sources c) ∷ [])) (λ c. eqb c tip || leb plain (entryOf sources c))
+        (λ c. DataBlock n c × (top M set c ≡ tip)) (pred M set) (backLast M marks set) (backEnds M marks set)
+        (λ c h.
+        let u-in = pred-in M A set set-ok c (h .0) in
+        let u-is = S .is c (h .0 .low) (h .0 .high) in
+        let ends : eqb (top M set c) c ≡ eqb c tip = bool-eq (eqb (top M set c) c) (eqb c tip) (λ q. eq-eqb c tip (sym (eqb-true (top M set c) c q) ∙ h .1)) (λ q. eq-eqb (top M set c) c (h .1 ∙ sym (eqb-true c tip q))) in
+        (u-is, (u-in, top-pred M A set set-ok c (h .0) ∙ h .1), rw (u-is, ends, plain-at (pred M set c) u-in), rw (u-is, ends, plain-is (pred M set c) (u-in .high))))
+        n v (b, refl)
+        ∙ sym (back-walk M marks set n v)
+
+  pub back-few : (marks : List ℕ) (v : ℕ) → DataBlock n v → length (goBack M marks set n v) ≤ n
+  unfolding backLast
+  back-few marks v b =
+      let e = back-ends M A marks set set-ok v b in
+      rw (back-walk M marks set n v, walk-is (pred M set) (codedSlot M marks set) (backLast M marks set) (backEnds M marks set) n (e .0) v (e .2) (e .1), length-way (pred M set) (codedSlot M marks set) (backLast M marks set) (e .0) v)
+      (⊎-elim
+      (λ (t : isTop M set (iterate (pred M set) (e .0) v) ≡ true). rw t (omega (arith, e .1)))
+      (λ (t : isTop M set (iterate (pred M set) (e .0) v) ≡ false). rw t (omega (arith, e .3 t)))
+      (bool-cases (isTop M set (iterate (pred M set) (e .0) v))))
+
+  -- ---- going on
+  module _ (done stop : ℕ) where
+    abbrev pub onStops : (v : ℕ) → Bool
+    onStops v = leb done (dest M set v) || eqb (dest M set v) stop
+
+    abbrev pub onEnd : (v : ℕ) → List ℕ
+    onEnd v = cond (leb done (dest M set v)) (slotOf m (getD (M .list) (D M set v) 0) ∷ []) []
+
+    pub on-same : (v : ℕ) → DataBlock n v → onBy m (M .list) set pages done stop n v ≡ walk (dest M set) (codedAt m set) onEnd onStops n v
+    unfolding dest destBlock
+    on-same =
+        walk-same (λ c. blockOf m (sentBy m (M .list) pages c)) (codedAt m set) (λ c. cond (leb done (blockOf m (sentBy m (M .list) pages c))) ((sentBy m (M .list) pages c + m) ∷ []) [])
+        (λ c. leb done (blockOf m (sentBy m (M .list) pages c)) || eqb (blockOf m (sentBy m (M .list) pages c)) stop)
+        (DataBlock n) (dest M set) onEnd onStops
+        (λ c h. (let e = sent-is c h in (ap (blockOf m) e, dest-in M A set set-ok c h, rw (e, home-is m (getD (M .list) (D M set c) 0)), rw e)))
+        n
+
+    -- rule 3, where a block that is full of s + 2 is met before `stop`
+    module _ (marks : List ℕ) (done-is : (u : ℕ) → u ≤ n → fullOf M marks 2 u ≡ leb done u) (v : ℕ) (v-in : DataBlock n v) (w : ℕ)
+        (w-is : dest M set v ≡ w) (there : done ≤ top M set v) (not-yet : w < done) where
+      pub on-is : ((d : ℕ) → Ends (dest M set) (λ c. leb done (dest M set c)) d w → (j : ℕ) → j < d → eqb (dest M set (iterate (dest M set) j w)) stop ≡ false)
+          → (onBy m (M .list) set pages done stop n w ≡ goOn M marks set n v) × (length (goOn M marks set n v) ≤ n)
+      unfolding onEnds onLast codedSlot finalSlot
+      on-is apart =
+          let w-in : DataBlock n w = rw w-is at (dest-in M A set set-ok v v-in) in
+          let t-in = top-in M A set set-ok v v-in in
+          let e = rw w-is at (on-ends M A marks set set-ok v v-in (done-is (top M set v) (t-in .high) ∙ le-leb done (top M set v) there) (rw w-is (done-is w (w-in .high) ∙ lt-leb done w not-yet))) in
+          let d : ℕ = e .0 in
+          let told : (j : ℕ) → fullOf M marks 2 (dest M set (iterate (dest M set) j w)) ≡ leb done (dest M set (iterate (dest M set) j w)) = λ j. done-is (dest M set (iterate (dest M set) j w)) (dest-in M A set set-ok (iterate (dest M set) j w) (iterate-in n (dest M set) (dest-one M A set set-ok) j w w-in) .high) in
+          let E : Ends (dest M set) (λ c. leb done (dest M set c)) d w = record { here = sym (told d) ∙ e .2 .here; not-before = λ j h. sym (told j) ∙ e .2 .not-before j h } in
+          let stops : Ends (dest M set) onStops d w = record { here = rw (E .here); not-before = λ j h. rw (E .not-before j h) (apart d E j h) } in
+          let on : goOn M marks set n v ≡ way (dest M set) (codedAt m set) (onLast M marks set) d w = on-walk M marks set n v ∙ rw w-is (walk-is (dest M set) (codedSlot M marks set) (onLast M marks set) (onEnds M marks set) n d w (e .2) (omega (arith, e .1))) in
+          (on-same w w-in ∙ walk-is (dest M set) (codedAt m set) onEnd onStops n d w stops (omega (arith, e .1)) ∙ way-end (dest M set) (codedAt m set) onEnd (onLast M marks set) d w (rw (E .here)) ∙ sym on, rw (on, length-way (dest M set) (codedAt m set) (onLast M marks set) d w) (omega (arith, e .1)))
+
+-- ---- the slots of a walk are slots of the store
 module _ (Z : Sizes) (set : ℕ) (set-ok : set < Z .m) (pages : List ℕ) (P : PagesIn (Z .n) (Z .m) pages) where
   open Sizes Z using (n, m)
 
@@ -50,45 +161,24 @@ module _ (Z : Sizes) (set : ℕ) (set-ok : set < Z .m) (pages : List ℕ) (P : P
   plain-in : (v : ℕ) → DataBlock n v → Stored (plainAt m pages v)
   plain-in v b = slot-in-marks Z v (entryOf pages v) (b .high) (P .page-lt v (b .low) (b .high))
 
-  module _ (sources : List ℕ) (S : BlocksIn n sources) (plain stop : ℕ) where
-    pub back-stored : (bound v : ℕ) → DataBlock n v → Each Stored (backBy m set pages sources plain stop bound v)
-    unfolding backBy
-    back-stored zero v b = each-none Stored
-    back-stored (suc bound) v b =
-        let rest : List ℕ = backBy m set pages sources plain stop bound (entryOf sources v) in
-        let rest-in = back-stored bound (entryOf sources v) (record { low = S .low v (b .low) (b .high); high = S .high v (b .low) (b .high) }) in
-        let after : List ℕ = cond (eqb v stop) [] rest in
-        each-cond Stored (leb plain v) (plainAt m pages v ∷ []) (codedAt m set v ∷ after) (each-one Stored (plainAt m pages v) (plain-in v b))
-        (each-cons Stored (codedAt m set v) after (coded-in v b) (each-cond Stored (eqb v stop) [] rest (each-none Stored) rest-in))
-
-  module _ (list : List ℕ) (L : ListIn n m list) where
-    -- where the set's page of a block goes
-    pub sent-lt : (v : ℕ) → DataBlock n v → getD list (numberAt m v (entryOf pages v)) 0 < n * m
-    sent-lt v b = L .entry-lt (numberAt m v (entryOf pages v)) (slot-lt m (v - 1) (entryOf pages v) n (omega (arith, b .low, b .high)) (P .page-lt v (b .low) (b .high)))
-
-    on-stored : (done stop bound to : ℕ) → to < n * m → Each Stored (onBy m list set pages done stop bound to)
-    unfolding onBy
-    on-stored done stop zero to h = each-none Stored
-    on-stored done stop (suc bound) to h =
-        let w : ℕ = to / m + 1 in
-        let r = block-range n m to h in
-        let w-in : DataBlock n w = record { low = r .0; high = r .1 } in
-        let rest : List ℕ = onBy m list set pages done stop bound (getD list (numberAt m w (entryOf pages w)) 0) in
-        let after : List ℕ = cond (eqb w stop) [] (codedAt m set w ∷ rest) in
-        each-cond Stored (leb done w) ((to + m) ∷ []) after (each-one Stored (to + m) (omega (arith, suc-mul n m, add-one n)))
-        (each-cond Stored (eqb w stop) [] (codedAt m set w ∷ rest) (each-none Stored)
-        (each-cons Stored (codedAt m set w) rest (coded-in w w-in) (on-stored done stop bound (getD list (numberAt m w (entryOf pages w)) 0) (sent-lt w w-in))))
-
-    pub backward-stored : (b : ℕ) → DataBlock n b → Each Stored (backwardBy m list set pages n b)
-    unfolding backwardBy
-    backward-stored b b-in =
-        let to : ℕ = getD list (numberAt m b (entryOf pages b)) 0 in
-        each-cons Stored (codedAt m set b) (onBy m list set pages (b + 1) b n to) (coded-in b b-in) (on-stored (b + 1) b n to (sent-lt b b-in))
+  pub backward-stored : (list : List ℕ) → ListIn n m list → (b : ℕ) → DataBlock n b → Each Stored (backwardBy m list set pages n b)
+  backward-stored list L b =
+      walk-each (λ c. blockOf m (sentBy m list pages c)) (codedAt m set) _ _ Stored (DataBlock n)
+      (λ c h.
+      let sent-lt = L .entry-lt (numberAt m c (entryOf pages c)) (slot-lt m (c - 1) (entryOf pages c) n (omega (arith, h .low, h .high)) (P .page-lt c (h .low) (h .high))) in
+      let r = block-range n m (sentBy m list pages c) sent-lt in
+      (coded-in c h, each-cond Stored (leb (b + 1) (blockOf m (sentBy m list pages c))) _ [] (each-one Stored (sentBy m list pages c + m) (omega (arith, suc-mul n m, add-one n))) (each-none Stored), record { low = r .0; high = r .1 }))
+      n b
 
   pub forward-stored : (sources : List ℕ) → BlocksIn n sources → (i : ℕ) → DataBlock n i → Each Stored (forwardBy m set pages sources n i)
   unfolding forwardBy
   forward-stored sources S i b =
-      let rest : List ℕ = backBy m set pages sources i 0 n (entryOf sources i) in
       let own : ℕ = plainAt m pages i in
-      each-cond Stored (eqb (getD (own ∷ rest) (length rest) 0) own) (own ∷ []) (own ∷ rest) (each-one Stored own (plain-in i b))
-      (each-cons Stored own rest (plain-in i b) (back-stored sources S i 0 n (entryOf sources i) (record { low = S .low i (b .low) (b .high); high = S .high i (b .low) (b .high) })))
+      let all : List ℕ = backBy m set pages sources i 0 n i in
+      let all-in : Each Stored all = walk-each (entryOf sources) (codedAt m set) _ _ Stored (DataBlock n)
+      (λ c h.
+      let u-in : DataBlock n (entryOf sources c) = record { low = S .low c (h .low) (h .high); high = S .high c (h .low) (h .high) } in
+      (coded-in c h, each-cond Stored (eqb c 0) [] _ (each-none Stored) (each-one Stored (plainAt m pages (entryOf sources c)) (plain-in (entryOf sources c) u-in)), u-in))
+      n i b in
+      each-cond Stored (eqb (getD (own ∷ drop 1 all) (length (drop 1 all)) 0) own) (own ∷ []) (own ∷ drop 1 all) (each-one Stored own (plain-in i b))
+      (each-cons Stored own (drop 1 all) (plain-in i b) (each-rest Stored all all-in))

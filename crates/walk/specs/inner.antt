@@ -3,4 +3,3 @@ pub mod Moments
 pub mod Rows
 pub mod Slots
 pub mod Tables
-pub mod Walks

@@ -8,8 +8,7 @@ ghost use Rattle.method.specs.Move.{moveOf, AcceptedMove};
 ghost use Rattle.method.specs.Read.{readSlots};
 ghost use Rattle.walk.specs.inner.Moments.{Tells};
 ghost use Rattle.walk.specs.inner.Rows.{PagesIn, BlocksIn, ListIn};
-ghost use Rattle.walk.specs.inner.Slots.{slotsLength, Appends};
-ghost use Rattle.walk.specs.inner.Walks.{backBy, onBy, topBy, forwardBy, backwardBy};
+ghost use Rattle.walk.specs.inner.Slots.{slotsLength, StartsWith, backBy, onBy, topBy, forwardBy, backwardBy};
 use crate::moment::Moment;
 use crate::rows::ROW;
 use crate::rows::set_rows;
@@ -43,7 +42,7 @@ pub fn top_of(n: usize, sources: &[u8], v: usize) -> usize
     top
 }
 
-// Back from block `start` of a set. The slots are put behind the first `at`; how many there are then.
+// Back from block `start` of a set, as `backBy`; how many slots there are.
 pub fn go_back(
     sizes: Sizes,
     set: usize,
@@ -53,34 +52,32 @@ pub fn go_back(
     stop: usize,
     start: usize,
     slots: &mut [usize; SLOTS],
-    at: usize,
 ) -> usize
     requires { ⌜ PagesIn (sizes .n) (sizes .m) (now pages) × BlocksIn (sizes .n) (now sources) × (1 ≤ start) × (start ≤ sizes .n) ⌝ }
-    requires { ⌜ (sizes .n ≤ 64) × (sizes .m ≤ 64) × (set < sizes .m) × (length (now slots) ≡ slotsLength) × (at ≤ 1) ⌝ }
-    ensures { λ r. ⌜ Appends (now (slots .entry)) at
+    requires { ⌜ (sizes .n ≤ 64) × (sizes .m ≤ 64) × (set < sizes .m) × (length (now slots) ≡ slotsLength) ⌝ }
+    ensures { λ r. ⌜ StartsWith (now (slots .entry)) 0
         (backBy (sizes .m) set (now (pages .entry)) (now (sources .entry)) plain stop (sizes .n) start) (now (slots .exit)) r ⌝ }
 {
     let m = sizes.m;
+    let n = sizes.n;
     let mut v = start;
-    let mut count = at;
-    let mut left = sizes.n;
-    while 0 < left {
-        if plain <= v {
-            slots[count] = v * m + wide(pages[v - 1]);
-            return count + 1;
-        }
+    let mut count = 0;
+    while count < n {
         slots[count] = (v - 1) * m + set;
         count += 1;
         if v == stop {
             return count;
         }
         v = wide(sources[v - 1]);
-        left -= 1;
+        if plain <= v {
+            slots[count] = v * m + wide(pages[v - 1]);
+            return count + 1;
+        }
     }
     count
 }
 
-// On from page number `start`, whose page is the set's. The slots are put behind the first `at`; how many there are then.
+// On from block `start` of a set, as `onBy`; how many slots there are.
 pub fn go_on(
     sizes: Sizes,
     reciprocal: usize,
@@ -91,38 +88,36 @@ pub fn go_on(
     stop: usize,
     start: usize,
     slots: &mut [usize; SLOTS],
-    at: usize,
 ) -> usize
-    requires { ⌜ PagesIn (sizes .n) (sizes .m) (now pages) × ListIn (sizes .n) (sizes .m) (now list) × (start < sizes .n * sizes .m)
+    requires { ⌜ PagesIn (sizes .n) (sizes .m) (now pages) × ListIn (sizes .n) (sizes .m) (now list) × (1 ≤ start) × (start ≤ sizes .n)
         × (reciprocal ≡ reciprocalOf (sizes .m)) ⌝ }
-    requires { ⌜ (sizes .n ≤ 64) × (sizes .m ≤ 64) × (set < sizes .m) × (length (now slots) ≡ slotsLength) × (at ≤ 1) ⌝ }
-    ensures { λ r. ⌜ Appends (now (slots .entry)) at
+    requires { ⌜ (sizes .n ≤ 64) × (sizes .m ≤ 64) × (set < sizes .m) × (length (now slots) ≡ slotsLength) ⌝ }
+    ensures { λ r. ⌜ StartsWith (now (slots .entry)) 0
         (onBy (sizes .m) (now (list .entry)) set (now (pages .entry)) done stop (sizes .n) start) (now (slots .exit)) r ⌝ }
 {
     let m = sizes.m;
-    let mut to = start;
-    let mut count = at;
-    let mut left = sizes.n;
-    while 0 < left {
-        let w = quotient(to, m, reciprocal) + 1;
-        if done <= w {
+    let n = sizes.n;
+    let mut v = start;
+    let mut count = 0;
+    while count < n {
+        let first = (v - 1) * m;
+        slots[count] = first + set;
+        count += 1;
+        let to = entry(list[first + wide(pages[v - 1])]);
+        v = quotient(to, m, reciprocal) + 1;
+        if done <= v {
             slots[count] = to + m;
             return count + 1;
         }
-        if w == stop {
+        if v == stop {
             return count;
         }
-        let first = (w - 1) * m;
-        slots[count] = first + set;
-        count += 1;
-        to = entry(list[first + wide(pages[w - 1])]);
-        left -= 1;
     }
     count
 }
 
-// The slots of a write in the forward pass, of c(i). The way back from i ends at the first block that is not below i: at i
-// itself where i is the top, whose coded page is D(i) alone.
+// The slots of a write in the forward pass, of c(i): D(i) in place of the coded page of i, and the way back, which ends at the
+// first block that is not below i: at i itself where i is the top, whose coded page is D(i) alone.
 pub fn forward_slots(
     sizes: Sizes,
     set: usize,
@@ -137,9 +132,8 @@ pub fn forward_slots(
         × (1 ≤ r) × (r ≤ slotsLength) × (length (now (slots .exit)) ≡ slotsLength) ⌝ }
 {
     let own = i * sizes.m + wide(pages[i - 1]);
+    let count = go_back(sizes, set, pages, sources, i, 0, i, slots);
     slots[0] = own;
-    let u = wide(sources[i - 1]);
-    let count = go_back(sizes, set, pages, sources, i, 0, u, slots, 1);
     if slots[count - 1] == own {
         return 1;
     }
@@ -162,21 +156,7 @@ pub fn backward_slots(
     ensures { λ r. ⌜ (take r (now (slots .exit)) ≡ backwardBy (sizes .m) (now (list .entry)) set (now (pages .entry)) (sizes .n) b)
         × (1 ≤ r) × (r ≤ slotsLength) × (length (now (slots .exit)) ≡ slotsLength) ⌝ }
 {
-    let first = (b - 1) * sizes.m;
-    slots[0] = first + set;
-    let start = entry(list[first + wide(pages[b - 1])]);
-    go_on(
-        sizes,
-        reciprocal,
-        list,
-        set,
-        pages,
-        b + 1,
-        b,
-        start,
-        slots,
-        1,
-    )
+    go_on(sizes, reciprocal, list, set, pages, b + 1, b, b, slots)
 }
 
 // The slots of original k at a moment: the walk of section 6 starts at the block that k came from.
@@ -190,7 +170,7 @@ pub fn read_slots(
 ) -> usize
     requires { ⌜ AcceptedMove (moveOf sizes (now list) (now sets)) × (k < sizes .n * sizes .m) × (length (now slots) ≡ slotsLength) ⌝ }
     ensures { λ r. ⌜ ((marks : List ℕ) → Tells (moveOf sizes (now (list .entry)) (now (sets .entry))) marks moment
-        → Appends (now (slots .entry)) 0 (readSlots (moveOf sizes (now (list .entry)) (now (sets .entry))) marks k) (now (slots .exit)) r) ⌝ }
+        → StartsWith (now (slots .entry)) 1 (readSlots (moveOf sizes (now (list .entry)) (now (sets .entry))) marks k) (now (slots .exit)) r) ⌝ }
 {
     let m = sizes.m;
     let plain = moment.plain;
@@ -201,7 +181,8 @@ pub fn read_slots(
         return 1;
     }
     let to = entry(list[k]);
-    if done <= to / m + 1 {
+    let w = to / m + 1;
+    if done <= w {
         slots[0] = to + m;
         return 1;
     }
@@ -211,19 +192,8 @@ pub fn read_slots(
     set_rows(sizes, list, sets, set, &mut pages, &mut sources);
     let top = top_of(sizes.n, &sources, v);
     if (top - 1 < moment.coded) | (plain <= sizes.n) {
-        go_back(sizes, set, &pages, &sources, plain, top, v, slots, 0)
+        go_back(sizes, set, &pages, &sources, plain, top, v, slots)
     } else {
-        go_on(
-            sizes,
-            reciprocal(m),
-            list,
-            set,
-            &pages,
-            done,
-            0,
-            to,
-            slots,
-            0,
-        )
+        go_on(sizes, reciprocal(m), list, set, &pages, done, 0, w, slots)
     }
 }

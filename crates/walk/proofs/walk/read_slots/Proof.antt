@@ -7,7 +7,7 @@ use Rattle.split.proofs.SplitLaws.{block-range}
 use Rattle.method.specs.Move.{moveOf}
 use Rattle.method.proofs.cycles.SetCycles.{set-in, block-in, entry-in}
 use Rattle.method.proofs.cycles.Tops.{top-in}
-use Rattle.walk.proofs.GatherLaws.{gather-none, gather-more, gather-all}
+use Rattle.walk.proofs.GatherLaws.{gather-none, gather-more, gather-all, with-room}
 use Rattle.walk.proofs.ReadLaws.{read-plain, read-final, read-back, read-on}
 use Rattle.walk.proofs.RoundLaws.{top-by}
 use Rattle.walk.proofs.TableLaws.{list-in}
@@ -41,7 +41,7 @@ returns c =
     let M = moveOf (a .sizes) (a .list .now) (a .sets .now) in
     λ marks T.
     rw (read-plain M (start .pre .0) marks (a .moment) T (a .k) (start .pre .1) (c .if1 .taken))
-    (gather-all _ _ _ _ _ _ (gather-more _ _ _ _ _ _ (gather-none (a .slots .now) 0 _ (start .pre .2)) _ _ refl (omega arith)) refl (omega arith) (omega arith))
+    (gather-all (gather-more (gather-none (start .pre .2)) refl (omega arith)) refl (omega arith))
 
 mul-entry : tie.Need-mul-entry
 mul-entry c = search needs
@@ -60,11 +60,11 @@ goes c =
     let to = entry-in (moveOf (a .sizes) (a .list .now) (a .sets .now)) (start .pre .0) (a .k) (start .pre .1) in
     rw (c .entry .ensures) (to, block-range (a .sizes .n) (a .sizes .m) _ to .1, block-high (c .before .before .before) .1)
 
-div-if2 : tie.Need-div-if2
-div-if2 c = search needs
+div-w : tie.Need-div-w
+div-w c = search needs
 
-add-if2 : tie.Need-add-if2
-add-if2 c = omega (arith, goes c, c .before .before .before .before .before .pre .0 .ranges .n-high)
+add-w : tie.Need-add-w
+add-w c = omega (arith, goes c, c .before .before .before .before .before .pre .0 .ranges .n-high)
 
 add-slots-2 : tie.Need-add-slots-2
 add-slots-2 c = omega (arith, goes (c .before), c .before .before .before .before .before .before .pre .0 .ranges .m-high)
@@ -80,7 +80,7 @@ returns-2 c =
     let M = moveOf (a .sizes) (a .list .now) (a .sets .now) in
     λ marks T.
     rw (read-final M (start .pre .0) marks (a .moment) T (a .k) (start .pre .1) (c .before .before .before .if1 .left) (rw (c .before .entry .ensures) at (c .if2 .taken)), c .before .entry .ensures)
-    (gather-all _ _ _ _ _ _ (gather-more _ _ _ _ _ _ (gather-none (a .slots .now) 0 _ (start .pre .2)) _ _ refl (omega arith)) refl (omega arith) (omega arith))
+    (gather-all (gather-more (gather-none (start .pre .2)) refl (omega arith)) refl (omega arith))
 
 shared-slice-read-wide : tie.Need-shared-slice-read-wide
 shared-slice-read-wide c = search needs
@@ -127,7 +127,7 @@ go-back-requires c κs =
     let start = c .before .before .before .before .before .before .before .before .before .before .before .before .before .before .before .before .before .before .before in
     let rows = c .before .before .before .before .before .before .before .before .set-rows .ensures in
     let G = start .pre .0 .ranges in
-    ((rows .0 .fits, rows .1 .fits, omega arith, block-high (c .before .before .before .before .before .before .before .before .before .before .before .before .before .before .before .before .before) .0), (G .n-high, G .m-high, set-lt (c .before .before .before .before .before .before .before .before .before .before .before), start .pre .2, omega arith))
+    ((rows .0 .fits, rows .1 .fits, omega arith, block-high (c .before .before .before .before .before .before .before .before .before .before .before .before .before .before .before .before .before) .0), (G .n-high, G .m-high, set-lt (c .before .before .before .before .before .before .before .before .before .before .before), start .pre .2))
 
 reciprocal-requires : tie.Need-reciprocal-requires
 reciprocal-requires c κs = search needs
@@ -140,7 +140,7 @@ go-on-requires c κs =
     let start = c .before .before .before .before .before .before .before .before .before .before .before .before .before .before .before .before .before .before .before in
     let a = start .args in
     let G = start .pre .0 .ranges in
-    ((c .before .before .before .before .before .before .before .before .set-rows .ensures .0 .fits, list-in (moveOf (a .sizes) (a .list .now) (a .sets .now)) (start .pre .0), goes (c .before .before .before .before .before .before .before .before .before .before .before .before .before .before) .0, c .before .before .reciprocal .ensures), (G .n-high, G .m-high, set-lt (c .before .before .before .before .before .before .before .before .before .before .before), start .pre .2, omega arith))
+    ((c .before .before .before .before .before .before .before .before .set-rows .ensures .0 .fits, list-in (moveOf (a .sizes) (a .list .now) (a .sets .now)) (start .pre .0), omega arith, goes (c .before .before .before .before .before .before .before .before .before .before .before .before .before .before) .1, c .before .before .reciprocal .ensures), (G .n-high, G .m-high, set-lt (c .before .before .before .before .before .before .before .before .before .before .before), start .pre .2))
 
 returns-3 : tie.Need-returns-3
 unfolding setOf destBlock
@@ -152,8 +152,8 @@ returns-3 c =
     let rows = rw set at (c .before .before .before .before .before .before .before .before .before .set-rows .ensures) in
     let top = c .before .before .before .before .before .before .before .top-of .ensures in
     λ marks T.
-    rw (read-back M (start .pre .0) marks (a .moment) T (a .k) (start .pre .1) (c .before .before .before .before .before .before .before .before .before .before .before .before .before .before .before .before .before .if1 .left) (rw (c .before .before .before .before .before .before .before .before .before .before .before .before .before .before .before .entry .ensures) at (c .before .before .before .before .before .before .before .before .before .before .before .before .before .before .if2 .left)) _ _ (rows .0) (rows .1) (rw top at (c .before .before .before .before .if3 .taken)))
-    (rw (set, top) at (c .go-back .ensures))
+    let r = read-back M (start .pre .0) marks (a .moment) T (a .k) (start .pre .1) (c .before .before .before .before .before .before .before .before .before .before .before .before .before .before .before .before .before .if1 .left) (rw (c .before .before .before .before .before .before .before .before .before .before .before .before .before .before .before .entry .ensures) at (c .before .before .before .before .before .before .before .before .before .before .before .before .before .before .if2 .left)) _ _ (rows .0) (rows .1) (rw top at (c .before .before .before .before .if3 .taken)) in
+    with-room _ _ _ _ (rw (set, top) at (c .go-back .ensures)) 1 (r .0) (omega (arith, r .1, start .pre .0 .ranges .n-high))
 
 returns-4 : tie.Need-returns-4
 unfolding setOf destBlock
@@ -165,8 +165,8 @@ returns-4 c =
     let to = c .before .before .before .before .before .before .before .before .before .before .before .before .before .before .before .entry .ensures in
     let rows = rw set at (c .before .before .before .before .before .before .before .before .before .set-rows .ensures) in
     λ marks T.
-    rw (read-on M (start .pre .0) marks (a .moment) T (a .k) (start .pre .1) (c .before .before .before .before .before .before .before .before .before .before .before .before .before .before .before .before .before .if1 .left) (rw to at (c .before .before .before .before .before .before .before .before .before .before .before .before .before .before .if2 .left)) _ _ (rows .0) (rows .1) (rw (c .before .before .before .before .before .before .before .top-of .ensures) at (c .before .before .before .before .if3 .left)))
-    (rw (set, to) at (c .go-on .ensures))
+    let r = read-on M (start .pre .0) marks (a .moment) T (a .k) (start .pre .1) (c .before .before .before .before .before .before .before .before .before .before .before .before .before .before .before .before .before .if1 .left) (rw to at (c .before .before .before .before .before .before .before .before .before .before .before .before .before .before .if2 .left)) _ _ (rows .0) (rows .1) (rw (c .before .before .before .before .before .before .before .top-of .ensures) at (c .before .before .before .before .if3 .left)) in
+    with-room _ _ _ _ (rw (set, to) at (c .go-on .ensures)) 1 (r .0) (omega (arith, r .1, start .pre .0 .ranges .n-high))
 
 pub read-slots-spec : {M : Type 1} → statement M
 read-slots-spec =
@@ -180,8 +180,8 @@ read-slots-spec =
     mul-entry
     shared-slice-read-entry
     entry-requires
-    div-if2
-    add-if2
+    div-w
+    add-w
     add-slots-2
     element-write-slots-2
     returns-2

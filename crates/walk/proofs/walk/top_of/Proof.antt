@@ -1,6 +1,6 @@
 -- The loop takes the highest block of the way back, as `topBy` does.
 use Rattle.flash.proofs.Kit.{_≡_, refl, sym, ap, _∙_, ⊎-elim, ℕ, _≤_, max, arith, needs}
-use Rattle.walk.specs.inner.Walks.{topBy}
+use Rattle.walk.specs.inner.Slots.{topBy}
 use Rattle.walk.proofs.RoundLaws.{top-round, top-goes}
 use Rattle.walk.proofs.walk.top_of.Statement.{statement}
 use Rattle.walk.proofs.walk.top_of.Tie as tie
