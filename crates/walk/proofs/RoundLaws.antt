@@ -1,6 +1,6 @@
 -- The top of a cycle is the highest block that is met on the way round, whichever way that goes.
-use Rattle.flash.proofs.Kit.{_≡_, refl, sym, ap, _∙_, ⊎-elim, _≢_, true, false, List, ℕ, zero, suc, _+_, _-_, _≤_, _<_, max, le-antisymm, arith, eqb}
-use Rattle.flash.proofs.Kit.{eqb-true, eq-eqb, ne-eqb}
+use Rattle.flash.proofs.Kit.{_≡_, refl, sym, ap, _∙_, ⊎-elim, true, false, cond, List, ℕ, zero, suc, _+_, _-_, _≤_, _<_, max, le-antisymm, arith, eqb}
+use Rattle.flash.proofs.Kit.{eqb-true}
 use Rattle.flash.specs.declared.sizes.Sizes.{Sizes}
 use Rattle.flash.proofs.Bools.{bool-cases}
 use Rattle.flash.proofs.Comparisons.{lt-cases}
@@ -77,15 +77,8 @@ module _ (M : Move) (A : AcceptedMove M) (set : ℕ) (set-ok : set < M .sizes .m
     top-by =
         top-met n 0 v v refl (omega arith) (λ i h. (let z : i ≡ 0 = omega arith in rw z (omega arith))) (top-ge-self M A set set-ok v b)
 
--- ---- that loop turn by turn
-module _ (sources : List ℕ) (v left top u w : ℕ) (more : 0 < left) (is : w ≡ entryOf sources u) where
-  again : left ≡ suc (left - 1)
-  again = omega arith
-
-  pub top-round : w ≡ v → topBy sources v left top u ≡ top
-  unfolding topBy
-  top-round e = ap (λ (x : ℕ). topBy sources v x top u) again ∙ rw (← is, eq-eqb w v e)
-
-  pub top-goes : w ≢ v → (t : ℕ) → t ≡ max top w → topBy sources v left top u ≡ topBy sources v (left - 1) t w
-  unfolding topBy
-  top-goes ne t e = ap (λ (x : ℕ). topBy sources v x top u) again ∙ rw (← is, ne-eqb w v ne, e)
+-- one turn of that loop
+pub top-turn : (sources : List ℕ) (v left top u : ℕ) → 0 < left → topBy sources v left top u ≡ (let w = entryOf sources u in cond (eqb w v) top (topBy sources v (left - 1) (max top w) w))
+unfolding topBy
+top-turn sources v left top u more =
+    (let again : left ≡ suc (left - 1) = omega arith in ap (λ (x : ℕ). topBy sources v x top u) again)

@@ -2,4 +2,3 @@
 pub mod Moments
 pub mod Rows
 pub mod Slots
-pub mod Tables

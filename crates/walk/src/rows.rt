@@ -2,14 +2,10 @@
 // to a block comes from.
 ghost use mathlib.Core.Path.{_≡_};
 ghost use Prim.Native.Nat.{_+_, _*_, _≤_, _<_};
-ghost use lib.Dec.{eqb};
 ghost use lib.ListN.{length};
 ghost use Rattle.flash.specs.Geometry.{Bounds};
-ghost use Rattle.flash.specs.Lists.{range, first};
-ghost use Rattle.split.specs.Split.{setOf};
 ghost use Rattle.method.specs.Move.{moveOf, AcceptedMove};
-ghost use Rattle.walk.specs.inner.Rows.{rowLength, tableLength, ListIn, SetsIn, PagesRow, SourcesRow};
-ghost use Rattle.walk.specs.inner.Tables.{pagesBy, sourcesBy};
+ghost use Rattle.walk.specs.inner.Rows.{rowLength, tableLength, ListIn, SetsIn, PagesRow, SourcesRow, pagesBy, sourcesBy};
 use flash::casts::entry;
 use flash::casts::narrow;
 use flash::casts::wide;
@@ -33,12 +29,12 @@ pub fn pages_table(sizes: Sizes, sets: &[u8], pages: &mut [u8; TABLE])
     let mut page = 0;
     while k < sets.len() {
         pages[wide(sets[k]) * ROW + block] = narrow(page);
-        k += 1;
         page += 1;
         if page == m {
             page = 0;
             block += 1;
         }
+        k += 1;
     }
 }
 
@@ -57,33 +53,16 @@ pub fn sources_table(sizes: Sizes, list: &[u16], sets: &[u8], sources: &mut [u8]
     while k < sets.len() {
         let target = quotient(entry(list[k]), m, reciprocal);
         sources[wide(sets[k]) * ROW + target] = narrow(block + 1);
-        k += 1;
         page += 1;
         if page == m {
             page = 0;
             block += 1;
         }
-    }
-}
-
-// The first of `count` originals from `start` on that is of the set, or 0.
-fn original_of(sets: &[u8], set: usize, start: usize, count: usize) -> usize
-    requires { ⌜ start + count ≤ length (now sets) ⌝ }
-    ensures { λ r. ⌜ r ≡ first (λ k. eqb (setOf (now (sets .entry)) k) set) (range start count) 0 ⌝ }
-{
-    let mut k = start;
-    let mut left = count;
-    while 0 < left {
-        if wide(sets[k]) == set {
-            return k;
-        }
         k += 1;
-        left -= 1;
     }
-    0
 }
 
-// The rows of one set.
+// The rows of one set: in each block, the first original of the set is the one that it has there.
 pub fn set_rows(
     sizes: Sizes,
     list: &[u16],
@@ -102,7 +81,10 @@ pub fn set_rows(
     let mut block = 0;
     let mut start = 0;
     while block < sizes.n {
-        let k = original_of(sets, set, start, m);
+        let mut k = start;
+        while wide(sets[k]) != set {
+            k += 1;
+        }
         pages[block] = narrow(k - start);
         let target = quotient(entry(list[k]), m, reciprocal);
         block += 1;

@@ -1,11 +1,12 @@
--- The rows of a set: for each data block, the page of it that is the set's, and the block whose page goes there.
+-- The rows of a set: for each data block, the page of it that is the set's, and the block whose page goes there. How tables of them are filled.
 use mathlib.Core.Path.{_≡_}
 use mathlib.Core.List.{List}
-use Prim.Native.Nat.{ℕ, _-_, _*_, _≤_, _<_}
-use lib.ListN.{length, getD}
+use Prim.Native.Nat.{ℕ, zero, suc, _+_, _-_, _*_, _/_, _%_, _≤_, _<_}
+use lib.ListN.{length, getD, set}
 use Rattle.flash.specs.declared.sizes.Sizes.{Sizes}
 use Rattle.flash.specs.Geometry.{numberAt}
 use Rattle.flash.specs.Lists.{part}
+use Rattle.split.specs.Split.{setOf}
 use Rattle.method.specs.Move.{Move}
 use Rattle.method.specs.Cycle.{D, pred}
 
@@ -58,3 +59,15 @@ module _ (M : Move) (table : List ℕ) where
   pub record SourcesTable : Type 0 where
     pub room : length table ≡ tableLength
     pub row : (set : ℕ) → set < M .sizes .m → SourcesRow M set (part rowLength set table)
+
+-- a list after `count` turns of a loop, where turn k puts `value k` at `at k`
+unfoldable pub filledBy : (at value : ℕ → ℕ) → (count : ℕ) → (table : List ℕ) → List ℕ
+filledBy at value zero table = table
+filledBy at value (suc k) table = set (filledBy at value k table) (at k) (value k)
+
+-- Original k puts its page into the row of its set, at its block, and its block at the one where it goes.
+abbrev pub pagesBy : (m : ℕ) → (sets : List ℕ) → (count : ℕ) → (table : List ℕ) → List ℕ
+pagesBy m sets = filledBy (λ k. setOf sets k * rowLength + k / m) (λ k. k % m)
+
+abbrev pub sourcesBy : (m : ℕ) → (list sets : List ℕ) → (count : ℕ) → (table : List ℕ) → List ℕ
+sourcesBy m list sets = filledBy (λ k. setOf sets k * rowLength + getD list k 0 / m) (λ k. k / m + 1)

@@ -1,8 +1,7 @@
 -- The table of pages is filled original by original.
-use Rattle.flash.proofs.Kit.{_≡_, refl, sym, ap, _∙_, ℕ, _+_, _-_, _*_, _/_, _%_, _≤_, _<_, arith, needs, length, set}
+use Rattle.flash.proofs.Kit.{_≡_, refl, sym, ap, _∙_, ⊎-elim, ℕ, _+_, _-_, _*_, _/_, _%_, _≤_, _<_, arith, needs, length, set}
 use Rattle.split.specs.Split.{setOf}
-use Rattle.walk.specs.inner.Rows.{rowLength}
-use Rattle.walk.specs.inner.Tables.{filledBy, pagesBy}
+use Rattle.walk.specs.inner.Rows.{rowLength, filledBy, pagesBy}
 use Rattle.walk.proofs.TableLaws.{filled-more, Counts, counts-more, counts-turn, block-is, page-is, block-lt}
 use Rattle.walk.proofs.rows.pages_table.Statement.{statement}
 use Rattle.walk.proofs.rows.pages_table.Tie as tie
@@ -26,15 +25,6 @@ inside c =
     let k-in : l .k < z .n * z .m = omega (arith, start .pre .1 .length-is) in
     (omega (arith, block-is (z .m) (l .k) (l .block) (l .page) (l .inv .2), block-lt (z .n) (z .m) (l .k) (start .pre .0 .m-low) k-in, start .pre .0 .n-high), omega (arith, l .inv .2 .page-lt, start .pre .0 .m-high))
 
-narrow-requires : tie.Need-narrow-requires Inv-loop μ-loop
-narrow-requires c κs = omega (arith, inside c)
-
-shared-slice-read-wide : tie.Need-shared-slice-read-wide Inv-loop μ-loop
-shared-slice-read-wide c = search needs
-
-wide-requires : tie.Need-wide-requires Inv-loop μ-loop
-wide-requires c κs = search needs
-
 -- so is its set
 set-lt : (c : tie.After-wide Inv-loop μ-loop) → c .wide .result < 64
 set-lt c =
@@ -42,17 +32,11 @@ set-lt c =
     let l = c .before .before .before .before .loop in
     omega (arith, c .wide .ensures, start .pre .1 .set-lt (l .k) (omega (arith, start .pre .1 .length-is)), start .pre .0 .m-high)
 
-mul-pages : tie.Need-mul-pages Inv-loop μ-loop
-mul-pages c = omega (arith, set-lt c)
-
 add-pages : tie.Need-add-pages Inv-loop μ-loop
 add-pages c = omega (arith, set-lt c, inside (c .before .before .before))
 
 element-write-pages : tie.Need-element-write-pages Inv-loop μ-loop
 element-write-pages c = omega (arith, set-lt c, inside (c .before .before .before))
-
-add-k : tie.Need-add-k Inv-loop μ-loop
-add-k c = search needs
 
 add-page : tie.Need-add-page Inv-loop μ-loop
 add-page c = omega (arith, inside (c .before .before .before))
@@ -73,21 +57,17 @@ more c =
     filled-more (λ k. setOf (a .sets .now) k * rowLength + k / a .sizes .m) (λ k. k % a .sizes .m) (a .pages .now) (l .pages) (l .k) _ _ (l .inv .0)
     (rw (c .wide .ensures, block-is (a .sizes .m) (l .k) (l .block) (l .page) C)) (c .before .before .narrow .ensures ∙ page-is (a .sizes .m) (l .k) (l .block) (l .page) C)
 
-loop-less : tie.Need-loop-less Inv-loop μ-loop
-loop-less c = search needs
-
 loop-again : tie.Need-loop-again Inv-loop μ-loop
 loop-again c =
     let l = c .before .before .before .before .before .loop in
-    (more (c .before), omega arith, counts-turn (c .before .before .before .before .before .before .before .args .sizes .m) (l .k) (l .block) (l .page) (l .inv .2) (c .if1 .taken))
-
-loop-less-2 : tie.Need-loop-less-2 Inv-loop μ-loop
-loop-less-2 c = search needs
-
-loop-again-2 : tie.Need-loop-again-2 Inv-loop μ-loop
-loop-again-2 c =
-    let l = c .before .before .before .before .before .loop in
-    (more (c .before), omega arith, counts-more (c .before .before .before .before .before .before .before .args .sizes .m) (l .k) (l .block) (l .page) (l .inv .2) (c .if1 .left))
+    let m = c .before .before .before .before .before .before .before .args .sizes .m in (
+      more (c .before),
+      omega arith,
+      ⊎-elim
+          (λ t. rw (t .1, t .2) (counts-turn m (l .k) (l .block) (l .page) (l .inv .2) (t .0 .taken)))
+          (λ t. rw (t .1, t .2) (counts-more m (l .k) (l .block) (l .page) (l .inv .2) (t .0 .left)))
+          (c .if1 .came),
+    )
 
 returns : tie.Need-returns Inv-loop μ-loop
 returns c =
@@ -102,17 +82,15 @@ pages-table-spec =
     Inv-loop
     μ-loop
     loop-holds
-    narrow-requires
-    shared-slice-read-wide
-    wide-requires
-    mul-pages
+    (λ c κs. omega (arith, inside c))
+    (λ c. search needs)
+    (λ c κs. search needs)
+    (λ c. omega (arith, set-lt c))
     add-pages
     element-write-pages
-    add-k
     add-page
     add-block
-    loop-less
+    (λ c. search needs)
+    (λ c. search needs)
     loop-again
-    loop-less-2
-    loop-again-2
     returns)

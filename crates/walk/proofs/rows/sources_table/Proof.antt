@@ -1,9 +1,8 @@
 -- The table of sources is filled original by original.
-use Rattle.flash.proofs.Kit.{_≡_, refl, ap, _∙_, ℕ, _+_, _-_, _*_, _/_, _≤_, _<_, arith, needs, length, getD, set}
+use Rattle.flash.proofs.Kit.{_≡_, refl, ap, _∙_, ⊎-elim, ℕ, _+_, _-_, _*_, _/_, _≤_, _<_, arith, needs, length, getD, set}
 use Rattle.flash.proofs.Bounds.{product-le}
 use Rattle.split.specs.Split.{setOf}
-use Rattle.walk.specs.inner.Rows.{rowLength}
-use Rattle.walk.specs.inner.Tables.{filledBy, sourcesBy}
+use Rattle.walk.specs.inner.Rows.{rowLength, filledBy, sourcesBy}
 use Rattle.walk.proofs.TableLaws.{filled-more, length-filled, Counts, counts-more, counts-turn, block-is, block-lt}
 use Rattle.walk.proofs.rows.sources_table.Statement.{statement}
 use Rattle.walk.proofs.rows.sources_table.Tie as tie
@@ -13,9 +12,6 @@ Inv-loop list sets sources₀ m reciprocal k₀ block₀ page₀ sources k block
 
 abbrev μ-loop : tie.MeasureT-loop
 μ-loop list sets sources₀ m reciprocal k₀ block₀ page₀ sources k block page = length sets - k
-
-reciprocal-requires : tie.Need-reciprocal-requires Inv-loop μ-loop
-reciprocal-requires c κs = c .before .before .before .pre .0 .m-low
 
 loop-holds : tie.Need-loop-holds Inv-loop μ-loop
 unfolding filledBy
@@ -34,14 +30,8 @@ inside c =
       omega (arith, l .inv .2 .page-lt, start .pre .0 .m-high),
     )
 
-mul-entry : tie.Need-mul-entry Inv-loop μ-loop
-mul-entry c = search needs
-
 shared-slice-read-entry : tie.Need-shared-slice-read-entry Inv-loop μ-loop
 shared-slice-read-entry c = omega (arith, inside (c .before), c .before .before .before .before .before .before .before .pre .1 .length-is)
-
-entry-requires : tie.Need-entry-requires Inv-loop μ-loop
-entry-requires c κs = search needs
 
 -- where it goes
 goes : (c : tie.After-entry Inv-loop μ-loop) → (let z = c .before .before .before .before .before .before .before .before .args .sizes in c .entry .result < z .n * z .m)
@@ -62,12 +52,6 @@ add-narrow c = omega (arith, inside (c .before .before .before))
 narrow-requires : tie.Need-narrow-requires Inv-loop μ-loop
 narrow-requires c κs = omega (arith, inside (c .before .before .before))
 
-shared-slice-read-wide : tie.Need-shared-slice-read-wide Inv-loop μ-loop
-shared-slice-read-wide c = search needs
-
-wide-requires : tie.Need-wide-requires Inv-loop μ-loop
-wide-requires c κs = search needs
-
 -- the row and the entry in it
 index-lt : (c : tie.After-wide Inv-loop μ-loop) → (c .wide .result < 64) × (c .before .before .before .quotient .result < 64)
 index-lt c =
@@ -79,17 +63,8 @@ index-lt c =
       omega (arith, c .before .before .before .quotient .ensures, block-lt (z .n) (z .m) (e .entry .result) (B .m-low) (goes e), B .n-high),
     )
 
-mul-sources : tie.Need-mul-sources Inv-loop μ-loop
-mul-sources c = omega (arith, index-lt c)
-
-add-sources : tie.Need-add-sources Inv-loop μ-loop
-add-sources c = omega (arith, index-lt c)
-
 slice-write-sources : tie.Need-slice-write-sources Inv-loop μ-loop
 slice-write-sources c = rw (c .before .before .before .before .before .before .before .loop .inv .0, length-filled _ _ _ _) (omega (arith, index-lt c, c .before .before .before .before .before .before .before .before .before .before .before .before .pre .3))
-
-add-k : tie.Need-add-k Inv-loop μ-loop
-add-k c = search needs
 
 add-page : tie.Need-add-page Inv-loop μ-loop
 add-page c = omega (arith, inside (c .before .before .before .before .before .before))
@@ -110,21 +85,17 @@ more c =
     (rw (c .wide .ensures, c .before .before .before .quotient .ensures, c .before .before .before .before .entry .ensures))
     (c .before .before .narrow .ensures ∙ ap (λ (x : ℕ). x + 1) (block-is (a .sizes .m) (l .k) (l .block) (l .page) (l .inv .2)))
 
-loop-less : tie.Need-loop-less Inv-loop μ-loop
-loop-less c = search needs
-
 loop-again : tie.Need-loop-again Inv-loop μ-loop
 loop-again c =
     let l = c .before .before .before .before .before .before .before .before .loop in
-    (more (c .before), omega arith, counts-turn (c .before .before .before .before .before .before .before .before .before .before .before .before .before .args .sizes .m) (l .k) (l .block) (l .page) (l .inv .2) (c .if1 .taken))
-
-loop-less-2 : tie.Need-loop-less-2 Inv-loop μ-loop
-loop-less-2 c = search needs
-
-loop-again-2 : tie.Need-loop-again-2 Inv-loop μ-loop
-loop-again-2 c =
-    let l = c .before .before .before .before .before .before .before .before .loop in
-    (more (c .before), omega arith, counts-more (c .before .before .before .before .before .before .before .before .before .before .before .before .before .args .sizes .m) (l .k) (l .block) (l .page) (l .inv .2) (c .if1 .left))
+    let m = c .before .before .before .before .before .before .before .before .before .before .before .before .before .args .sizes .m in (
+      more (c .before),
+      omega arith,
+      ⊎-elim
+          (λ t. rw (t .1, t .2) (counts-turn m (l .k) (l .block) (l .page) (l .inv .2) (t .0 .taken)))
+          (λ t. rw (t .1, t .2) (counts-more m (l .k) (l .block) (l .page) (l .inv .2) (t .0 .left)))
+          (c .if1 .came),
+    )
 
 same-length : tie.Need-same-length Inv-loop μ-loop
 same-length c = rw (c .before .loop .inv .0) (length-filled _ _ (c .before .loop .k) _)
@@ -141,25 +112,23 @@ sources-table-spec =
     (tie.spec
     Inv-loop
     μ-loop
-    reciprocal-requires
+    (λ c κs. c .before .before .before .pre .0 .m-low)
     loop-holds
-    mul-entry
+    (λ c. search needs)
     shared-slice-read-entry
-    entry-requires
+    (λ c κs. search needs)
     quotient-requires
     add-narrow
     narrow-requires
-    shared-slice-read-wide
-    wide-requires
-    mul-sources
-    add-sources
+    (λ c. search needs)
+    (λ c κs. search needs)
+    (λ c. omega (arith, index-lt c))
+    (λ c. omega (arith, index-lt c))
     slice-write-sources
-    add-k
     add-page
     add-block
-    loop-less
+    (λ c. search needs)
+    (λ c. search needs)
     loop-again
-    loop-less-2
-    loop-again-2
     same-length
     returns)

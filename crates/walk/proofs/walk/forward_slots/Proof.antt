@@ -21,9 +21,6 @@ add-own c =
 some : (c : tie.After-go-back) → 1 ≤ c .go-back .result
 some c = rw (count-is _ _ _ _ (c .go-back .ensures)) (walk-some _ _ _ _ _ _ (omega arith))
 
-sub-if1 : tie.Need-sub-if1
-sub-if1 c = some c
-
 returns : tie.Need-returns
 unfolding forwardBy
 returns c =
@@ -49,7 +46,7 @@ forward-slots-spec =
     add-own
     (λ c κs. search needs)
     (λ c. search needs)
-    sub-if1
+    some
     (λ c. search needs)
     (λ c. search needs)
     returns

@@ -23,12 +23,6 @@ loop-holds c = let start = c .before .before in (start .args .sizes .n, omega ar
 inside : (c : tie.In-loop Inv-loop μ-loop) → (c .before .loop .v - 1) * c .before .before .before .before .args .sizes .m ≤ 4096
 inside c = product-le (c .before .loop .v - 1) (c .before .before .before .before .args .sizes .m) {c = 64} {d = 64} (omega arith) (omega arith)
 
-mul-slots : tie.Need-mul-slots Inv-loop μ-loop
-mul-slots c = omega (arith, inside c)
-
-add-slots : tie.Need-add-slots Inv-loop μ-loop
-add-slots c = omega (arith, inside c)
-
 returns : tie.Need-returns Inv-loop μ-loop
 returns c =
     let l = c .before .before .loop in
@@ -47,12 +41,6 @@ source c =
 
 below : (c : tie.After-wide Inv-loop μ-loop) → c .wide .result * c .before .before .before .before .before .before .before .args .sizes .m ≤ 4096
 below c = product-le (c .wide .result) (c .before .before .before .before .before .before .before .args .sizes .m) {c = 64} {d = 64} (omega (arith, source c)) (omega arith)
-
-mul-slots-3 : tie.Need-mul-slots-3 Inv-loop μ-loop
-mul-slots-3 c = omega (arith, below (c .before))
-
-sub-wide-2 : tie.Need-sub-wide-2 Inv-loop μ-loop
-sub-wide-2 c = omega (arith, source (c .before))
 
 shared-slice-read-wide-2 : tie.Need-shared-slice-read-wide-2 Inv-loop μ-loop
 shared-slice-read-wide-2 c = omega (arith, source (c .before .before), c .before .before .before .before .before .before .before .before .before .pre .0 .0 .room)
@@ -93,8 +81,8 @@ go-back-spec =
     μ-loop
     loop-holds
     (λ c. search needs)
-    mul-slots
-    add-slots
+    (λ c. omega (arith, inside c))
+    (λ c. omega (arith, inside c))
     (λ c. search needs)
     (λ c. search needs)
     (λ c. search needs)
@@ -102,8 +90,8 @@ go-back-spec =
     (λ c. search needs)
     shared-slice-read-wide
     (λ c κs. search needs)
-    mul-slots-3
-    sub-wide-2
+    (λ c. omega (arith, below (c .before)))
+    (λ c. omega (arith, source (c .before)))
     shared-slice-read-wide-2
     (λ c κs. search needs)
     add-slots-2

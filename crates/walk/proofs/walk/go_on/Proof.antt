@@ -25,12 +25,6 @@ loop-holds c = let start = c .before .before in (start .args .sizes .n, omega ar
 inside : (c : tie.In-loop Inv-loop μ-loop) → (c .before .loop .v - 1) * c .before .before .before .before .args .sizes .m ≤ 4096
 inside c = product-le (c .before .loop .v - 1) (c .before .before .before .before .args .sizes .m) {c = 64} {d = 64} (omega arith) (omega arith)
 
-mul-first : tie.Need-mul-first Inv-loop μ-loop
-mul-first c = omega (arith, inside c)
-
-add-slots : tie.Need-add-slots Inv-loop μ-loop
-add-slots c = omega (arith, inside c)
-
 -- ---- where the page of its block goes
 shared-slice-read-wide : tie.Need-shared-slice-read-wide Inv-loop μ-loop
 shared-slice-read-wide c = omega (arith, c .before .before .before .before .before .pre .0 .0 .room)
@@ -42,12 +36,6 @@ original c =
     let z = start .args .sizes in
     let v = c .before .before .before .loop .v in
     (slot-lt (z .m) (v - 1) (c .wide .result) (z .n) (omega arith) (rw (c .wide .ensures) (start .pre .0 .0 .page-lt v (omega arith) (omega arith))), product-le (z .n) (z .m) {c = 64} {d = 64} (omega arith) (omega arith))
-
-add-entry : tie.Need-add-entry Inv-loop μ-loop
-add-entry c = omega (arith, original c)
-
-mul-entry : tie.Need-mul-entry Inv-loop μ-loop
-mul-entry c = omega (arith, original c)
 
 shared-slice-read-entry : tie.Need-shared-slice-read-entry Inv-loop μ-loop
 shared-slice-read-entry c = omega (arith, original (c .before), c .before .before .before .before .before .before .before .pre .0 .1 .length-is)
@@ -66,12 +54,6 @@ block-high : (c : tie.After-quotient Inv-loop μ-loop) → c .quotient .result +
 block-high c =
     let z = c .before .before .before .before .before .before .before .before .before .args .sizes in
     omega (arith, c .quotient .ensures, block-range (z .n) (z .m) (c .before .entry .result) (sent (c .before) .1) .1)
-
-add-v : tie.Need-add-v Inv-loop μ-loop
-add-v c = omega (arith, block-high c)
-
-add-slots-2 : tie.Need-add-slots-2 Inv-loop μ-loop
-add-slots-2 c = omega (arith, sent (c .before .before))
 
 returns : tie.Need-returns Inv-loop μ-loop
 returns c =
@@ -106,21 +88,21 @@ go-on-spec =
     μ-loop
     loop-holds
     (λ c. search needs)
-    mul-first
-    add-slots
+    (λ c. omega (arith, inside c))
+    (λ c. omega (arith, inside c))
     (λ c. search needs)
     (λ c. search needs)
     (λ c. search needs)
     (λ c. search needs)
     shared-slice-read-wide
     (λ c κs. search needs)
-    add-entry
-    mul-entry
+    (λ c. omega (arith, original c))
+    (λ c. omega (arith, original c))
     shared-slice-read-entry
     (λ c κs. search needs)
     quotient-requires
-    add-v
-    add-slots-2
+    (λ c. omega (arith, block-high c))
+    (λ c. omega (arith, sent (c .before .before)))
     (λ c. search needs)
     (λ c. search needs)
     (λ c. search needs)

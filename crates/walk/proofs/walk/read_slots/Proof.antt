@@ -14,9 +14,6 @@ use Rattle.walk.proofs.TableLaws.{list-in}
 use Rattle.walk.proofs.walk.read_slots.Statement.{statement}
 use Rattle.walk.proofs.walk.read_slots.Tie as tie
 
-div-v : tie.Need-div-v
-div-v c = search needs
-
 -- the block of original k is a data block
 block-high : (c : tie.After-shared-slice-known2) → (let a = c .before .before .args in (blockOf (a .sizes .m) (a .k) ≤ a .sizes .n) × (a .sizes .n * a .sizes .m ≤ 4096))
 block-high c =
@@ -28,12 +25,6 @@ add-v : tie.Need-add-v
 add-v c = omega (arith, block-high c, c .before .before .pre .0 .ranges .n-high)
 
 -- ---- rule 1
-add-slots : tie.Need-add-slots
-add-slots c = search needs
-
-element-write-slots : tie.Need-element-write-slots
-element-write-slots c = search needs
-
 returns : tie.Need-returns
 returns c =
     let start = c .before .before .before in
@@ -43,15 +34,6 @@ returns c =
     rw (read-plain M (start .pre .0) marks (a .moment) T (a .k) (start .pre .1) (c .if1 .taken))
     (gather-all (gather-more (gather-none (start .pre .2)) refl (omega arith)) refl (omega arith))
 
-mul-entry : tie.Need-mul-entry
-mul-entry c = search needs
-
-shared-slice-read-entry : tie.Need-shared-slice-read-entry
-shared-slice-read-entry c = search needs
-
-entry-requires : tie.Need-entry-requires
-entry-requires c κs = search needs
-
 -- where it goes is a page number
 goes : (c : tie.After-entry) → (let a = c .before .before .before .before .before .args in (c .entry .result < a .sizes .n * a .sizes .m) × (c .entry .result / a .sizes .m + 1 ≤ a .sizes .n) × (a .sizes .n * a .sizes .m ≤ 4096))
 goes c =
@@ -60,17 +42,11 @@ goes c =
     let to = entry-in (moveOf (a .sizes) (a .list .now) (a .sets .now)) (start .pre .0) (a .k) (start .pre .1) in
     rw (c .entry .ensures) (to, block-range (a .sizes .n) (a .sizes .m) _ to .1, block-high (c .before .before .before) .1)
 
-div-w : tie.Need-div-w
-div-w c = search needs
-
 add-w : tie.Need-add-w
 add-w c = omega (arith, goes c, c .before .before .before .before .before .pre .0 .ranges .n-high)
 
 add-slots-2 : tie.Need-add-slots-2
 add-slots-2 c = omega (arith, goes (c .before), c .before .before .before .before .before .before .pre .0 .ranges .m-high)
-
-element-write-slots-2 : tie.Need-element-write-slots-2
-element-write-slots-2 c = search needs
 
 returns-2 : tie.Need-returns-2
 unfolding destBlock
@@ -81,12 +57,6 @@ returns-2 c =
     λ marks T.
     rw (read-final M (start .pre .0) marks (a .moment) T (a .k) (start .pre .1) (c .before .before .before .if1 .left) (rw (c .before .entry .ensures) at (c .if2 .taken)), c .before .entry .ensures)
     (gather-all (gather-more (gather-none (start .pre .2)) refl (omega arith)) refl (omega arith))
-
-shared-slice-read-wide : tie.Need-shared-slice-read-wide
-shared-slice-read-wide c = search needs
-
-wide-requires : tie.Need-wide-requires
-wide-requires c κs = search needs
 
 -- ---- the rows of its set
 set-lt : (c : tie.After-wide) → c .wide .result < c .before .before .before .before .before .before .before .before .args .sizes .m
@@ -129,9 +99,6 @@ go-back-requires c κs =
     let G = start .pre .0 .ranges in
     ((rows .0 .fits, rows .1 .fits, omega arith, block-high (c .before .before .before .before .before .before .before .before .before .before .before .before .before .before .before .before .before) .0), (G .n-high, G .m-high, set-lt (c .before .before .before .before .before .before .before .before .before .before .before), start .pre .2))
 
-reciprocal-requires : tie.Need-reciprocal-requires
-reciprocal-requires c κs = search needs
-
 slice-aggregate-go-on : tie.Need-slice-aggregate-go-on
 slice-aggregate-go-on c = sym (c .before .before .before .before .before .before .before .set-rows .ensures .0 .fits .room)
 
@@ -172,21 +139,21 @@ pub read-slots-spec : {M : Type 1} → statement M
 read-slots-spec =
     tie.close
     (tie.spec
-    div-v
+    (λ c. search needs)
     add-v
-    add-slots
-    element-write-slots
+    (λ c. search needs)
+    (λ c. search needs)
     returns
-    mul-entry
-    shared-slice-read-entry
-    entry-requires
-    div-w
+    (λ c. search needs)
+    (λ c. search needs)
+    (λ c κs. search needs)
+    (λ c. search needs)
     add-w
     add-slots-2
-    element-write-slots-2
+    (λ c. search needs)
     returns-2
-    shared-slice-read-wide
-    wide-requires
+    (λ c. search needs)
+    (λ c κs. search needs)
     set-rows-requires
     slice-aggregate-top-of
     top-of-requires
@@ -194,7 +161,7 @@ read-slots-spec =
     slice-aggregate-go-back
     slice-aggregate-go-back-2
     go-back-requires
-    reciprocal-requires
+    (λ c κs. search needs)
     slice-aggregate-go-on
     go-on-requires
     returns-3

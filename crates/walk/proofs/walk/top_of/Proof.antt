@@ -1,7 +1,7 @@
 -- The loop takes the highest block of the way back, as `topBy` does.
-use Rattle.flash.proofs.Kit.{_≡_, refl, sym, ap, _∙_, ⊎-elim, ℕ, _≤_, max, arith, needs}
+use Rattle.flash.proofs.Kit.{_≡_, refl, sym, ap, _∙_, ⊎-elim, ℕ, _≤_, max, arith, needs, eq-eqb, ne-eqb}
 use Rattle.walk.specs.inner.Slots.{topBy}
-use Rattle.walk.proofs.RoundLaws.{top-round, top-goes}
+use Rattle.walk.proofs.RoundLaws.{top-turn}
 use Rattle.walk.proofs.walk.top_of.Statement.{statement}
 use Rattle.walk.proofs.walk.top_of.Tie as tie
 
@@ -14,26 +14,13 @@ abbrev μ-loop : tie.MeasureT-loop
 loop-holds : tie.Need-loop-holds Inv-loop μ-loop
 loop-holds c = (refl, omega arith, omega arith)
 
-sub-wide : tie.Need-sub-wide Inv-loop μ-loop
-sub-wide c = search needs
-
 shared-slice-read-wide : tie.Need-shared-slice-read-wide Inv-loop μ-loop
 shared-slice-read-wide c = omega (arith, c .before .before .before .before .pre .0 .room)
 
-wide-requires : tie.Need-wide-requires Inv-loop μ-loop
-wide-requires c κs = search needs
-
 returns : tie.Need-returns Inv-loop μ-loop
 returns c =
-    let a = c .before .before .before .before .before .before .args in
     let l = c .before .before .before .before .loop in
-    sym (top-round (a .sources .now) (a .v) (l .left) (l .top) (l .u) (c .before .wide .result) (omega arith) (c .before .wide .ensures) (c .if1 .taken)) ∙ l .inv .0
-
-sub-left : tie.Need-sub-left Inv-loop μ-loop
-sub-left c = search needs
-
-loop-less : tie.Need-loop-less Inv-loop μ-loop
-loop-less c = search needs
+    sym (top-turn _ _ (l .left) (l .top) (l .u) (omega arith) ∙ rw (← c .before .wide .ensures, eq-eqb _ _ (c .if1 .taken))) ∙ l .inv .0
 
 loop-again : tie.Need-loop-again Inv-loop μ-loop
 loop-again c =
@@ -42,7 +29,7 @@ loop-again c =
     let w = c .before .before .wide in
     let high : c .if2 .top ≡ max (l .top) (w .result) = ⊎-elim (λ t. omega arith) (λ t. omega arith) (c .if2 .came) in
     let S = start .pre .0 in (
-      sym (top-goes (start .args .sources .now) (start .args .v) (l .left) (l .top) (l .u) (w .result) (omega arith) (w .ensures) (c .before .if1 .left) (c .if2 .top) high) ∙ l .inv .0,
+      sym (top-turn _ _ (l .left) (l .top) (l .u) (omega arith) ∙ rw (← w .ensures, ne-eqb _ _ (c .before .if1 .left), high)) ∙ l .inv .0,
       rw (w .ensures) (S .low (l .u) (omega arith) (omega arith)),
       rw (w .ensures) (S .high (l .u) (omega arith) (omega arith)),
     )
@@ -62,11 +49,11 @@ top-of-spec =
     Inv-loop
     μ-loop
     loop-holds
-    sub-wide
+    (λ c. search needs)
     shared-slice-read-wide
-    wide-requires
+    (λ c κs. search needs)
     returns
-    sub-left
-    loop-less
+    (λ c. search needs)
+    (λ c. search needs)
     loop-again
     returns-2)
