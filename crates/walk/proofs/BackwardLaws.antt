@@ -1,7 +1,6 @@
 -- The slots of a write in the backward pass: those that read gives, or the same in reverse where the block is the top.
 use Rattle.flash.proofs.Kit.{_≡_, refl, sym, ap, _∙_, ⊎-elim, _≢_, Bool, true, false, cond, or-false, List, [], _∷_, _++_, append-nil, ℕ, zero, suc}
-use Rattle.flash.proofs.Kit.{_+_, _-_, _≤_, _<_, le-antisymm, add-one, arith, eqb, leb, ltb, length, getD, eqb-true, eq-eqb, leb-false, le-leb}
-use Rattle.flash.proofs.Kit.{lt-leb, lt-ltb, le-ltb}
+use Rattle.flash.proofs.Kit.{_+_, _-_, _≤_, _<_, le-antisymm, arith, eqb, leb, ltb, getD, eqb-true, eq-eqb, leb-false, lt-leb, lt-ltb, le-ltb}
 use Rattle.flash.specs.Lists.{concatMap}
 use Rattle.flash.specs.declared.sizes.Sizes.{Sizes}
 use Rattle.flash.specs.Geometry.{blockOf, numberAt, originalCount}
@@ -20,10 +19,10 @@ use Rattle.method.specs.Step.{originalsOf, writeSlots}
 use Rattle.method.proofs.basics.Indexes.{slot-lt}
 use Rattle.method.proofs.cycles.Orbits.{DataBlock, OneToOne, iterate, iterate-last, iterate-in, undone, round}
 use Rattle.method.proofs.cycles.SetCycles.{set-in, block-in, dest-in, pred-in, dest-is, dest-one, dest-pred, pred-dest, sent-in, entry-sent}
-use Rattle.method.proofs.cycles.Tops.{top-in, top-is, top-ge, top-ge-self, top-dest, top-ahead, isTop-true, top-isTop}
+use Rattle.method.proofs.cycles.Tops.{top-is, top-ge, top-ge-self, top-dest, isTop-true, top-isTop}
 use Rattle.method.proofs.walks.WalkSlots.{Ends, ends-by, way, walk-is, backEnds, backLast, back-walk}
 use Rattle.walk.specs.inner.Moments.{Tells, momentIn}
-use Rattle.walk.specs.inner.Rows.{entryOf, PagesRow}
+use Rattle.walk.specs.inner.Rows.{PagesRow}
 use Rattle.walk.specs.inner.Slots.{SumsAs, codedAt, backwardBy}
 use Rattle.walk.proofs.ReadLaws.{read-walks}
 use Rattle.walk.proofs.RowLaws.{length-way, way-end, on-same, on-is}
@@ -169,14 +168,17 @@ module _ (M : Move) (A : AcceptedMove M) (k : ℕ) (k-in : k < originalCount (M 
 
       on-way : backwardBy m (M .list) set pages n b ≡ way (dest M set) (codedAt m set) (λ _. []) d b
       on-way =
-          let low : (j : ℕ) → leb (b + 1) (dest M set (iterate (dest M set) j b)) ≡ false = λ j. lt-leb (b + 1) (dest M set (iterate (dest M set) j b)) (omega (arith, iterate-last (dest M set) j b, top-ge M A set set-ok (suc j) b b-in)) in
+          let low : (j : ℕ) → leb (b + 1) (dest M set (iterate (dest M set) j b)) ≡ false = λ j.
+          lt-leb (b + 1) (dest M set (iterate (dest M set) j b)) (omega (arith, iterate-last (dest M set) j b, top-ge M A set set-ok (suc j) b b-in)) in
           on-same M A set set-ok pages P (b + 1) b b b-in
-          ∙ walk-is (dest M set) (codedAt m set) _ _ n d b (record { here = rw (low d) (closes .2 .here); not-before = λ j h. rw (low j) (closes .2 .not-before j h) }) (closes .1)
+          ∙ walk-is (dest M set) (codedAt m set) _ _ n d b
+          (record { here = rw (low d) (closes .2 .here); not-before = λ j h. rw (low j) (closes .2 .not-before j h) }) (closes .1)
           ∙ way-end (dest M set) (codedAt m set) _ (λ _. []) d b (rw (low d))
 
       at-top : SumsAs (backwardBy m (M .list) set pages n b) (readSlots M marks k)
       at-top =
-          let meets : iterate (dest M set) d b ≡ v = sym (pred-dest M A set set-ok (iterate (dest M set) d b) (iterate-in n (dest M set) F d b b-in)) ∙ ap (pred M set) (eqb-true (dest M set (iterate (dest M set) d b)) b (closes .2 .here)) ∙ pred-b in
+          let meets : iterate (dest M set) d b ≡ v =
+          sym (pred-dest M A set set-ok (iterate (dest M set) d b) (iterate-in n (dest M set) F d b b-in)) ∙ ap (pred M set) (eqb-true (dest M set (iterate (dest M set) d b)) b (closes .2 .here)) ∙ pred-b in
           rw (on-way, back-way)
           (record {
             number = length-way (dest M set) (codedAt m set) (λ _. []) d b ∙ sym (length-way (pred M set) (codedAt m set) (λ _. []) d v);

@@ -1,6 +1,6 @@
 -- The slots of a write in the forward pass: D(i) lies plain in its block, and the way back tells whether i is the top.
-use Rattle.flash.proofs.Kit.{_≡_, refl, sym, ap, _∙_, ⊎-elim, _≢_, Bool, true, false, cond, _||_, or-true, List, [], _∷_, append-nil, ℕ, zero, suc, _+_, _/_, _≤_}
-use Rattle.flash.proofs.Kit.{_<_, le-antisymm, arith, eqb, leb, length, getD, drop, eq-eqb, ne-eqb, leb-true, leb-false, le-leb, lt-leb}
+use Rattle.flash.proofs.Kit.{_≡_, refl, sym, ap, _∙_, ⊎-elim, _≢_, Bool, false, cond, _||_, or-true, List, [], _∷_, append-nil, ℕ, zero, suc, _+_}
+use Rattle.flash.proofs.Kit.{_/_, _≤_, _<_, le-antisymm, arith, eqb, leb, length, getD, drop, eq-eqb, ne-eqb, leb-true, leb-false, le-leb, lt-leb}
 use Rattle.flash.specs.Lists.{concatMap}
 use Rattle.flash.specs.declared.sizes.Sizes.{Sizes}
 use Rattle.flash.proofs.Comparisons.{eq-cases}

@@ -1,8 +1,6 @@
 -- The top of a cycle is the highest block that is met on the way round, whichever way that goes.
-use Rattle.flash.proofs.Kit.{_≡_, refl, sym, ap, _∙_, ⊎-elim, true, false, cond, List, ℕ, zero, suc, _+_, _-_, _≤_, _<_, max, le-antisymm, arith, eqb}
-use Rattle.flash.proofs.Kit.{eqb-true}
+use Rattle.flash.proofs.Kit.{_≡_, refl, sym, ap, _∙_, _⊎_, ⊎-elim, List, ℕ, zero, suc, _≤_, _<_, max, le-antisymm, arith}
 use Rattle.flash.specs.declared.sizes.Sizes.{Sizes}
-use Rattle.flash.proofs.Bools.{bool-cases}
 use Rattle.flash.proofs.Comparisons.{lt-cases}
 use Rattle.method.specs.Move.{Move, AcceptedMove}
 use Rattle.method.specs.Cycle.{pred, top}
@@ -10,7 +8,6 @@ use Rattle.method.proofs.cycles.Orbits.{DataBlock, iterate, iterate-last}
 use Rattle.method.proofs.cycles.SetCycles.{pred-in}
 use Rattle.method.proofs.cycles.Tops.{top-ge-self, top-pred, top-behind}
 use Rattle.walk.specs.inner.Rows.{entryOf, SourcesRow}
-use Rattle.walk.specs.inner.Slots.{topBy}
 
 -- a way that comes back to its start meets nothing above what it has met
 module _ (f : ℕ → ℕ) (d b high : ℕ) (home : iterate f (suc d) b ≡ b) (met : (i : ℕ) → i ≤ d → iterate f i b ≤ high) where
@@ -29,6 +26,29 @@ module _ (f : ℕ → ℕ) (d b high : ℕ) (home : iterate f (suc d) b ≡ b) (
 
   pub round-le : (steps : ℕ) → iterate f steps b ≤ high
   round-le steps = let r = came-back steps in rw (r .2) (met (r .0) (r .1))
+
+-- t is the highest of what is met in j steps
+pub record Highest (f : ℕ → ℕ) (v j t : ℕ) : Type 0 where
+  pub met : (i : ℕ) → i ≤ j → iterate f i v ≤ t
+  pub at : ℕ
+  pub is : t ≡ iterate f at v
+
+module _ (f : ℕ → ℕ) (v : ℕ) where
+  pub highest-first : Highest f v 0 v
+  unfolding iterate
+  highest-first = record { met = λ i h. (let z : i ≡ 0 = omega arith in rw z (omega arith)); at = 0; is = refl }
+
+  pub highest-next : (j t w t′ : ℕ) → Highest f v j t → w ≡ iterate f (suc j) v → t′ ≡ max t w → Highest f v (suc j) t′
+  highest-next j t w t′ H w-is e =
+      let met : (i : ℕ) → i ≤ suc j → iterate f i v ≤ t′ = λ i h.
+      ⊎-elim
+      (λ (l : i < suc j). (let o = H .met i (omega arith) in omega arith))
+      (λ (l : suc j ≤ i). (let q : i ≡ suc j = omega arith in rw (q, ← w-is) (omega arith)))
+      (lt-cases i (suc j)) in
+      ⊎-elim
+      (λ (l : t < w). (let up : t′ ≡ w = omega arith in record { met = met; at = suc j; is = up ∙ w-is }))
+      (λ (l : w ≤ t). (let same : t′ ≡ t = omega arith in record { met = met; at = H .at; is = same ∙ H .is }))
+      (lt-cases t w)
 
 module _ (M : Move) (A : AcceptedMove M) (set : ℕ) (set-ok : set < M .sizes .m) (v : ℕ) (b : DataBlock (M .sizes .n) v) where
   open Sizes (M .sizes) using (n)
@@ -50,35 +70,19 @@ module _ (M : Move) (A : AcceptedMove M) (set : ℕ) (set-ok : set < M .sizes .m
 
   -- ---- the loop that looks for it
   module _ (sources : List ℕ) (S : SourcesRow M set sources) where
-    top-met : (bound j t u : ℕ) → u ≡ iterate (pred M set) j v → n ≤ j + bound → ((i : ℕ) → i ≤ j → iterate (pred M set) i v ≤ t) → t ≤ top M set v
-        → topBy sources v bound t u ≡ top M set v
-    unfolding topBy
-    top-met zero j t u at h met low =
-        let r = top-behind M A set set-ok v b in
-        le-antisymm low (rw (r .2) at (met (r .0) (omega (arith, r .1))))
-    top-met (suc bound) j t u at h met low =
-        let w : ℕ = entryOf sources u in
-        let u-in : DataBlock n u = rw at (back-in j) in
-        let w-is : w ≡ iterate (pred M set) (suc j) v = S .is u (u-in .low) (u-in .high) ∙ ap (pred M set) at ∙ sym (iterate-last (pred M set) j v) in
-        ⊎-elim
-        (λ (e : eqb w v ≡ true).
-        let r = top-behind M A set set-ok v b in
-        let all = round-le (pred M set) j v t (sym w-is ∙ eqb-true w v e) met in
-        rw e (le-antisymm low (rw (r .2) at (all (r .0)))))
-        (λ (e : eqb w v ≡ false).
-        rw e
-        (top-met bound (suc j) (max t w) w w-is (omega arith)
-        (λ i l. ⊎-elim (λ (k : i < suc j). (let o = met i (omega arith) in omega arith)) (λ (k : suc j ≤ i). (let q : i ≡ suc j = omega arith in rw (q, ← w-is) (omega arith))) (lt-cases i (suc j)))
-        (let o = back-le (suc j) in omega arith)))
-        (bool-cases (eqb w v))
-
-    pub top-by : topBy sources v n v v ≡ top M set v
+    same-way : (steps : ℕ) → iterate (entryOf sources) steps v ≡ iterate (pred M set) steps v
     unfolding iterate
-    top-by =
-        top-met n 0 v v refl (omega arith) (λ i h. (let z : i ≡ 0 = omega arith in rw z (omega arith))) (top-ge-self M A set set-ok v b)
+    same-way zero = refl
+    same-way (suc steps) =
+        let u-in = back-in steps in
+        iterate-last (entryOf sources) steps v ∙ rw (same-way steps, iterate-last (pred M set) steps v) (S .is (iterate (pred M set) steps v) (u-in .low) (u-in .high))
 
--- one turn of that loop
-pub top-turn : (sources : List ℕ) (v left top u : ℕ) → 0 < left → topBy sources v left top u ≡ (let w = entryOf sources u in cond (eqb w v) top (topBy sources v (left - 1) (max top w) w))
-unfolding topBy
-top-turn sources v left top u more =
-    (let again : left ≡ suc (left - 1) = omega arith in ap (λ (x : ℕ). topBy sources v x top u) again)
+    pub highest-top : (j t : ℕ) → Highest (entryOf sources) v j t → (n ≤ j) ⊎ (iterate (entryOf sources) (suc j) v ≡ v) → t ≡ top M set v
+    highest-top j t H end =
+        let r = top-behind M A set set-ok v b in
+        let there : iterate (entryOf sources) (r .0) v ≡ top M set v = same-way (r .0) ∙ r .2 in
+        le-antisymm (omega (arith, H .is, same-way (H .at), back-le (H .at)))
+        (⊎-elim
+        (λ (h : n ≤ j). rw (← there) (H .met (r .0) (omega (arith, r .1))))
+        (λ (h : iterate (entryOf sources) (suc j) v ≡ v). rw (← there) (round-le (entryOf sources) j v t h (H .met) (r .0)))
+        end)

@@ -52,7 +52,7 @@ module _ (next slotAt : ℕ → ℕ) (last : ℕ → List ℕ) (ends : ℕ → B
 
   -- what holds of all its slots
   module _ (Q In : ℕ → Type 0) (at : (v : ℕ) → In v → Q (slotAt v) × Each Q (last v) × In (next v)) where
-    pub walk-each : (bound v : ℕ) → In v → Each Q (walkBy next slotAt last ends bound v)
+    walk-each : (bound v : ℕ) → In v → Each Q (walkBy next slotAt last ends bound v)
     unfolding walkBy
     walk-each zero v h = each-none Q
     walk-each (suc bound) v h =
@@ -99,7 +99,8 @@ module _ (M : Move) (A : AcceptedMove M) (set : ℕ) (set-ok : set < M .sizes .m
         (λ c h.
         let u-in = pred-in M A set set-ok c (h .0) in
         let u-is = S .is c (h .0 .low) (h .0 .high) in
-        let ends : eqb (top M set c) c ≡ eqb c tip = bool-eq (eqb (top M set c) c) (eqb c tip) (λ q. eq-eqb c tip (sym (eqb-true (top M set c) c q) ∙ h .1)) (λ q. eq-eqb (top M set c) c (h .1 ∙ sym (eqb-true c tip q))) in
+        let ends : eqb (top M set c) c ≡ eqb c tip =
+        bool-eq (eqb (top M set c) c) (eqb c tip) (λ q. eq-eqb c tip (sym (eqb-true (top M set c) c q) ∙ h .1)) (λ q. eq-eqb (top M set c) c (h .1 ∙ sym (eqb-true c tip q))) in
         (u-is, (u-in, top-pred M A set set-ok c (h .0) ∙ h .1), rw (u-is, ends, plain-at (pred M set c) u-in), rw (u-is, ends, plain-is (pred M set c) (u-in .high))))
         n v (b, refl)
         ∙ sym (back-walk M marks set n v)
@@ -108,7 +109,8 @@ module _ (M : Move) (A : AcceptedMove M) (set : ℕ) (set-ok : set < M .sizes .m
   unfolding backLast
   back-few marks v b =
       let e = back-ends M A marks set set-ok v b in
-      rw (back-walk M marks set n v, walk-is (pred M set) (codedSlot M marks set) (backLast M marks set) (backEnds M marks set) n (e .0) v (e .2) (e .1), length-way (pred M set) (codedSlot M marks set) (backLast M marks set) (e .0) v)
+      let way-is = walk-is (pred M set) (codedSlot M marks set) (backLast M marks set) (backEnds M marks set) n (e .0) v (e .2) (e .1) in
+      rw (back-walk M marks set n v, way-is, length-way (pred M set) (codedSlot M marks set) (backLast M marks set) (e .0) v)
       (⊎-elim
       (λ (t : isTop M set (iterate (pred M set) (e .0) v) ≡ true). rw t (omega (arith, e .1)))
       (λ (t : isTop M set (iterate (pred M set) (e .0) v) ≡ false). rw t (omega (arith, e .3 t)))
@@ -125,8 +127,9 @@ module _ (M : Move) (A : AcceptedMove M) (set : ℕ) (set-ok : set < M .sizes .m
     pub on-same : (v : ℕ) → DataBlock n v → onBy m (M .list) set pages done stop n v ≡ walk (dest M set) (codedAt m set) onEnd onStops n v
     unfolding dest destBlock
     on-same =
-        walk-same (λ c. blockOf m (sentBy m (M .list) pages c)) (codedAt m set) (λ c. cond (leb done (blockOf m (sentBy m (M .list) pages c))) ((sentBy m (M .list) pages c + m) ∷ []) [])
-        (λ c. leb done (blockOf m (sentBy m (M .list) pages c)) || eqb (blockOf m (sentBy m (M .list) pages c)) stop)
+        let to : ℕ → ℕ = sentBy m (M .list) pages in
+        walk-same (λ c. blockOf m (to c)) (codedAt m set) (λ c. cond (leb done (blockOf m (to c))) ((to c + m) ∷ []) [])
+        (λ c. leb done (blockOf m (to c)) || eqb (blockOf m (to c)) stop)
         (DataBlock n) (dest M set) onEnd onStops
         (λ c h. (let e = sent-is c h in (ap (blockOf m) e, dest-in M A set set-ok c h, rw (e, home-is m (getD (M .list) (D M set c) 0)), rw e)))
         n
@@ -139,14 +142,25 @@ module _ (M : Move) (A : AcceptedMove M) (set : ℕ) (set-ok : set < M .sizes .m
       unfolding onEnds onLast codedSlot finalSlot
       on-is apart =
           let w-in : DataBlock n w = rw w-is at (dest-in M A set set-ok v v-in) in
-          let t-in = top-in M A set set-ok v v-in in
-          let e = rw w-is at (on-ends M A marks set set-ok v v-in (done-is (top M set v) (t-in .high) ∙ le-leb done (top M set v) there) (rw w-is (done-is w (w-in .high) ∙ lt-leb done w not-yet))) in
+          let top-full = done-is (top M set v) (top-in M A set set-ok v v-in .high) ∙ le-leb done (top M set v) there in
+          let e = rw w-is at (on-ends M A marks set set-ok v v-in top-full (rw w-is (done-is w (w-in .high) ∙ lt-leb done w not-yet))) in
           let d : ℕ = e .0 in
-          let told : (j : ℕ) → fullOf M marks 2 (dest M set (iterate (dest M set) j w)) ≡ leb done (dest M set (iterate (dest M set) j w)) = λ j. done-is (dest M set (iterate (dest M set) j w)) (dest-in M A set set-ok (iterate (dest M set) j w) (iterate-in n (dest M set) (dest-one M A set set-ok) j w w-in) .high) in
-          let E : Ends (dest M set) (λ c. leb done (dest M set c)) d w = record { here = sym (told d) ∙ e .2 .here; not-before = λ j h. sym (told j) ∙ e .2 .not-before j h } in
+          let at : ℕ → ℕ = λ j. iterate (dest M set) j w in
+          let at-in : (j : ℕ) → DataBlock n (at j) = λ j. iterate-in n (dest M set) (dest-one M A set set-ok) j w w-in in
+          let told : (j : ℕ) → fullOf M marks 2 (dest M set (at j)) ≡ leb done (dest M set (at j)) = λ j.
+          done-is (dest M set (at j)) (dest-in M A set set-ok (at j) (at-in j) .high) in
+          let E : Ends (dest M set) (λ c. leb done (dest M set c)) d w =
+          record { here = sym (told d) ∙ e .2 .here; not-before = λ j h. sym (told j) ∙ e .2 .not-before j h } in
           let stops : Ends (dest M set) onStops d w = record { here = rw (E .here); not-before = λ j h. rw (E .not-before j h) (apart d E j h) } in
-          let on : goOn M marks set n v ≡ way (dest M set) (codedAt m set) (onLast M marks set) d w = on-walk M marks set n v ∙ rw w-is (walk-is (dest M set) (codedSlot M marks set) (onLast M marks set) (onEnds M marks set) n d w (e .2) (omega (arith, e .1))) in
-          (on-same w w-in ∙ walk-is (dest M set) (codedAt m set) onEnd onStops n d w stops (omega (arith, e .1)) ∙ way-end (dest M set) (codedAt m set) onEnd (onLast M marks set) d w (rw (E .here)) ∙ sym on, rw (on, length-way (dest M set) (codedAt m set) (onLast M marks set) d w) (omega (arith, e .1)))
+          let on : goOn M marks set n v ≡ way (dest M set) (codedAt m set) (onLast M marks set) d w =
+          on-walk M marks set n v
+          ∙ rw w-is (walk-is (dest M set) (codedSlot M marks set) (onLast M marks set) (onEnds M marks set) n d w (e .2) (omega (arith, e .1))) in (
+            on-same w w-in
+                ∙ walk-is (dest M set) (codedAt m set) onEnd onStops n d w stops (omega (arith, e .1))
+                ∙ way-end (dest M set) (codedAt m set) onEnd (onLast M marks set) d w (rw (E .here))
+                ∙ sym on,
+            rw (on, length-way (dest M set) (codedAt m set) (onLast M marks set) d w) (omega (arith, e .1)),
+          )
 
 -- ---- the slots of a walk are slots of the store
 module _ (Z : Sizes) (set : ℕ) (set-ok : set < Z .m) (pages : List ℕ) (P : PagesIn (Z .n) (Z .m) pages) where
@@ -163,11 +177,14 @@ module _ (Z : Sizes) (set : ℕ) (set-ok : set < Z .m) (pages : List ℕ) (P : P
 
   pub backward-stored : (list : List ℕ) → ListIn n m list → (b : ℕ) → DataBlock n b → Each Stored (backwardBy m list set pages n b)
   backward-stored list L b =
-      walk-each (λ c. blockOf m (sentBy m list pages c)) (codedAt m set) _ _ Stored (DataBlock n)
+      let to : ℕ → ℕ = sentBy m list pages in
+      walk-each (λ c. blockOf m (to c)) (codedAt m set) _ _ Stored (DataBlock n)
       (λ c h.
-      let sent-lt = L .entry-lt (numberAt m c (entryOf pages c)) (slot-lt m (c - 1) (entryOf pages c) n (omega (arith, h .low, h .high)) (P .page-lt c (h .low) (h .high))) in
-      let r = block-range n m (sentBy m list pages c) sent-lt in
-      (coded-in c h, each-cond Stored (leb (b + 1) (blockOf m (sentBy m list pages c))) _ [] (each-one Stored (sentBy m list pages c + m) (omega (arith, suc-mul n m, add-one n))) (each-none Stored), record { low = r .0; high = r .1 }))
+      let k-in = slot-lt m (c - 1) (entryOf pages c) n (omega (arith, h .low, h .high)) (P .page-lt c (h .low) (h .high)) in
+      let to-lt = L .entry-lt (numberAt m c (entryOf pages c)) k-in in
+      let r = block-range n m (to c) to-lt in
+      let final-in = each-one Stored (to c + m) (omega (arith, suc-mul n m, add-one n)) in
+      (coded-in c h, each-cond Stored (leb (b + 1) (blockOf m (to c))) _ [] final-in (each-none Stored), record { low = r .0; high = r .1 }))
       n b
 
   pub forward-stored : (sources : List ℕ) → BlocksIn n sources → (i : ℕ) → DataBlock n i → Each Stored (forwardBy m set pages sources n i)

@@ -5,6 +5,7 @@ use Rattle.flash.proofs.Kit.{length-set, getD-set-same, getD-set-other}
 use Rattle.flash.specs.Lists.{part}
 use Rattle.flash.specs.declared.sizes.Sizes.{Sizes}
 use Rattle.flash.specs.Geometry.{numberAt}
+use Rattle.flash.proofs.Bounds.{product-le}
 use Rattle.flash.proofs.Comparisons.{lt-cases}
 use Rattle.flash.proofs.Parts.{length-part, part-at}
 use Rattle.split.specs.Split.{sourceBlock, destBlock, setOf}
@@ -44,12 +45,16 @@ module _ (at value : ℕ → ℕ) where
       rw e (getD-set-same before (at count) (value count) 0 (rw (length-filled count table) (inside count (omega arith)))))
       (lt-cases k count)
 
+-- the block of a page number
+pub block-lt : (n m t : ℕ) → 1 ≤ m → t < n * m → t / m < n
+block-lt n m t h l = div-lt-iff-lt-mul h .1 l
+
 -- the block and the page of original k, counted along
 pub record Counts (m k block page : ℕ) : Type 0 where
   pub is : k ≡ block * m + page
   pub page-lt : page < m
 
-module _ (m k block page : ℕ) (C : Counts m k block page) where
+module _ {m k block page : ℕ} (C : Counts m k block page) where
   pub counts-more : (page + 1 ≡ m → ⊥) → Counts m (k + 1) block (page + 1)
   counts-more h = record { is = omega (arith, C .is); page-lt = omega (arith, C .page-lt) }
 
@@ -62,9 +67,8 @@ module _ (m k block page : ℕ) (C : Counts m k block page) where
   pub page-is : page ≡ k % m
   page-is = sym (ap (λ (x : ℕ). x % m) (C .is) ∙ slot-mod m block page (C .page-lt))
 
--- the block of a page number
-pub block-lt : (n m t : ℕ) → 1 ≤ m → t < n * m → t / m < n
-block-lt n m t h l = div-lt-iff-lt-mul h .1 l
+  pub counts-in : (n : ℕ) → k < n * m → n ≤ 64 → m ≤ 64 → (block < 64) × (page < 64)
+  counts-in n h n-high m-high = (omega (arith, block-is, block-lt n m k (omega (arith, C .page-lt)) h), omega (arith, C .page-lt))
 
 -- The page of block b + 1 that is the set's, and the block where it goes, counted from 0.
 abbrev pub pageFrom : Move → (set b : ℕ) → ℕ
@@ -79,6 +83,7 @@ module _ (M : Move) (set b k : ℕ) where
     pub low : b * M .sizes .m ≤ k
     pub high : k ≤ D M set (b + 1)
     pub inside : k < M .sizes .n * M .sizes .m
+    pub small : M .sizes .n * M .sizes .m ≤ 4096
 
   -- it is k
   pub record Found : Type 0 where
@@ -136,13 +141,15 @@ module _ (M : Move) (A : AcceptedMove M) where
         (omega arith, omega arith, D-page M A set set-ok (b + 1) v-in .inside)
 
     pub search-first : (b : ℕ) → b < n → Searched M set b (b * m)
-    search-first b h = let r = D-in b h in record { low = omega arith; high = r .0; inside = omega arith }
+    search-first b h =
+        let r = D-in b h in
+        record { low = omega arith; high = r .0; inside = omega arith; small = product-le n m {c = 64} {d = 64} (A .ranges .n-high) (A .ranges .m-high) }
 
     pub search-next : (b k : ℕ) → b < n → Searched M set b k → (setOf sets k ≡ set → ⊥) → Searched M set b (k + 1)
     search-next b k h S ne =
         let r = D-in b h in
         let here : k ≡ D M set (b + 1) → ⊥ = λ e. ne (ap (setOf sets) e ∙ D-page M A set set-ok (b + 1) (record { low = omega arith; high = omega arith }) .in-set) in
-        record { low = omega (arith, S .low); high = omega (arith, S .high); inside = omega (arith, S .high) }
+        record { low = omega (arith, S .low); high = omega (arith, S .high); inside = omega (arith, S .high); small = S .small }
 
     pub found : (b k : ℕ) → b < n → Searched M set b k → setOf sets k ≡ set → Found M set b k
     unfolding dest destBlock
@@ -179,7 +186,9 @@ module _ (M : Move) (A : AcceptedMove M) where
           let f : goesTo M set (pred M set v - 1) ≡ v - 1 = rw e (ap (λ (x : ℕ). x - 1) (dest-pred M A set set-ok v v-in)) in
           let at = filled-at (goesTo M set) (λ b. b + 1) n row
           (λ j k l r q.
-          let same = dest-same M A set set-ok (j + 1) (k + 1) (record { low = omega arith; high = omega arith }) (record { low = omega arith; high = omega arith }) (omega (arith, goes j (omega arith) .low, goes k r .low)) in
+          let j-in : DataBlock n (j + 1) = record { low = omega arith; high = omega arith } in
+          let k-in : DataBlock n (k + 1) = record { low = omega arith; high = omega arith } in
+          let same = dest-same M A set set-ok (j + 1) (k + 1) j-in k-in (omega (arith, goes j (omega arith) .low, goes k r .low)) in
           omega arith)
           (λ k l. omega (arith, goes k l .high, goes k l .low, A .ranges .n-high))
           (pred M set v - 1) (omega (arith, u-in .low, u-in .high)) in
@@ -220,7 +229,8 @@ module _ (M : Move) (A : AcceptedMove M) where
     unfolding sourceBlock
     pages-tell =
         let low : (k : ℕ) → k < n * m → k / m < n = λ k l. block-lt n m k (A .ranges .m-low) l in
-        let one : (j k : ℕ) → j < n * m → k < n * m → j / m ≡ k / m → setOf sets j ≡ setOf sets k → j ≡ k = λ j k l r f e. same-from n m list sets (A .split) (A .sets-length) j k l r (ap (λ (x : ℕ). x + 1) f) e in
+        let one : (j k : ℕ) → j < n * m → k < n * m → j / m ≡ k / m → setOf sets j ≡ setOf sets k → j ≡ k = λ j k l r f e.
+        same-from n m list sets (A .split) (A .sets-length) j k l r (ap (λ (x : ℕ). x + 1) f) e in
         record {
           room = filled-length (λ k. k / m) (λ k. k % m) low one;
           row = λ set set-ok.
@@ -232,7 +242,8 @@ module _ (M : Move) (A : AcceptedMove M) where
     unfolding sourceBlock destBlock dest
     sources-tell =
         let low : (k : ℕ) → k < n * m → getD list k 0 / m < n = λ k l. block-lt n m (getD list k 0) (A .ranges .m-low) (entry-in M A k l) in
-        let one : (j k : ℕ) → j < n * m → k < n * m → getD list j 0 / m ≡ getD list k 0 / m → setOf sets j ≡ setOf sets k → j ≡ k = λ j k l r f e. same-to n m list sets (A .split) (A .sets-length) (A .list-length) (A .one-to-one) j k l r (ap (λ (x : ℕ). x + 1) f) e in
+        let one : (j k : ℕ) → j < n * m → k < n * m → getD list j 0 / m ≡ getD list k 0 / m → setOf sets j ≡ setOf sets k → j ≡ k = λ j k l r f e.
+        same-to n m list sets (A .split) (A .sets-length) (A .list-length) (A .one-to-one) j k l r (ap (λ (x : ℕ). x + 1) f) e in
         record {
           room = filled-length (λ k. getD list k 0 / m) (λ k. k / m + 1) low one;
           row = λ set set-ok.

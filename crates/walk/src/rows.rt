@@ -1,7 +1,7 @@
 // The rows of a set, and the tables of all sets: the page of each block that is the set's, and the block where the page that goes
 // to a block comes from.
 ghost use mathlib.Core.Path.{_≡_};
-ghost use Prim.Native.Nat.{_+_, _*_, _≤_, _<_};
+ghost use Prim.Native.Nat.{_+_, _*_, _<_};
 ghost use lib.ListN.{length};
 ghost use Rattle.flash.specs.Geometry.{Bounds};
 ghost use Rattle.method.specs.Move.{moveOf, AcceptedMove};

@@ -4,11 +4,12 @@ ghost use mathlib.Core.List.{List};
 ghost use Prim.Native.Nat.{ℕ, _*_, _≤_, _<_};
 ghost use lib.ListN.{length, take};
 ghost use Rattle.flash.specs.inner.Reciprocal.{reciprocalOf};
-ghost use Rattle.method.specs.Move.{moveOf, AcceptedMove};
+ghost use Rattle.method.specs.Move.{Move, moveOf, AcceptedMove};
+ghost use Rattle.method.specs.Cycle.{top};
 ghost use Rattle.method.specs.Read.{readSlots};
 ghost use Rattle.walk.specs.inner.Moments.{Tells};
-ghost use Rattle.walk.specs.inner.Rows.{PagesIn, BlocksIn, ListIn};
-ghost use Rattle.walk.specs.inner.Slots.{slotsLength, StartsWith, backBy, onBy, topBy, forwardBy, backwardBy};
+ghost use Rattle.walk.specs.inner.Rows.{PagesIn, BlocksIn, ListIn, SourcesRow};
+ghost use Rattle.walk.specs.inner.Slots.{slotsLength, StartsWith, backBy, onBy, forwardBy, backwardBy};
 use crate::moment::Moment;
 use crate::rows::ROW;
 use crate::rows::set_rows;
@@ -24,7 +25,8 @@ pub const SLOTS: usize = 65;
 // The top of block v's cycle: the highest block that is met on the way back to v.
 pub fn top_of(n: usize, sources: &[u8], v: usize) -> usize
     requires { ⌜ BlocksIn n (now sources) × (n ≤ 64) × (1 ≤ v) × (v ≤ n) ⌝ }
-    ensures { λ r. ⌜ r ≡ topBy (now (sources .entry)) v n v v ⌝ }
+    ensures { λ r. ⌜ ((M : Move) (set : ℕ) → AcceptedMove M → set < M .sizes .m → M .sizes .n ≡ n → SourcesRow M set (now (sources .entry))
+        → r ≡ top M set v) ⌝ }
 {
     let mut top = v;
     let mut u = v;

@@ -3,7 +3,6 @@ use mathlib.Core.Path.{_≡_}
 use mathlib.Core.List.{List}
 use Prim.Native.Nat.{ℕ, zero, suc, _+_, _-_, _*_, _/_, _%_, _≤_, _<_}
 use lib.ListN.{length, getD, set}
-use Rattle.flash.specs.declared.sizes.Sizes.{Sizes}
 use Rattle.flash.specs.Geometry.{numberAt}
 use Rattle.flash.specs.Lists.{part}
 use Rattle.split.specs.Split.{setOf}
@@ -40,25 +39,22 @@ pub record SetsIn (n m : ℕ) (sets : List ℕ) : Type 0 where
   pub length-is : length sets ≡ n * m
   pub set-lt : (k : ℕ) → k < n * m → getD sets k 0 < m
 
-module _ (M : Move) (set : ℕ) (row : List ℕ) where
-  open Sizes (M .sizes) using (n, m)
+-- the rows of a set, and the tables of all sets
+pub record PagesRow (M : Move) (set : ℕ) (row : List ℕ) : Type 0 where
+  pub fits : PagesIn (M .sizes .n) (M .sizes .m) row
+  pub is : (block : ℕ) → 1 ≤ block → block ≤ M .sizes .n → numberAt (M .sizes .m) block (entryOf row block) ≡ D M set block
 
-  pub record PagesRow : Type 0 where
-    pub fits : PagesIn n m row
-    pub is : (block : ℕ) → 1 ≤ block → block ≤ n → numberAt m block (entryOf row block) ≡ D M set block
+pub record SourcesRow (M : Move) (set : ℕ) (row : List ℕ) : Type 0 where
+  pub fits : BlocksIn (M .sizes .n) row
+  pub is : (block : ℕ) → 1 ≤ block → block ≤ M .sizes .n → entryOf row block ≡ pred M set block
 
-  pub record SourcesRow : Type 0 where
-    pub fits : BlocksIn n row
-    pub is : (block : ℕ) → 1 ≤ block → block ≤ n → entryOf row block ≡ pred M set block
+pub record PagesTable (M : Move) (table : List ℕ) : Type 0 where
+  pub room : length table ≡ tableLength
+  pub row : (set : ℕ) → set < M .sizes .m → PagesRow M set (part rowLength set table)
 
-module _ (M : Move) (table : List ℕ) where
-  pub record PagesTable : Type 0 where
-    pub room : length table ≡ tableLength
-    pub row : (set : ℕ) → set < M .sizes .m → PagesRow M set (part rowLength set table)
-
-  pub record SourcesTable : Type 0 where
-    pub room : length table ≡ tableLength
-    pub row : (set : ℕ) → set < M .sizes .m → SourcesRow M set (part rowLength set table)
+pub record SourcesTable (M : Move) (table : List ℕ) : Type 0 where
+  pub room : length table ≡ tableLength
+  pub row : (set : ℕ) → set < M .sizes .m → SourcesRow M set (part rowLength set table)
 
 -- a list after `count` turns of a loop, where turn k puts `value k` at `at k`
 unfoldable pub filledBy : (at value : ℕ → ℕ) → (count : ℕ) → (table : List ℕ) → List ℕ

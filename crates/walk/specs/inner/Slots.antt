@@ -2,7 +2,7 @@
 use mathlib.Core.Path.{_≡_}
 use mathlib.Core.Bool.{Bool, cond, _||_}
 use mathlib.Core.List.{List, [], _∷_}
-use Prim.Native.Nat.{ℕ, zero, suc, _+_, _-_, _≤_, max}
+use Prim.Native.Nat.{ℕ, zero, suc, _+_, _-_, _≤_}
 use lib.Dec.{eqb, leb}
 use lib.ListN.{length, getD, take, drop}
 use Rattle.flash.specs.Geometry.{slot, blockOf, numberAt}
@@ -53,13 +53,6 @@ onBy m list set pages done stop =
     let next : ℕ → ℕ = λ v. blockOf m (sentBy m list pages v) in
     walkBy next (codedAt m set) (λ v. cond (leb done (next v)) ((sentBy m list pages v + m) ∷ []) [])
     (λ v. leb done (next v) || eqb (next v) stop)
-
--- The highest block that is met on the way back from u until v comes, or `top` if that is higher.
-unfoldable pub topBy : (sources : List ℕ) → (v bound top u : ℕ) → ℕ
-topBy sources v zero top u = top
-topBy sources v (suc bound) top u =
-    let w = entryOf sources u in
-    cond (eqb w v) top (topBy sources v bound (max top w) w)
 
 -- A write in the forward pass, c(i): D(i) is plain, and the rest is D(pred(i)). Where that walk comes round to i, i is the top.
 unfoldable pub forwardBy : (m set : ℕ) → (pages sources : List ℕ) → (n i : ℕ) → List ℕ

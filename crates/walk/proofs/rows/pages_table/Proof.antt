@@ -1,8 +1,8 @@
 -- The table of pages is filled original by original.
-use Rattle.flash.proofs.Kit.{_≡_, refl, sym, ap, _∙_, ⊎-elim, ℕ, _+_, _-_, _*_, _/_, _%_, _≤_, _<_, arith, needs, length, set}
+use Rattle.flash.proofs.Kit.{_≡_, refl, _∙_, ⊎-elim, _+_, _-_, _*_, _≤_, _<_, arith, needs, length, set}
 use Rattle.split.specs.Split.{setOf}
 use Rattle.walk.specs.inner.Rows.{rowLength, filledBy, pagesBy}
-use Rattle.walk.proofs.TableLaws.{filled-more, Counts, counts-more, counts-turn, block-is, page-is, block-lt}
+use Rattle.walk.proofs.TableLaws.{filled-more, Counts, counts-more, counts-turn, counts-in, block-is, page-is}
 use Rattle.walk.proofs.rows.pages_table.Statement.{statement}
 use Rattle.walk.proofs.rows.pages_table.Tie as tie
 
@@ -20,10 +20,7 @@ loop-holds c = (refl, omega arith, record { is = omega arith; page-lt = c .befor
 inside : (c : tie.In-loop Inv-loop μ-loop) → (c .before .loop .block < 64) × (c .before .loop .page < 64)
 inside c =
     let start = c .before .before .before in
-    let z = start .args .sizes in
-    let l = c .before .loop in
-    let k-in : l .k < z .n * z .m = omega (arith, start .pre .1 .length-is) in
-    (omega (arith, block-is (z .m) (l .k) (l .block) (l .page) (l .inv .2), block-lt (z .n) (z .m) (l .k) (start .pre .0 .m-low) k-in, start .pre .0 .n-high), omega (arith, l .inv .2 .page-lt, start .pre .0 .m-high))
+    counts-in (c .before .loop .inv .2) (start .args .sizes .n) (omega (arith, start .pre .1 .length-is)) (start .pre .0 .n-high) (start .pre .0 .m-high)
 
 -- so is its set
 set-lt : (c : tie.After-wide Inv-loop μ-loop) → c .wide .result < 64
@@ -31,18 +28,6 @@ set-lt c =
     let start = c .before .before .before .before .before .before in
     let l = c .before .before .before .before .loop in
     omega (arith, c .wide .ensures, start .pre .1 .set-lt (l .k) (omega (arith, start .pre .1 .length-is)), start .pre .0 .m-high)
-
-add-pages : tie.Need-add-pages Inv-loop μ-loop
-add-pages c = omega (arith, set-lt c, inside (c .before .before .before))
-
-element-write-pages : tie.Need-element-write-pages Inv-loop μ-loop
-element-write-pages c = omega (arith, set-lt c, inside (c .before .before .before))
-
-add-page : tie.Need-add-page Inv-loop μ-loop
-add-page c = omega (arith, inside (c .before .before .before))
-
-add-block : tie.Need-add-block Inv-loop μ-loop
-add-block c = omega (arith, inside (c .before .before .before .before))
 
 -- the table with the entry of original k
 more : (c : tie.After-wide Inv-loop μ-loop)
@@ -53,19 +38,16 @@ unfolding setOf
 more c =
     let a = c .before .before .before .before .before .before .args in
     let l = c .before .before .before .before .loop in
-    let C = l .inv .2 in
-    filled-more (λ k. setOf (a .sets .now) k * rowLength + k / a .sizes .m) (λ k. k % a .sizes .m) (a .pages .now) (l .pages) (l .k) _ _ (l .inv .0)
-    (rw (c .wide .ensures, block-is (a .sizes .m) (l .k) (l .block) (l .page) C)) (c .before .before .narrow .ensures ∙ page-is (a .sizes .m) (l .k) (l .block) (l .page) C)
+    filled-more _ _ (a .pages .now) (l .pages) (l .k) _ _ (l .inv .0) (rw (c .wide .ensures, block-is (l .inv .2))) (c .before .before .narrow .ensures ∙ page-is (l .inv .2))
 
 loop-again : tie.Need-loop-again Inv-loop μ-loop
 loop-again c =
-    let l = c .before .before .before .before .before .loop in
-    let m = c .before .before .before .before .before .before .before .args .sizes .m in (
+    let l = c .before .before .before .before .before .loop in (
       more (c .before),
       omega arith,
       ⊎-elim
-          (λ t. rw (t .1, t .2) (counts-turn m (l .k) (l .block) (l .page) (l .inv .2) (t .0 .taken)))
-          (λ t. rw (t .1, t .2) (counts-more m (l .k) (l .block) (l .page) (l .inv .2) (t .0 .left)))
+          (λ t. rw (t .1, t .2) (counts-turn (l .inv .2) (t .0 .taken)))
+          (λ t. rw (t .1, t .2) (counts-more (l .inv .2) (t .0 .left)))
           (c .if1 .came),
     )
 
@@ -86,10 +68,10 @@ pages-table-spec =
     (λ c. search needs)
     (λ c κs. search needs)
     (λ c. omega (arith, set-lt c))
-    add-pages
-    element-write-pages
-    add-page
-    add-block
+    (λ c. omega (arith, set-lt c, inside (c .before .before .before)))
+    (λ c. omega (arith, set-lt c, inside (c .before .before .before)))
+    (λ c. omega (arith, inside (c .before .before .before)))
+    (λ c. omega (arith, inside (c .before .before .before .before)))
     (λ c. search needs)
     (λ c. search needs)
     loop-again

@@ -1,6 +1,5 @@
 -- The rows of one set are filled block by block.
-use Rattle.flash.proofs.Kit.{_≡_, refl, sym, ap, _∙_, ℕ, _+_, _-_, _*_, _/_, _≤_, _<_, suc-mul, add-one, arith, needs}
-use Rattle.flash.proofs.Bounds.{product-le}
+use Rattle.flash.proofs.Kit.{_≡_, refl, sym, ap, _∙_, ℕ, _+_, _-_, _*_, _/_, _≤_, suc-mul, add-one, arith, needs}
 use Rattle.split.specs.Split.{setOf}
 use Rattle.method.specs.Move.{moveOf}
 use Rattle.method.proofs.cycles.SetCycles.{entry-in}
@@ -38,26 +37,26 @@ shared-slice-read-wide : tie.Need-shared-slice-read-wide Inv-loop2 μ-loop2 Inv-
 shared-slice-read-wide c = omega (arith, c .before .loop2 .inv .inside, c .before .before .before .before .before .before .before .before .pre .0 .sets-length)
 
 add-k : tie.Need-add-k Inv-loop2 μ-loop2 Inv-loop μ-loop
-add-k c =
-    let start = c .before .before .before .before .before .before .before .before .before .before in
-    omega (arith, c .before .before .before .loop2 .inv .inside, product-le (start .args .sizes .n) (start .args .sizes .m) {c = 64} {d = 64} (start .pre .0 .ranges .n-high) (start .pre .0 .ranges .m-high))
-
-loop2-less : tie.Need-loop2-less Inv-loop2 μ-loop2 Inv-loop μ-loop
-loop2-less c = omega (arith, c .before .before .before .loop2 .inv .inside)
+add-k c = let S = c .before .before .before .loop2 .inv in omega (arith, S .inside, S .small)
 
 loop2-again : tie.Need-loop2-again Inv-loop2 μ-loop2 Inv-loop μ-loop
 unfolding setOf
 loop2-again c =
+    let l = c .before .before .before .before .before .before .loop in
     let start = c .before .before .before .before .before .before .before .before .before .before in
-    search-next _ (start .pre .0) (start .args .set) (omega arith) (c .before .before .before .before .before .before .loop .block) (c .before .before .before .loop2 .k) (omega arith) (c .before .before .before .loop2 .inv) (λ e. c .if2 .taken (c .before .wide .ensures ∙ e))
+    let now = c .before .before .before .loop2 in
+    search-next _ (start .pre .0) (start .args .set) (omega arith) (l .block) (now .k) (omega arith) (now .inv) (λ e. c .if2 .taken (c .before .wide .ensures ∙ e))
 
 -- ---- the original that is found
 this : (c : tie.Else2 Inv-loop2 μ-loop2 Inv-loop μ-loop)
-    → (let a = c .before .before .before .before .before .before .before .before .before .before .args in Found (moveOf (a .sizes) (a .list .now) (a .sets .now)) (a .set) (c .before .before .before .before .before .before .loop .block) (c .before .before .before .loop2 .k))
+    → (let a = c .before .before .before .before .before .before .before .before .before .before .args in
+    Found (moveOf (a .sizes) (a .list .now) (a .sets .now)) (a .set) (c .before .before .before .before .before .before .loop .block) (c .before .before .before .loop2 .k))
 unfolding setOf
 this c =
+    let l = c .before .before .before .before .before .before .loop in
     let start = c .before .before .before .before .before .before .before .before .before .before in
-    found _ (start .pre .0) (start .args .set) (omega arith) (c .before .before .before .before .before .before .loop .block) (c .before .before .before .loop2 .k) (omega arith) (c .before .before .before .loop2 .inv) (sym (c .before .wide .ensures) ∙ c .if2 .left)
+    let now = c .before .before .before .loop2 in
+    found _ (start .pre .0) (start .args .set) (omega arith) (l .block) (now .k) (omega arith) (now .inv) (sym (c .before .wide .ensures) ∙ c .if2 .left)
 
 narrow-requires : tie.Need-narrow-requires Inv-loop2 μ-loop2 Inv-loop μ-loop
 narrow-requires c κs = omega (arith, this c .page-lt, c .before .before .before .before .before .before .before .before .before .before .pre .0 .ranges .m-high)
@@ -65,32 +64,31 @@ narrow-requires c κs = omega (arith, this c .page-lt, c .before .before .before
 element-write-pages : tie.Need-element-write-pages Inv-loop2 μ-loop2 Inv-loop μ-loop
 element-write-pages c = omega (arith, c .before .before .before .before .before .before .before .before .before .before .before .pre .0 .ranges .n-high)
 
-small : (c : tie.After-narrow Inv-loop2 μ-loop2 Inv-loop μ-loop) → (let z = c .before .before .before .before .before .before .before .before .before .before .before .args .sizes in z .n * z .m ≤ 4096)
-small c =
-    let start = c .before .before .before .before .before .before .before .before .before .before .before in
-    product-le (start .args .sizes .n) (start .args .sizes .m) {c = 64} {d = 64} (start .pre .0 .ranges .n-high) (start .pre .0 .ranges .m-high)
-
 mul-entry : tie.Need-mul-entry Inv-loop2 μ-loop2 Inv-loop μ-loop
-mul-entry c = omega (arith, c .before .before .before .before .loop2 .inv .inside, small c)
+mul-entry c = let S = c .before .before .before .before .loop2 .inv in omega (arith, S .inside, S .small)
 
 shared-slice-read-entry : tie.Need-shared-slice-read-entry Inv-loop2 μ-loop2 Inv-loop μ-loop
 shared-slice-read-entry c = omega (arith, c .before .before .before .before .before .loop2 .inv .inside, c .before .before .before .before .before .before .before .before .before .before .before .before .pre .0 .list-length)
 
 quotient-requires : tie.Need-quotient-requires Inv-loop2 μ-loop2 Inv-loop μ-loop
 quotient-requires c κs =
+    let now = c .before .before .before .before .before .before .loop2 in
     let start = c .before .before .before .before .before .before .before .before .before .before .before .before .before in
     let R = start .pre .0 .ranges in
-    let to = entry-in _ (start .pre .0) (c .before .before .before .before .before .before .loop2 .k) (c .before .before .before .before .before .before .loop2 .inv .inside) in
-    (omega (arith, c .entry .ensures, to, small (c .before .before)), R .m-low, R .m-high, c .before .before .before .before .before .before .before .before .before .before .reciprocal .ensures)
+    let to = entry-in _ (start .pre .0) (now .k) (now .inv .inside) in
+    (omega (arith, c .entry .ensures, to, now .inv .small), R .m-low, R .m-high, c .before .before .before .before .before .before .before .before .before .before .reciprocal .ensures)
 
 narrow-requires-2 : tie.Need-narrow-requires-2 Inv-loop2 μ-loop2 Inv-loop μ-loop
 narrow-requires-2 c κs = omega (arith, c .before .before .before .before .before .before .before .before .before .before .before .before .before .before .pre .0 .ranges .n-high)
 
 -- ---- the block where it goes
 target : (c : tie.After-quotient Inv-loop2 μ-loop2 Inv-loop μ-loop)
-    → (let a = c .before .before .before .before .before .before .before .before .before .before .before .before .before .before .args in c .quotient .result ≡ goesTo (moveOf (a .sizes) (a .list .now) (a .sets .now)) (a .set) (c .before .before .before .before .before .before .before .before .before .before .loop .block))
+    → (let l = c .before .before .before .before .before .before .before .before .before .before .loop in
+    let a = c .before .before .before .before .before .before .before .before .before .before .before .before .before .before .args in
+    c .quotient .result ≡ goesTo (moveOf (a .sizes) (a .list .now) (a .sets .now)) (a .set) (l .block))
 target c =
-    c .quotient .ensures ∙ ap (λ (x : ℕ). x / c .before .before .before .before .before .before .before .before .before .before .before .before .before .before .args .sizes .m) (c .before .entry .ensures) ∙ this (c .before .before .before .before) .target-is
+    let m = c .before .before .before .before .before .before .before .before .before .before .before .before .before .before .args .sizes .m in
+    c .quotient .ensures ∙ ap (λ (x : ℕ). x / m) (c .before .entry .ensures) ∙ this (c .before .before .before .before) .target-is
 
 element-write-sources : tie.Need-element-write-sources Inv-loop2 μ-loop2 Inv-loop μ-loop
 element-write-sources c =
@@ -98,17 +96,19 @@ element-write-sources c =
     omega (arith, target (c .before), F .target-is, F .target-lt, c .before .before .before .before .before .before .before .before .before .before .before .before .before .before .before .pre .0 .ranges .n-high)
 
 add-start : tie.Need-add-start Inv-loop2 μ-loop2 Inv-loop μ-loop
-add-start c = omega (arith, c .before .before .before .before .before .before .before .before .loop2 .inv .inside, this (c .before .before .before .before .before) .low, small (c .before .before .before .before), c .before .before .before .before .before .before .before .before .before .before .before .before .before .before .before .pre .0 .ranges .m-high)
+add-start c =
+    let S = c .before .before .before .before .before .before .before .before .loop2 .inv in
+    omega (arith, S .inside, S .small, S .low, c .before .before .before .before .before .before .before .before .before .before .before .before .before .before .before .pre .0 .ranges .m-high)
 
 loop-again : tie.Need-loop-again Inv-loop2 μ-loop2 Inv-loop μ-loop
 loop-again c =
-    let a = c .before .before .before .before .before .before .before .before .before .before .before .before .before .before .before .args in
-    let M = moveOf (a .sizes) (a .list .now) (a .sets .now) in
-    let l = c .before .before .before .before .before .before .before .before .before .before .before .loop in
-    let k : ℕ = c .before .before .before .before .before .before .before .before .loop2 .k in
-    let page = c .before .before .before .before .narrow .ensures ∙ ap (λ (x : ℕ). k - x) (l .inv .2) ∙ this (c .before .before .before .before .before) .page-is in (
-      filled-more (λ b. b) (pageFrom M (a .set)) (a .pages .now) (l .pages) (l .block) _ _ (l .inv .0) refl page,
-      filled-more (goesTo M (a .set)) (λ b. b + 1) (a .sources .now) (l .sources) (l .block) _ _ (l .inv .1) (target (c .before)) (c .narrow2 .ensures),
+    let here = c .before .before .before .before .before in
+    let k : ℕ = here .before .before .before .loop2 .k in
+    let l = here .before .before .before .before .before .before .loop in
+    let a = here .before .before .before .before .before .before .before .before .before .before .args in
+    let page = c .before .before .before .before .narrow .ensures ∙ ap (λ (x : ℕ). k - x) (l .inv .2) ∙ this here .page-is in (
+      filled-more _ _ (a .pages .now) (l .pages) (l .block) _ _ (l .inv .0) refl page,
+      filled-more _ _ (a .sources .now) (l .sources) (l .block) _ _ (l .inv .1) (target (c .before)) (c .narrow2 .ensures),
       omega (arith, suc-mul (l .block) (a .sizes .m), add-one (l .block)),
       omega arith,
     )
@@ -135,7 +135,7 @@ set-rows-spec =
     shared-slice-read-wide
     (λ c κs. search needs)
     add-k
-    loop2-less
+    (λ c. omega (arith, c .before .before .before .loop2 .inv .inside))
     loop2-again
     (λ c. omega (arith, this c .low))
     narrow-requires

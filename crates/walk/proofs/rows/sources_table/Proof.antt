@@ -1,9 +1,9 @@
 -- The table of sources is filled original by original.
-use Rattle.flash.proofs.Kit.{_≡_, refl, ap, _∙_, ⊎-elim, ℕ, _+_, _-_, _*_, _/_, _≤_, _<_, arith, needs, length, getD, set}
+use Rattle.flash.proofs.Kit.{_≡_, refl, ap, _∙_, ⊎-elim, ℕ, _+_, _-_, _*_, _≤_, _<_, arith, needs, length, set}
 use Rattle.flash.proofs.Bounds.{product-le}
 use Rattle.split.specs.Split.{setOf}
 use Rattle.walk.specs.inner.Rows.{rowLength, filledBy, sourcesBy}
-use Rattle.walk.proofs.TableLaws.{filled-more, length-filled, Counts, counts-more, counts-turn, block-is, block-lt}
+use Rattle.walk.proofs.TableLaws.{filled-more, length-filled, Counts, counts-more, counts-turn, counts-in, block-is, block-lt}
 use Rattle.walk.proofs.rows.sources_table.Statement.{statement}
 use Rattle.walk.proofs.rows.sources_table.Tie as tie
 
@@ -22,13 +22,9 @@ inside : (c : tie.In-loop Inv-loop μ-loop)
     → (let z = c .before .before .before .before .before .before .args .sizes in let l = c .before .loop in (l .k < z .n * z .m) × (l .block < 64) × (l .page < 64))
 inside c =
     let start = c .before .before .before .before .before .before in
-    let z = start .args .sizes in
-    let l = c .before .loop in
-    let k-in : l .k < z .n * z .m = omega (arith, start .pre .2 .length-is) in (
-      k-in,
-      omega (arith, block-is (z .m) (l .k) (l .block) (l .page) (l .inv .2), block-lt (z .n) (z .m) (l .k) (start .pre .0 .m-low) k-in, start .pre .0 .n-high),
-      omega (arith, l .inv .2 .page-lt, start .pre .0 .m-high),
-    )
+    let k-in : c .before .loop .k < start .args .sizes .n * start .args .sizes .m = omega (arith, start .pre .2 .length-is) in
+    let low = counts-in (c .before .loop .inv .2) (start .args .sizes .n) k-in (start .pre .0 .n-high) (start .pre .0 .m-high) in
+    (k-in, low .0, low .1)
 
 shared-slice-read-entry : tie.Need-shared-slice-read-entry Inv-loop μ-loop
 shared-slice-read-entry c = omega (arith, inside (c .before), c .before .before .before .before .before .before .before .pre .1 .length-is)
@@ -45,12 +41,6 @@ quotient-requires c κs =
     let z = start .args .sizes in
     let B = start .pre .0 in
     (omega (arith, goes c, product-le (z .n) (z .m) {c = 64} {d = 64} (B .n-high) (B .m-high)), B .m-low, B .m-high, c .before .before .before .before .reciprocal .ensures)
-
-add-narrow : tie.Need-add-narrow Inv-loop μ-loop
-add-narrow c = omega (arith, inside (c .before .before .before))
-
-narrow-requires : tie.Need-narrow-requires Inv-loop μ-loop
-narrow-requires c κs = omega (arith, inside (c .before .before .before))
 
 -- the row and the entry in it
 index-lt : (c : tie.After-wide Inv-loop μ-loop) → (c .wide .result < 64) × (c .before .before .before .quotient .result < 64)
@@ -81,19 +71,17 @@ unfolding setOf
 more c =
     let a = c .before .before .before .before .before .before .before .before .before .before .before .before .args in
     let l = c .before .before .before .before .before .before .before .loop in
-    filled-more (λ k. setOf (a .sets .now) k * rowLength + getD (a .list .now) k 0 / a .sizes .m) (λ k. k / a .sizes .m + 1) (a .sources .now) (l .sources) (l .k) _ _ (l .inv .0)
-    (rw (c .wide .ensures, c .before .before .before .quotient .ensures, c .before .before .before .before .entry .ensures))
-    (c .before .before .narrow .ensures ∙ ap (λ (x : ℕ). x + 1) (block-is (a .sizes .m) (l .k) (l .block) (l .page) (l .inv .2)))
+    filled-more _ _ (a .sources .now) (l .sources) (l .k) _ _ (l .inv .0)
+    (rw (c .wide .ensures, c .before .before .before .quotient .ensures, c .before .before .before .before .entry .ensures)) (c .before .before .narrow .ensures ∙ ap (λ (x : ℕ). x + 1) (block-is (l .inv .2)))
 
 loop-again : tie.Need-loop-again Inv-loop μ-loop
 loop-again c =
-    let l = c .before .before .before .before .before .before .before .before .loop in
-    let m = c .before .before .before .before .before .before .before .before .before .before .before .before .before .args .sizes .m in (
+    let l = c .before .before .before .before .before .before .before .before .loop in (
       more (c .before),
       omega arith,
       ⊎-elim
-          (λ t. rw (t .1, t .2) (counts-turn m (l .k) (l .block) (l .page) (l .inv .2) (t .0 .taken)))
-          (λ t. rw (t .1, t .2) (counts-more m (l .k) (l .block) (l .page) (l .inv .2) (t .0 .left)))
+          (λ t. rw (t .1, t .2) (counts-turn (l .inv .2) (t .0 .taken)))
+          (λ t. rw (t .1, t .2) (counts-more (l .inv .2) (t .0 .left)))
           (c .if1 .came),
     )
 
@@ -118,8 +106,8 @@ sources-table-spec =
     shared-slice-read-entry
     (λ c κs. search needs)
     quotient-requires
-    add-narrow
-    narrow-requires
+    (λ c. omega (arith, inside (c .before .before .before)))
+    (λ c κs. omega (arith, inside (c .before .before .before)))
     (λ c. search needs)
     (λ c κs. search needs)
     (λ c. omega (arith, index-lt c))

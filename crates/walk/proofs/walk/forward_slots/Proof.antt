@@ -1,5 +1,5 @@
 -- The slots of a write in the forward pass are those of `forwardBy`.
-use Rattle.flash.proofs.Kit.{_≡_, sym, _∙_, _+_, _*_, _≤_, arith, needs, length-set, eq-eqb, ne-eqb}
+use Rattle.flash.proofs.Kit.{sym, _∙_, _≤_, arith, needs, length-set, eq-eqb, ne-eqb}
 use Rattle.flash.proofs.Bounds.{product-le}
 use Rattle.walk.specs.inner.Slots.{forwardBy}
 use Rattle.walk.proofs.GatherLaws.{count-is, first-put}

@@ -1,8 +1,7 @@
 -- Going back gathers the slots of `backBy`.
-use Rattle.flash.proofs.Kit.{_≡_, refl, sym, ap, _∙_, cond, _||_, [], _∷_, ℕ, _+_, _-_, _*_, _≤_, _<_, arith, needs, eqb, leb, eq-eqb, ne-eqb, le-leb, lt-leb}
+use Rattle.flash.proofs.Kit.{_≡_, refl, ℕ, _+_, _-_, _*_, _≤_, arith, needs, eq-eqb, ne-eqb, le-leb, lt-leb}
 use Rattle.flash.proofs.Bounds.{product-le}
-use Rattle.walk.specs.inner.Rows.{entryOf}
-use Rattle.walk.specs.inner.Slots.{walkBy, plainAt, backBy}
+use Rattle.walk.specs.inner.Slots.{walkBy, backBy}
 use Rattle.walk.proofs.GatherLaws.{Gathered, gather-none, gather-more, gather-all}
 use Rattle.walk.proofs.RowLaws.{walk-turn}
 use Rattle.walk.proofs.walk.go_back.Statement.{statement}

@@ -1,6 +1,5 @@
 -- Going on gathers the slots of `onBy`.
-use Rattle.flash.proofs.Kit.{_≡_, refl, sym, ap, _∙_, cond, _||_, [], _∷_, ℕ, _+_, _-_, _*_, _/_, _≤_, _<_, arith, needs, eqb, leb, getD, eq-eqb, ne-eqb}
-use Rattle.flash.proofs.Kit.{le-leb, lt-leb}
+use Rattle.flash.proofs.Kit.{_≡_, refl, _∙_, ℕ, _+_, _-_, _*_, _≤_, _<_, arith, needs, eq-eqb, ne-eqb, le-leb, lt-leb}
 use Rattle.flash.proofs.Bounds.{product-le}
 use Rattle.split.proofs.SplitLaws.{block-range}
 use Rattle.method.proofs.basics.Indexes.{slot-lt}

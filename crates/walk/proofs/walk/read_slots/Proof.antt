@@ -1,15 +1,15 @@
 -- Read's rules are taken in their order, by the moment in place of the marks.
-use Rattle.flash.proofs.Kit.{_≡_, refl, sym, ap, _∙_, List, ℕ, _+_, _-_, _*_, _/_, _≤_, _<_, arith, needs}
+use Rattle.flash.proofs.Kit.{_≡_, refl, sym, _+_, _*_, _/_, _≤_, _<_, arith, needs}
 use Rattle.flash.specs.Geometry.{blockOf}
 use Rattle.flash.proofs.Bounds.{product-le}
 use Rattle.split.specs.Split.{destBlock, setOf}
 use Rattle.split.proofs.SplitLaws.{block-range}
 use Rattle.method.specs.Move.{moveOf}
+use Rattle.method.specs.Cycle.{top}
 use Rattle.method.proofs.cycles.SetCycles.{set-in, block-in, entry-in}
 use Rattle.method.proofs.cycles.Tops.{top-in}
 use Rattle.walk.proofs.GatherLaws.{gather-none, gather-more, gather-all, with-room}
 use Rattle.walk.proofs.ReadLaws.{read-plain, read-final, read-back, read-on}
-use Rattle.walk.proofs.RoundLaws.{top-by}
 use Rattle.walk.proofs.TableLaws.{list-in}
 use Rattle.walk.proofs.walk.read_slots.Statement.{statement}
 use Rattle.walk.proofs.walk.read_slots.Tie as tie
@@ -69,22 +69,26 @@ set-lt c =
 set-rows-requires : tie.Need-set-rows-requires
 set-rows-requires c κs = (c .before .before .before .before .before .before .before .before .before .before .pre .0, set-lt (c .before .before), refl, refl)
 
-slice-aggregate-top-of : tie.Need-slice-aggregate-top-of
-slice-aggregate-top-of c = sym (c .before .set-rows .ensures .1 .fits .room)
-
 top-of-requires : tie.Need-top-of-requires
 top-of-requires c κs =
-    (c .before .set-rows .ensures .1 .fits, c .before .before .before .before .before .before .before .before .before .before .before .before .pre .0 .ranges .n-high, omega arith, block-high (c .before .before .before .before .before .before .before .before .before .before) .0)
+    let known = c .before .before .before .before .before .before .before .before .before .before in
+    (c .before .set-rows .ensures .1 .fits, known .before .before .pre .0 .ranges .n-high, omega arith, block-high known .0)
 
 -- ---- rules 2 and 3
+tip : (c : tie.After-top-of)
+    → (let w = c .before .before .before .before .before in
+    let a = w .before .before .before .before .before .before .before .before .args in
+    c .top-of .result ≡ top (moveOf (a .sizes) (a .list .now) (a .sets .now)) (w .wide .result) (blockOf (a .sizes .m) (a .k)))
+tip c =
+    let w = c .before .before .before .before .before in
+    c .top-of .ensures _ _ (w .before .before .before .before .before .before .before .before .pre .0) (set-lt w) refl (c .before .before .set-rows .ensures .1)
+
 sub-if3 : tie.Need-sub-if3
 sub-if3 c =
-    let start = c .before .before .before .before .before .before .before .before .before .before .before .before .before in
-    let a = start .args in
-    let M = moveOf (a .sizes) (a .list .now) (a .sets .now) in
-    let v-in = block-in M (start .pre .0) (a .k) (start .pre .1) in
-    let set-ok = set-lt (c .before .before .before .before .before) in
-    omega (arith, c .top-of .ensures, top-by M (start .pre .0) _ set-ok _ v-in _ (c .before .before .set-rows .ensures .1), top-in M (start .pre .0) _ set-ok _ v-in .low)
+    let w = c .before .before .before .before .before in
+    let start = w .before .before .before .before .before .before .before .before in
+    let v-in = block-in _ (start .pre .0) (start .args .k) (start .pre .1) in
+    omega (arith, tip c, top-in _ (start .pre .0) _ (set-lt w) _ v-in .low)
 
 slice-aggregate-go-back : tie.Need-slice-aggregate-go-back
 slice-aggregate-go-back c = sym (c .before .before .before .before .before .before .set-rows .ensures .0 .fits .room)
@@ -94,45 +98,55 @@ slice-aggregate-go-back-2 c = sym (c .before .before .before .before .before .be
 
 go-back-requires : tie.Need-go-back-requires
 go-back-requires c κs =
-    let start = c .before .before .before .before .before .before .before .before .before .before .before .before .before .before .before .before .before .before .before in
-    let rows = c .before .before .before .before .before .before .before .before .set-rows .ensures in
+    let rows = c .before .before .before .before .before .before .before .before in
+    let known = rows .before .before .before .before .before .before .before .before .before in
+    let start = known .before .before in
     let G = start .pre .0 .ranges in
-    ((rows .0 .fits, rows .1 .fits, omega arith, block-high (c .before .before .before .before .before .before .before .before .before .before .before .before .before .before .before .before .before) .0), (G .n-high, G .m-high, set-lt (c .before .before .before .before .before .before .before .before .before .before .before), start .pre .2))
+    let R = rows .set-rows .ensures in
+    ((R .0 .fits, R .1 .fits, omega arith, block-high known .0), (G .n-high, G .m-high, set-lt (rows .before .before .before), start .pre .2))
 
 slice-aggregate-go-on : tie.Need-slice-aggregate-go-on
 slice-aggregate-go-on c = sym (c .before .before .before .before .before .before .before .set-rows .ensures .0 .fits .room)
 
 go-on-requires : tie.Need-go-on-requires
 go-on-requires c κs =
-    let start = c .before .before .before .before .before .before .before .before .before .before .before .before .before .before .before .before .before .before .before in
-    let a = start .args in
+    let rows = c .before .before .before .before .before .before .before .before in
+    let w = rows .before .before .before in
+    let e = w .before .before .before in
+    let start = e .before .before .before .before .before in
     let G = start .pre .0 .ranges in
-    ((c .before .before .before .before .before .before .before .before .set-rows .ensures .0 .fits, list-in (moveOf (a .sizes) (a .list .now) (a .sets .now)) (start .pre .0), omega arith, goes (c .before .before .before .before .before .before .before .before .before .before .before .before .before .before) .1, c .before .before .reciprocal .ensures), (G .n-high, G .m-high, set-lt (c .before .before .before .before .before .before .before .before .before .before .before), start .pre .2))
+    ((rows .set-rows .ensures .0 .fits, list-in _ (start .pre .0), omega arith, goes e .1, c .before .before .reciprocal .ensures), (G .n-high, G .m-high, set-lt w, start .pre .2))
 
 returns-3 : tie.Need-returns-3
 unfolding setOf destBlock
 returns-3 c =
-    let start = c .before .before .before .before .before .before .before .before .before .before .before .before .before .before .before .before .before .before .before .before in
+    let t = c .before .before .before .before .before .before .before in
+    let w = t .before .before .before .before .before in
+    let e = w .before .before .before in
+    let start = e .before .before .before .before .before in
     let a = start .args in
-    let M = moveOf (a .sizes) (a .list .now) (a .sets .now) in
-    let set = c .before .before .before .before .before .before .before .before .before .before .before .before .wide .ensures in
-    let rows = rw set at (c .before .before .before .before .before .before .before .before .before .set-rows .ensures) in
-    let top = c .before .before .before .before .before .before .before .top-of .ensures in
+    let set = w .wide .ensures in
+    let rows = rw set at (t .before .before .set-rows .ensures) in
+    let top = rw set at (tip t) in
+    let not-done = rw (e .entry .ensures) at (w .before .before .if2 .left) in
     λ marks T.
-    let r = read-back M (start .pre .0) marks (a .moment) T (a .k) (start .pre .1) (c .before .before .before .before .before .before .before .before .before .before .before .before .before .before .before .before .before .if1 .left) (rw (c .before .before .before .before .before .before .before .before .before .before .before .before .before .before .before .entry .ensures) at (c .before .before .before .before .before .before .before .before .before .before .before .before .before .before .if2 .left)) _ _ (rows .0) (rows .1) (rw top at (c .before .before .before .before .if3 .taken)) in
+    let r = read-back _ (start .pre .0) marks (a .moment) T (a .k) (start .pre .1) (e .before .before .if1 .left) not-done _ (rows .0) _ (rows .1) (rw top at (c .before .before .before .before .if3 .taken)) in
     with-room _ _ _ _ (rw (set, top) at (c .go-back .ensures)) 1 (r .0) (omega (arith, r .1, start .pre .0 .ranges .n-high))
 
 returns-4 : tie.Need-returns-4
 unfolding setOf destBlock
 returns-4 c =
-    let start = c .before .before .before .before .before .before .before .before .before .before .before .before .before .before .before .before .before .before .before .before in
+    let t = c .before .before .before .before .before .before .before in
+    let w = t .before .before .before .before .before in
+    let e = w .before .before .before in
+    let start = e .before .before .before .before .before in
     let a = start .args in
-    let M = moveOf (a .sizes) (a .list .now) (a .sets .now) in
-    let set = c .before .before .before .before .before .before .before .before .before .before .before .before .wide .ensures in
-    let to = c .before .before .before .before .before .before .before .before .before .before .before .before .before .before .before .entry .ensures in
-    let rows = rw set at (c .before .before .before .before .before .before .before .before .before .set-rows .ensures) in
+    let set = w .wide .ensures in
+    let to = e .entry .ensures in
+    let rows = rw set at (t .before .before .set-rows .ensures) in
+    let top = rw set at (tip t) in
     λ marks T.
-    let r = read-on M (start .pre .0) marks (a .moment) T (a .k) (start .pre .1) (c .before .before .before .before .before .before .before .before .before .before .before .before .before .before .before .before .before .if1 .left) (rw to at (c .before .before .before .before .before .before .before .before .before .before .before .before .before .before .if2 .left)) _ _ (rows .0) (rows .1) (rw (c .before .before .before .before .before .before .before .top-of .ensures) at (c .before .before .before .before .if3 .left)) in
+    let r = read-on _ (start .pre .0) marks (a .moment) T (a .k) (start .pre .1) (e .before .before .if1 .left) (rw to at (w .before .before .if2 .left)) _ (rows .0) (rw top at (c .before .before .before .before .if3 .left)) in
     with-room _ _ _ _ (rw (set, to) at (c .go-on .ensures)) 1 (r .0) (omega (arith, r .1, start .pre .0 .ranges .n-high))
 
 pub read-slots-spec : {M : Type 1} → statement M
@@ -155,7 +169,7 @@ read-slots-spec =
     (λ c. search needs)
     (λ c κs. search needs)
     set-rows-requires
-    slice-aggregate-top-of
+    (λ c. sym (c .before .set-rows .ensures .1 .fits .room))
     top-of-requires
     sub-if3
     slice-aggregate-go-back

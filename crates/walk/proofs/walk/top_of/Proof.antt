@@ -1,46 +1,55 @@
--- The loop takes the highest block of the way back, as `topBy` does.
-use Rattle.flash.proofs.Kit.{_≡_, refl, sym, ap, _∙_, ⊎-elim, ℕ, _≤_, max, arith, needs, eq-eqb, ne-eqb}
-use Rattle.walk.specs.inner.Slots.{topBy}
-use Rattle.walk.proofs.RoundLaws.{top-turn}
+-- The loop takes the highest block of the way back, which is the top.
+use Rattle.flash.proofs.Kit.{_≡_, refl, sym, ap, _∙_, ⊎-elim, inl, inr, ℕ, suc, _+_, _≤_, max, arith, needs}
+use Rattle.method.proofs.cycles.Orbits.{iterate, iterate-last}
+use Rattle.walk.specs.inner.Rows.{entryOf}
+use Rattle.walk.proofs.RoundLaws.{Highest, highest-first, highest-next, highest-top}
 use Rattle.walk.proofs.walk.top_of.Statement.{statement}
 use Rattle.walk.proofs.walk.top_of.Tie as tie
 
 abbrev Inv-loop : tie.InvT-loop
-Inv-loop n sources v top₀ u₀ left₀ top u left = (topBy sources v left top u ≡ topBy sources v n v v) × (1 ≤ u) × (u ≤ n)
+Inv-loop n sources v top₀ u₀ left₀ top u left =
+    (j : ℕ) × (j + left ≡ n) × (u ≡ iterate (entryOf sources) j v) × (1 ≤ u) × (u ≤ n) × Highest (entryOf sources) v j top
 
 abbrev μ-loop : tie.MeasureT-loop
 μ-loop n sources v top₀ u₀ left₀ top u left = left
 
 loop-holds : tie.Need-loop-holds Inv-loop μ-loop
-loop-holds c = (refl, omega arith, omega arith)
+unfolding iterate
+loop-holds c = (0, omega arith, refl, omega arith, omega arith, highest-first _ _)
 
-shared-slice-read-wide : tie.Need-shared-slice-read-wide Inv-loop μ-loop
-shared-slice-read-wide c = omega (arith, c .before .before .before .before .pre .0 .room)
+-- the next block on the way
+next : (c : tie.After-wide Inv-loop μ-loop)
+    → (let a = c .before .before .before .before .before .args in let l = c .before .before .before .loop in c .wide .result ≡ iterate (entryOf (a .sources .now)) (suc (l .inv .0)) (a .v))
+next c =
+    let a = c .before .before .before .before .before .args in
+    let l = c .before .before .before .loop in
+    c .wide .ensures ∙ ap (entryOf (a .sources .now)) (l .inv .2) ∙ sym (iterate-last (entryOf (a .sources .now)) (l .inv .0) (a .v))
 
 returns : tie.Need-returns Inv-loop μ-loop
 returns c =
     let l = c .before .before .before .before .loop in
-    sym (top-turn _ _ (l .left) (l .top) (l .u) (omega arith) ∙ rw (← c .before .wide .ensures, eq-eqb _ _ (c .if1 .taken))) ∙ l .inv .0
+    λ M set A ok e S.
+    highest-top M A set ok _ (record { low = omega arith; high = omega arith }) _ S (l .inv .0) (l .top) (l .inv .5) (inr (sym (next (c .before)) ∙ c .if1 .taken))
 
 loop-again : tie.Need-loop-again Inv-loop μ-loop
 loop-again c =
-    let start = c .before .before .before .before .before .before .before in
+    let S = c .before .before .before .before .before .before .before .pre .0 in
     let l = c .before .before .before .before .before .loop in
     let w = c .before .before .wide in
-    let high : c .if2 .top ≡ max (l .top) (w .result) = ⊎-elim (λ t. omega arith) (λ t. omega arith) (c .if2 .came) in
-    let S = start .pre .0 in (
-      sym (top-turn _ _ (l .left) (l .top) (l .u) (omega arith) ∙ rw (← w .ensures, ne-eqb _ _ (c .before .if1 .left), high)) ∙ l .inv .0,
+    let high : c .if2 .top ≡ max (l .top) (w .result) = ⊎-elim (λ t. omega arith) (λ t. omega arith) (c .if2 .came) in (
+      suc (l .inv .0),
+      omega arith,
+      next (c .before .before),
       rw (w .ensures) (S .low (l .u) (omega arith) (omega arith)),
       rw (w .ensures) (S .high (l .u) (omega arith) (omega arith)),
+      highest-next _ _ (l .inv .0) (l .top) (w .result) (c .if2 .top) (l .inv .5) (next (c .before .before)) high,
     )
 
 returns-2 : tie.Need-returns-2 Inv-loop μ-loop
-unfolding topBy
 returns-2 c =
-    let a = c .before .before .before .args in
     let l = c .before .loop in
-    let none : 0 ≡ l .left = omega arith in
-    ap (λ (x : ℕ). topBy (a .sources .now) (a .v) x (l .top) (l .u)) none ∙ l .inv .0
+    λ M set A ok e S.
+    highest-top M A set ok _ (record { low = omega arith; high = omega arith }) _ S (l .inv .0) (l .top) (l .inv .5) (inl (omega arith))
 
 pub top-of-spec : {M : Type 1} → statement M
 top-of-spec =
@@ -50,7 +59,7 @@ top-of-spec =
     μ-loop
     loop-holds
     (λ c. search needs)
-    shared-slice-read-wide
+    (λ c. omega (arith, c .before .before .before .before .pre .0 .room))
     (λ c κs. search needs)
     returns
     (λ c. search needs)
