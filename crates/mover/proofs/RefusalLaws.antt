@@ -1,5 +1,5 @@
 -- Rows 1 to 4 of the table, and what a move is given that they do not refuse.
-use Rattle.flash.proofs.Kit.{_≡_, refl, _∙_, _≢_, Bool, true, false, cond, not, List, [], _∷_, ℕ, _≤_, arith, eqb, length, ne-eqb}
+use Rattle.flash.proofs.Kit.{_≡_, refl, _∙_, _≢_, Bool, true, false, cond, not, List, [], _∷_, ℕ, arith, eqb, length, ne-eqb}
 use Rattle.flash.specs.Tables.{Row, firstFit, numberOr0, refusal}
 use Rattle.flash.specs.Geometry.{inRange, originalCount}
 use Rattle.flash.specs.Chip.{Chip}

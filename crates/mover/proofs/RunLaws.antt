@@ -1,19 +1,17 @@
 -- A run step by step: what one step more leaves and counts.
-use Rattle.flash.proofs.Kit.{_≡_, refl, sym, ap, _∙_, true, false, cond, List, ℕ, _+_, _-_, _*_, _/_, _≤_, _<_, min, mul-assoc, arith, eqb, lt-ltb}
-use Rattle.flash.proofs.Kit.{le-ltb}
+use Rattle.flash.proofs.Kit.{_≡_, refl, cond, List, ℕ, _+_, _-_, _≤_, _<_, min, arith, eqb}
 use Rattle.flash.specs.declared.sizes.Sizes.{Sizes}
-use Rattle.flash.proofs.Bounds.{product-le}
 use Rattle.method.specs.declared.tally.Tally.{Tally}
 use Rattle.method.specs.Move.{Move, AcceptedMove}
-use Rattle.method.specs.Place.{operationAt, lastPlace, passAt, marksOf}
-use Rattle.method.specs.Step.{runningOf, Running, step, steps, nothingDone, tallied, tallyOf, added, operationsFrom}
+use Rattle.method.specs.Place.{operationAt, lastPlace, marksOf}
+use Rattle.method.specs.Step.{runningOf, Running, step, steps, nothingDone, tallied, tallyOf, operationsFrom}
 use Rattle.method.specs.Answers.{stepsTaken, runCarriedOut}
 use Rattle.method.proofs.basics.AcceptedCalls.{stands-at, at-stands}
 use Rattle.method.proofs.states.StepsAddUp.{steps-add}
-use Rattle.method.proofs.states.StepsLeadOn.{Stood, steps-stand}
-use Rattle.method.proofs.places.Tallies.{tally-next, tally-split, few-tallied}
-use Rattle.places.specs.inner.Place.{isBackward}
-use Rattle.mover.specs.inner.Steps.{mostSteps, FewCounted, Standing}
+use Rattle.method.proofs.states.StepsLeadOn.{steps-stand}
+use Rattle.method.proofs.places.Tallies.{tally-next, few-tallied}
+use Rattle.places.proofs.PlaceLaws.{last-small}
+use Rattle.mover.specs.inner.Steps.{FewCounted, Standing}
 use Rattle.mover.specs.Answers.{ranAs}
 
 pub none-taken : (M : Move) (place : ℕ) (run : Running) → run ≡ steps M 0 place run
@@ -33,42 +31,12 @@ module _ (M : Move) (place i : ℕ) where
       → next ≡ tallied (operationAt (M .sizes) (place + i)) tally → next ≡ tallyOf (operationsFrom (M .sizes) place (i + 1))
   one-counted tally next h e f = rw (tally-next (M .sizes) place i h, ← e) f
 
--- a move has few steps
-pub last-small : (M : Move) → AcceptedMove M → lastPlace (M .sizes) ≤ mostSteps
-unfolding lastPlace
-last-small M G = omega (arith, product-le (2 * M .sizes .n) (M .sizes .m + 1) {c = 128} {d = 65} (omega (arith, G .ranges .n-high)) (omega (arith, G .ranges .m-high)))
-
 pub counts-fit : (M : Move) → AcceptedMove M → (place i : ℕ) (tally : Tally) → place + i ≤ lastPlace (M .sizes)
     → tally ≡ tallyOf (operationsFrom (M .sizes) place i) → FewCounted tally
 counts-fit M G place i tally h e =
-    let few = last-small M G in
+    let few = last-small (M .sizes) (G .ranges) in
     let counts = few-tallied (M .sizes) i place h in
     rw e (record { steps = omega arith; writes = omega arith; erases = omega arith })
-
--- ---- the passes: the forward one is the first half of the places
-half-is : (Z : Sizes) → lastPlace Z / 2 ≡ Z .n * (Z .m + 1)
-unfolding lastPlace
-half-is Z = (let e : 2 * Z .n * (Z .m + 1) ≡ 2 * (Z .n * (Z .m + 1)) = mul-assoc 2 (Z .n) (Z .m + 1) in omega arith)
-
-pub pass-forth : (Z : Sizes) (place : ℕ) → place < lastPlace Z / 2 → isBackward (passAt Z place) ≡ false
-unfolding passAt
-pass-forth Z place h = rw (lt-ltb place (Z .n * (Z .m + 1)) (rw (half-is Z) at h))
-
-pub pass-back : (Z : Sizes) (place : ℕ) → lastPlace Z / 2 ≤ place → isBackward (passAt Z place) ≡ true
-unfolding passAt
-pass-back Z place h = rw (le-ltb place (Z .n * (Z .m + 1)) (rw (half-is Z) at h))
-
--- the steps of both passes, one after the other
-pub both-taken : (M : Move) (place a taken : ℕ) (start run after : Running) → a ≤ taken → run ≡ steps M a place start → after ≡ steps M (taken - a) (place + a) run → after ≡ steps M taken place start
-both-taken M place a taken start run after h e f =
-    let sum : a + (taken - a) ≡ taken = omega arith in
-    f ∙ rw e (sym (steps-add M a (taken - a) place start)) ∙ ap (λ (x : ℕ). steps M x place start) sum
-
-pub both-counted : (Z : Sizes) (place a taken : ℕ) (one two tally : Tally) → a ≤ taken → one ≡ tallyOf (operationsFrom Z place a) → two ≡ tallyOf (operationsFrom Z (place + a) (taken - a))
-    → tally ≡ added one two → tally ≡ tallyOf (operationsFrom Z place taken)
-both-counted Z place a taken one two tally h e f g =
-    let sum : a + (taken - a) ≡ taken = omega arith in
-    g ∙ rw (e, f) (sym (tally-split Z place a (taken - a))) ∙ ap (λ (x : ℕ). tallyOf (operationsFrom Z place x)) sum
 
 -- ---- the answer of a run that is carried out
 pub carried : (M : Move) (store marks work : List ℕ) (place budget last taken : ℕ) (store′ marks′ work′ : List ℕ) (tally : Tally) (finished : ℕ)

@@ -1,5 +1,5 @@
 -- What a step does: what a write sums, and the operation that a place has.
-use Rattle.flash.proofs.Kit.{_≡_, refl, sym, ap, _∙_, subst, ⊎-elim, Bool, true, false, List, ℕ, suc, _+_, _-_, _*_, _≤_, _<_, min, add-one, arith}
+use Rattle.flash.proofs.Kit.{_≡_, refl, sym, ap, _∙_, subst, ⊎-elim, Bool, true, false, cond, List, ℕ, _+_, _-_, _*_, _≤_, _<_, min, add-one, arith}
 use Rattle.flash.proofs.Kit.{getD, take, drop}
 use Rattle.flash.specs.Lists.{part}
 use Rattle.flash.specs.declared.sizes.Sizes.{Sizes}
@@ -12,14 +12,15 @@ use Rattle.split.specs.inner.Rows.{ByDestination}
 use Rattle.method.specs.declared.tally.Tally.{Tally}
 use Rattle.method.specs.Move.{Move, AcceptedMove}
 use Rattle.method.specs.Cycle.{sentTo}
-use Rattle.method.specs.Place.{Pass, forward, backward, Operation, write, erase, markOf, lastPlace, operationAt, passAt, filling, filled, marksOf}
+use Rattle.method.specs.Place.{Pass, backward, Operation, write, erase, markOf, lastPlace, operationAt, passAt, filling, marksOf}
 use Rattle.method.specs.Step.{runningOf, writeSlots, writtenPage, perform, Running, step, tallied}
 use Rattle.method.proofs.basics.Indexes.{clash, slot-lt}
 use Rattle.method.proofs.cycles.SetCycles.{set-in, sent-in, entry-sent}
 use Rattle.method.proofs.places.PagesHeld.{Change, by-write, by-erase, change, MarksAt, marksOf-at}
 use Rattle.method.proofs.places.PlaceShape.{letterAbove, shape-filling}
 use Rattle.method.proofs.places.StepsAtPlaces.{operation-done}
-use Rattle.places.specs.inner.Place.{isBackward, passOf}
+use Rattle.places.specs.inner.Place.{isBackward, passOf, placeOf}
+use Rattle.places.specs.declared.place.Place.{Place}
 use Rattle.walk.specs.inner.Moments.{Tells, momentIn}
 use Rattle.walk.specs.inner.Rows.{rowLength}
 use Rattle.walk.specs.inner.Slots.{SumsAs}
@@ -29,16 +30,12 @@ use Rattle.walk.proofs.MomentLaws.{tells}
 module _ (M : Move) (pass : Pass) (block page : ℕ) (store marks work : List ℕ) where
   open Sizes (M .sizes) using (m, p as P)
 
-  pub written-is : (slots new : List ℕ) (count : ℕ) → new ≡ sum (λ t. part P t store) (take count slots) → SumsAs (take count slots) (writeSlots M pass block page marks)
-      → new ≡ writtenPage M pass block page (record { store = store; marks = marks })
-  unfolding writtenPage pageAt
-  written-is slots new count e S = e ∙ S .sums (λ t. part P t store)
-
-  pub wrote : (new store′ marks′ : List ℕ) (mark : ℕ) → new ≡ writtenPage M pass block page (record { store = store; marks = marks }) → mark ≡ markOf (M .sizes) pass
+  pub wrote : (slots new store′ marks′ : List ℕ) (count mark : ℕ) → new ≡ sum (λ t. part P t store) (take count slots)
+      → SumsAs (take count slots) (writeSlots M pass block page marks) → mark ≡ markOf (M .sizes) pass
       → _≡_ {A = Chip} (record { store = store′; marks = marks′ }) (writePage P (slot m block page) new mark (record { store = store; marks = marks }))
       → runningOf store′ marks′ new ≡ perform M (write pass block page) (runningOf store marks work)
-  unfolding perform
-  wrote new store′ marks′ mark e f g = rw (← e, ← f, ← g)
+  unfolding perform writtenPage pageAt
+  wrote slots new store′ marks′ count mark e S f g = (let w = e ∙ S .sums (λ t. part P t store) in rw (← w, ← f, ← g))
 
 -- the set of the page that goes to a page of a block, and the row of a set in a table
 pub set-sent : (M : Move) → AcceptedMove M → (other : List ℕ) → ByDestination (M .list) (M .sets) other → (b page : ℕ) → 1 ≤ b → b ≤ M .sizes .n → page < M .sizes .m
@@ -72,28 +69,30 @@ unfolding step
 stepped M at op is run after tally next e f = rw is (e, f)
 
 -- ---- what is known where a page is written: the pass, and what the other blocks are full of
-module _ (M : Move) (A : AcceptedMove M) (at : ℕ) (marks : List ℕ) (is : marks ≡ marksOf (M .sizes) at) where
+told-by : (t : Bool) → (isBackward (passOf t) ≡ t) × (letterAbove (passOf t) ≡ cond t 2 0)
+told-by true = (refl, refl)
+told-by false = (refl, refl)
+
+module _ (M : Move) (A : AcceptedMove M) (here : Place) (placed : here ≡ placeOf (M .sizes) (here .at)) (marks : List ℕ) (is : marks ≡ marksOf (M .sizes) (here .at)) where
   open Sizes (M .sizes) using (n, m)
 
+  abbrev at : ℕ
+  at = here .at
+
   pub record WriteKnown (t : Bool) (b : ℕ) : Type 0 where
-    pub pass-is : isBackward (passAt (M .sizes) at) ≡ t
+    pub pass-is : here .backward ≡ t
     pub moment-is : Tells M marks (momentIn t n b (b + 1))
 
-  filling-tells : at ≤ lastPlace (M .sizes) → filled (M .sizes) at < m → (t : Bool) (b : ℕ) → passAt (M .sizes) at ≡ passOf t → filling (M .sizes) at ≡ b → WriteKnown t b
-  filling-tells h room true b p f = record {
-    pass-is = ap isBackward p;
-    moment-is = tells M A marks true b (b + 1) (rw (p, f, ← add-one b) at (shape-filling (M .sizes) at h marks (subst (MarksAt (M .sizes) at) (sym is) (marksOf-at (M .sizes) at)) room));
-  }
-  filling-tells h room false b p f = record {
-    pass-is = ap isBackward p;
-    moment-is = tells M A marks false b (b + 1) (rw (p, f, ← add-one b) at (shape-filling (M .sizes) at h marks (subst (MarksAt (M .sizes) at) (sym is) (marksOf-at (M .sizes) at)) room));
-  }
-
   by-change : at < lastPlace (M .sizes) → Change (M .sizes) at → (t : Bool) (b q : ℕ) → operationAt (M .sizes) at ≡ write (passOf t) b q → WriteKnown t b
+  unfolding placeOf
   by-change h (by-write room op W) t b q e =
       let p : passAt (M .sizes) at ≡ passOf t = cc in
       let f : filling (M .sizes) at ≡ b = cc in
-      filling-tells (omega arith) room t b p f
+      let S = shape-filling (M .sizes) at (omega arith) marks (subst (MarksAt (M .sizes) at) (sym is) (marksOf-at (M .sizes) at)) room in
+      record {
+        pass-is = ap (λ (p : Place). p .backward) placed ∙ ap isBackward p ∙ told-by t .0;
+        moment-is = tells M A marks t b (b + 1) (rw (p, f, ← add-one b, told-by t .1) at S);
+      }
   by-change h (by-erase full op E) t b q e = let z : _≡_ {A = ℕ} 0 1 = cc in absurd (clash z)
 
   pub write-known : (t : Bool) (b q : ℕ) → operationAt (M .sizes) at ≡ write (passOf t) b q → WriteKnown t b

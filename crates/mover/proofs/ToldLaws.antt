@@ -1,5 +1,5 @@
 -- What the marks tell read: the moment, and slots of the store, one at least.
-use Rattle.flash.proofs.Kit.{_≡_, refl, sym, ap, _∙_, inl, inr, Bool, true, false, cond, List, ℕ, _+_, _≤_, _<_, arith, eqb, length}
+use Rattle.flash.proofs.Kit.{_≡_, refl, ap, inl, inr, Bool, true, false, cond, List, ℕ, _+_, _≤_, _<_, arith, eqb, length}
 use Rattle.flash.specs.Geometry.{originalCount, slotCount}
 use Rattle.flash.specs.declared.sizes.Sizes.{Sizes}
 use Rattle.flash.proofs.Bools.{never-both}

@@ -4,4 +4,3 @@ pub mod read;
 mod refusals;
 pub mod run;
 mod step;
-mod tally;

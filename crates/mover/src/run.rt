@@ -1,22 +1,17 @@
 // The run: as many steps as the budget allows.
 ghost use mathlib.Core.Path.{_≡_};
 ghost use mathlib.Core.Bool.{cond};
-ghost use Prim.Native.Nat.{ℕ, _+_, _≤_, _<_, min};
+ghost use Prim.Native.Nat.{min};
 ghost use lib.Dec.{eqb};
 ghost use Rattle.split.specs.Request.{requestOf};
+ghost use Rattle.split.specs.inner.Rows.{ByDestination};
 ghost use Rattle.method.specs.Move.{moveOf, AcceptedMove};
-ghost use Rattle.method.specs.Place.{lastPlace, passAt};
-ghost use Rattle.method.specs.Step as method;
-ghost use Rattle.method.specs.Step.{runningOf, nothingDone, tallyOf, operationsFrom};
+ghost use Rattle.method.specs.Step.{runningOf, nothingDone};
 ghost use Rattle.method.specs.Answers.{stepsTaken, runCarriedOut, runAnswer};
-ghost use Rattle.walk.specs.inner.Rows.{PagesTable};
-ghost use Rattle.places.specs.inner.Place.{isBackward};
 ghost use Rattle.mover.specs.Answers.{ranAs};
-ghost use Rattle.mover.specs.inner.Steps.{OtherTable, PassTables, Standing};
+ghost use Rattle.mover.specs.inner.Steps.{OtherTable, Standing};
 use crate::refusals::move_refusal;
 use crate::step::step;
-use crate::tally::nothing_done;
-use crate::tally::together;
 use flash::quotient::reciprocal;
 use flash::sizes::Sizes;
 use method::tally::Tally;
@@ -36,102 +31,36 @@ pub struct RunResult {
     pub finished: u32,
 }
 
-// Takes so many steps from a place on, in the pass that the tables are for.
-fn take_steps(
+pub fn nothing_done() -> Tally
+    ensures { λ r. ⌜ r ≡ nothingDone ⌝ }
+{
+    Tally {
+        steps: 0,
+        writes: 0,
+        erases: 0,
+    }
+}
+
+// Fills the table that a pass needs besides that of the pages: the sources, or the sets by destination. It may be there already.
+fn fill_other(
     sizes: Sizes,
     list: &[u16],
     sets: &[u8],
-    pages: &[u8],
-    other: &[u8],
-    store: &mut [u8],
-    marks: &mut [u8],
-    work: &mut [u8],
-    place: usize,
-    taken: usize,
-) -> Tally
-    requires { ⌜ Standing (moveOf sizes (now list) (now sets)) (runningOf (now store) (now marks) (now work)) place
-        × (place + taken ≤ lastPlace sizes) ⌝ }
-    requires { ⌜ ((i : ℕ) → i < taken
-        → PassTables (moveOf sizes (now list) (now sets)) (isBackward (passAt sizes (place + i))) (now pages) (now other)) ⌝ }
-    ensures { λ _. ⌜ runningOf (now (store .exit)) (now (marks .exit)) (now (work .exit))
-        ≡ method.steps (moveOf sizes (now (list .entry)) (now (sets .entry))) taken place
-        (runningOf (now (store .entry)) (now (marks .entry)) (now (work .entry))) ⌝ }
-    ensures { λ r. ⌜ r ≡ tallyOf (operationsFrom sizes place taken) ⌝ }
-{
-    let reciprocal = reciprocal(sizes.m);
-    let mut at = Place::new(sizes, place);
-    let mut tally = nothing_done();
-    let mut i = 0;
-    while i < taken {
-        tally = step(
-            sizes,
-            reciprocal,
-            list,
-            sets,
-            pages,
-            other,
-            store,
-            marks,
-            work,
-            at,
-            tally,
-        );
-        at = at.next(sizes);
-        i += 1;
-    }
-    tally
-}
-
-// Fills the table that a pass needs besides that of the pages: the sources, or the sets by destination.
-fn fill_other(sizes: Sizes, list: &[u16], sets: &[u8], backward: bool, other: &mut [u8; TABLE])
-    requires { ⌜ AcceptedMove (moveOf sizes (now list) (now sets)) ⌝ }
+    held: bool,
+    backward: bool,
+    other: &mut [u8; TABLE],
+)
+    requires { ⌜ AcceptedMove (moveOf sizes (now list) (now sets)) × OtherTable (moveOf sizes (now list) (now sets)) held (now other) ⌝ }
     ensures { λ _. ⌜ OtherTable (moveOf sizes (now (list .entry)) (now (sets .entry))) backward (now (other .exit)) ⌝ }
 {
+    if held == backward {
+        return;
+    }
     if backward {
         sets_by_destination(list, sets, other);
         return;
     }
     sources_table(sizes, list, sets, other);
-}
-
-// Takes the steps of a run that are of one pass.
-fn take_pass(
-    sizes: Sizes,
-    list: &[u16],
-    sets: &[u8],
-    pages: &[u8],
-    other: &mut [u8; TABLE],
-    store: &mut [u8],
-    marks: &mut [u8],
-    work: &mut [u8],
-    place: usize,
-    taken: usize,
-    backward: bool,
-) -> Tally
-    requires { ⌜ Standing (moveOf sizes (now list) (now sets)) (runningOf (now store) (now marks) (now work)) place
-        × (place + taken ≤ lastPlace sizes) × PagesTable (moveOf sizes (now list) (now sets)) (now pages) ⌝ }
-    requires { ⌜ ((i : ℕ) → i < taken → isBackward (passAt sizes (place + i)) ≡ backward) ⌝ }
-    ensures { λ _. ⌜ runningOf (now (store .exit)) (now (marks .exit)) (now (work .exit))
-        ≡ method.steps (moveOf sizes (now (list .entry)) (now (sets .entry))) taken place
-        (runningOf (now (store .entry)) (now (marks .entry)) (now (work .entry))) ⌝ }
-    ensures { λ r. ⌜ r ≡ tallyOf (operationsFrom sizes place taken) ⌝ }
-{
-    if taken == 0 {
-        return nothing_done();
-    }
-    fill_other(sizes, list, sets, backward, other);
-    take_steps(
-        sizes,
-        list,
-        sets,
-        pages,
-        other,
-        store,
-        marks,
-        work,
-        place,
-        taken,
-    )
 }
 
 fn smaller(a: usize, b: usize) -> usize
@@ -147,7 +76,7 @@ fn same(a: usize, b: usize) -> u32
     if a == b { 1 } else { 0 }
 }
 
-// Carries out a run that is not refused.
+// Carries out a run that is not refused. The other table holds the sets by destination, as the check of the move left it.
 fn carry_out(
     sizes: Sizes,
     list: &[u16],
@@ -159,7 +88,8 @@ fn carry_out(
     budget: usize,
     other: &mut [u8; TABLE],
 ) -> RunResult
-    requires { ⌜ Standing (moveOf sizes (now list) (now sets)) (runningOf (now store) (now marks) (now work)) place ⌝ }
+    requires { ⌜ Standing (moveOf sizes (now list) (now sets)) (runningOf (now store) (now marks) (now work)) place
+        × ByDestination (now list) (now sets) (now other) ⌝ }
     ensures { λ r. ⌜ ranAs r (now (store .exit)) (now (marks .exit)) (now (work .exit))
         ≡ runCarriedOut (moveOf sizes (now (list .entry)) (now (sets .entry))) (record { store = now (store .entry); marks = now (marks .entry) })
         (now (work .entry)) place (stepsTaken sizes place budget) ⌝ }
@@ -168,35 +98,31 @@ fn carry_out(
     pages_table(sizes, sets, &mut pages);
     let last = last_place(sizes);
     let taken = smaller(budget, last - place);
-    let half = last / 2;
-    let forth = smaller(taken, half - smaller(place, half));
-    let one = take_pass(
-        sizes,
-        list,
-        sets,
-        &pages,
-        other,
-        store,
-        marks,
-        work,
-        place,
-        forth,
-        false,
-    );
-    let two = take_pass(
-        sizes,
-        list,
-        sets,
-        &pages,
-        other,
-        store,
-        marks,
-        work,
-        place + forth,
-        taken - forth,
-        true,
-    );
-    let tally = together(one, two);
+    let reciprocal = reciprocal(sizes.m);
+    let mut at = Place::new(sizes, place);
+    let mut tally = nothing_done();
+    let mut held = true;
+    let mut i = 0;
+    while i < taken {
+        let backward = at.backward;
+        fill_other(sizes, list, sets, held, backward, other);
+        held = backward;
+        tally = step(
+            sizes,
+            reciprocal,
+            list,
+            sets,
+            &pages,
+            other,
+            store,
+            marks,
+            work,
+            at,
+            tally,
+        );
+        at = at.next(sizes);
+        i += 1;
+    }
     let reached = place + taken;
     RunResult {
         number: 0,

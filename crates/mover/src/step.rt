@@ -5,15 +5,13 @@ ghost use Prim.Native.Nat.{_+_, _≤_, _<_};
 ghost use lib.ListN.{length};
 ghost use Rattle.flash.specs.inner.Reciprocal.{reciprocalOf};
 ghost use Rattle.method.specs.Move.{moveOf, AcceptedMove, Lent};
-ghost use Rattle.method.specs.Place.{passAt, marksOf, operationAt, write as writing, markOf};
+ghost use Rattle.method.specs.Place.{marksOf, operationAt};
 ghost use Rattle.method.specs.Step as method;
-ghost use Rattle.method.specs.Step.{runningOf, perform, tallied};
-ghost use Rattle.walk.specs.inner.Moments.{Tells, momentIn};
+ghost use Rattle.method.specs.Step.{runningOf, tallied};
+ghost use Rattle.walk.specs.inner.Rows.{tableLength, PagesTable};
 ghost use Rattle.walk.specs.inner.Slots.{slotsLength};
-ghost use Rattle.places.specs.inner.Place.{isBackward, passOf, placeOf};
-ghost use Rattle.mover.specs.inner.Steps.{PassTables, ForWrite, FewCounted};
-use crate::tally::one_erase;
-use crate::tally::one_write;
+ghost use Rattle.places.specs.inner.Place.{placeOf};
+ghost use Rattle.mover.specs.inner.Steps.{OtherTable, ForWrite, FewCounted};
 use flash::block::erase_block;
 use flash::casts::wide;
 use flash::page::write_page;
@@ -42,11 +40,11 @@ fn write_slots(
     slots: &mut [usize; SLOTS],
 ) -> usize
     requires { ⌜ AcceptedMove (moveOf sizes (now list) (now sets))
-        × PassTables (moveOf sizes (now list) (now sets)) backward (now pages) (now other)
-        × (reciprocal ≡ reciprocalOf (sizes .m))
-        × (length (now slots) ≡ slotsLength) ⌝ }
-    requires { ⌜ (page < sizes .m) × (block ≤ sizes .n) × (backward ≡ true → 1 ≤ block)
-        × (backward ≡ false → block + 1 ≤ sizes .n) ⌝ }
+        × PagesTable (moveOf sizes (now list) (now sets)) (now pages)
+        × OtherTable (moveOf sizes (now list) (now sets)) backward (now other)
+        × (length (now other) ≡ tableLength) ⌝ }
+    requires { ⌜ (reciprocal ≡ reciprocalOf (sizes .m)) × (length (now slots) ≡ slotsLength) × (page < sizes .m) × (block ≤ sizes .n)
+        × (backward ≡ true → 1 ≤ block) × (backward ≡ false → block + 1 ≤ sizes .n) ⌝ }
     ensures { λ r. ⌜ ForWrite (moveOf sizes (now (list .entry)) (now (sets .entry))) backward block page (now (slots .exit)) r ⌝ }
 {
     if backward {
@@ -67,50 +65,6 @@ fn write_slots(
     )
 }
 
-// Writes a page with its mark, by way of the work page.
-fn write(
-    sizes: Sizes,
-    reciprocal: usize,
-    list: &[u16],
-    sets: &[u8],
-    pages: &[u8],
-    other: &[u8],
-    store: &mut [u8],
-    marks: &mut [u8],
-    work: &mut [u8],
-    backward: bool,
-    block: usize,
-    page: usize,
-    mark: u8,
-)
-    requires { ⌜ AcceptedMove (moveOf sizes (now list) (now sets))
-        × PassTables (moveOf sizes (now list) (now sets)) backward (now pages) (now other)
-        × (reciprocal ≡ reciprocalOf (sizes .m))
-        × Lent sizes (record { store = now store; marks = now marks }) (now work)
-        × Tells (moveOf sizes (now list) (now sets)) (now marks) (momentIn backward (sizes .n) block (block + 1)) ⌝ }
-    requires { ⌜ (page < sizes .m) × (block ≤ sizes .n) × (backward ≡ true → 1 ≤ block) × (backward ≡ false → block + 1 ≤ sizes .n)
-        × (mark ≡ markOf sizes (passOf backward)) ⌝ }
-    ensures { λ _. ⌜ runningOf (now (store .exit)) (now (marks .exit)) (now (work .exit))
-        ≡ perform (moveOf sizes (now (list .entry)) (now (sets .entry))) (writing (passOf backward) block page)
-        (runningOf (now (store .entry)) (now (marks .entry)) (now (work .entry))) ⌝ }
-{
-    let mut slots = [0usize; SLOTS];
-    let count = write_slots(
-        sizes,
-        reciprocal,
-        list,
-        sets,
-        pages,
-        other,
-        backward,
-        block,
-        page,
-        &mut slots,
-    );
-    sum_to_page(store, sizes.p, &slots, count, work);
-    write_page(store, marks, sizes.p, block * sizes.m + page, work, mark);
-}
-
 // Does the step at a place, and counts it.
 pub fn step(
     sizes: Sizes,
@@ -123,13 +77,14 @@ pub fn step(
     marks: &mut [u8],
     work: &mut [u8],
     place: Place,
-    tally: Tally,
+    mut tally: Tally,
 ) -> Tally
     requires { ⌜ AcceptedMove (moveOf sizes (now list) (now sets))
-        × PassTables (moveOf sizes (now list) (now sets)) (isBackward (passAt sizes (place .at))) (now pages) (now other)
-        × (reciprocal ≡ reciprocalOf (sizes .m)) ⌝ }
-    requires { ⌜ Lent sizes (record { store = now store; marks = now marks }) (now work) × (now marks ≡ marksOf sizes (place .at))
-        × FewCounted tally × (place ≡ placeOf sizes (place .at)) ⌝ }
+        × PagesTable (moveOf sizes (now list) (now sets)) (now pages)
+        × OtherTable (moveOf sizes (now list) (now sets)) (place .backward) (now other)
+        × (length (now other) ≡ tableLength) ⌝ }
+    requires { ⌜ (reciprocal ≡ reciprocalOf (sizes .m)) × (place ≡ placeOf sizes (place .at)) × (now marks ≡ marksOf sizes (place .at))
+        × Lent sizes (record { store = now store; marks = now marks }) (now work) × FewCounted tally ⌝ }
     ensures { λ _. ⌜ runningOf (now (store .exit)) (now (marks .exit)) (now (work .exit))
         ≡ method.step (moveOf sizes (now (list .entry)) (now (sets .entry))) (place .at)
         (runningOf (now (store .entry)) (now (marks .entry)) (now (work .entry))) ⌝ }
@@ -142,26 +97,31 @@ pub fn step(
             page,
             mark,
         } => {
-            write(
+            let mut slots = [0usize; SLOTS];
+            let count = write_slots(
                 sizes,
                 reciprocal,
                 list,
                 sets,
                 pages,
                 other,
-                store,
-                marks,
-                work,
                 backward,
                 block,
                 page,
-                mark,
+                &mut slots,
             );
-            one_write(tally)
+            // by way of the work page
+            sum_to_page(store, sizes.p, &slots, count, work);
+            write_page(store, marks, sizes.p, block * sizes.m + page, work, mark);
+            tally.steps += 1;
+            tally.writes += 1;
+            tally
         }
         Op::Erase { block } => {
             erase_block(store, marks, sizes.m, sizes.p, block);
-            one_erase(tally)
+            tally.steps += 1;
+            tally.erases += 1;
+            tally
         }
         Op::Done => tally,
     }

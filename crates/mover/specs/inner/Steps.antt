@@ -11,19 +11,14 @@ use Rattle.method.specs.Move.{Move, AcceptedMove, Lent}
 use Rattle.method.specs.Step.{Running, writeSlots}
 use Rattle.method.specs.Answers.{isElsewhere}
 use Rattle.walk.specs.inner.Moments.{Tells, momentIn}
-use Rattle.walk.specs.inner.Rows.{tableLength, PagesTable, SourcesTable}
+use Rattle.walk.specs.inner.Rows.{SourcesTable}
 use Rattle.walk.specs.inner.Slots.{slotsLength, SumsAs}
 use Rattle.places.specs.inner.Place.{passOf}
 
--- The tables that a pass works with: the pages of each set, and the sources or the sets by destination.
+-- The table that a pass needs besides that of the pages: the sources, or the sets by destination.
 pub record OtherTable (M : Move) (isBackward : Bool) (other : List ℕ) : Type 0 where
   pub sources-tell : isBackward ≡ false → SourcesTable M other
   pub sets-tell : isBackward ≡ true → ByDestination (M .list) (M .sets) other
-  pub room : length other ≡ tableLength
-
-pub record PassTables (M : Move) (isBackward : Bool) (pages other : List ℕ) : Type 0 where
-  pub pages-tell : PagesTable M pages
-  pub other-tells : OtherTable M isBackward other
 
 -- what a run goes on from: an accepted move, with store and marks as the place has them
 pub record Standing (M : Move) (run : Running) (place : ℕ) : Type 0 where

@@ -1,151 +1,181 @@
--- A run that passed its tests does the steps that its definition has, pass by pass, and tells them.
-use Rattle.flash.proofs.Kit.{_≡_, refl, sym, _∙_, _+_, _/_, _≤_, _<_, arith, needs}
-use Rattle.method.specs.Move.{moveOf}
+-- A run that passed its tests does the steps that its definition has, each with the tables of its pass, and tells them.
+use Rattle.flash.proofs.Kit.{_≡_, refl, sym, ap, _∙_, _+_, _-_, _≤_, _<_, arith, needs}
+use Rattle.flash.proofs.Bools.{never-both}
+use Rattle.method.specs.Move.{Move, moveOf}
 use Rattle.method.specs.Place.{lastPlace}
-use Rattle.method.specs.Step.{runningOf}
+use Rattle.method.specs.Step.{Running, runningOf, steps, tallyOf, operationsFrom}
 use Rattle.walk.specs.inner.Rows.{PagesTable}
 use Rattle.walk.proofs.TableLaws.{sets-in, pages-tell}
-use Rattle.mover.specs.inner.Steps.{mostSteps}
-use Rattle.mover.proofs.RunLaws.{last-small, counts-fit, pass-forth, pass-back, both-taken, both-counted, carried, goes-on, in-move}
+use Rattle.places.specs.inner.Place.{placeOf}
+use Rattle.places.proofs.PlaceLaws.{last-small, number-is, is-place}
+use Rattle.mover.specs.inner.Steps.{mostSteps, OtherTable, Standing}
+use Rattle.mover.proofs.RunLaws.{none-taken, none-counted, one-taken, one-counted, counts-fit, carried, marks-here, goes-on, in-move}
 use Rattle.mover.proofs.run.carry_out.Statement.{statement}
 use Rattle.mover.proofs.run.carry_out.Tie as tie
 
-pages-table-requires : tie.Need-pages-table-requires
+abbrev Inv-loop : tie.InvT-loop
+Inv-loop sizes list sets store₀ marks₀ work₀ place budget other₀ pages last taken reciprocal at₀ tally₀ held₀ i₀ store marks work other at tally held i =
+    (runningOf store marks work ≡ steps (moveOf sizes list sets) i place (runningOf store₀ marks₀ work₀))
+    × (tally ≡ tallyOf (operationsFrom sizes place i)) × (at ≡ placeOf sizes (place + i)) × (i ≤ taken) × OtherTable (moveOf sizes list sets) held other
+
+abbrev μ-loop : tie.MeasureT-loop
+μ-loop sizes list sets store₀ marks₀ work₀ place budget other₀ pages last taken reciprocal at₀ tally₀ held₀ i₀ store marks work other at tally held i = taken - i
+
+abbrev moved : tie.Start Inv-loop μ-loop → Move
+moved c = moveOf (c .args .sizes) (c .args .list .now) (c .args .sets .now)
+
+abbrev from : tie.Start Inv-loop μ-loop → Running
+from c = runningOf (c .args .store .now) (c .args .marks .now) (c .args .work .now)
+
+pages-table-requires : tie.Need-pages-table-requires Inv-loop μ-loop
 pages-table-requires c κs =
     let start = c .before .before .before .before .before .before in
-    let a = start .args in
-    let A = start .pre .given in
-    (A .ranges, sets-in (moveOf (a .sizes) (a .list .now) (a .sets .now)) A, refl)
+    let A = start .pre .0 .given in
+    (A .ranges, sets-in (moved start) A, refl)
 
-last-place-requires : tie.Need-last-place-requires
+last-place-requires : tie.Need-last-place-requires Inv-loop μ-loop
 last-place-requires c κs = search needs
 
--- the place is one of the move, and the move has few
-placed : (c : tie.Start) → (c .args .place ≤ lastPlace (c .args .sizes)) × (lastPlace (c .args .sizes) ≤ mostSteps)
-placed c =
-    let a = c .args in
-    let M = moveOf (a .sizes) (a .list .now) (a .sets .now) in
-    (in-move M (runningOf (a .store .now) (a .marks .now) (a .work .now)) (a .place) (c .pre), last-small M (c .pre .given))
+sub-smaller : tie.Need-sub-smaller Inv-loop μ-loop
+sub-smaller c =
+    let start = c .before .before .before .before .before .before .before .before in
+    omega (arith, c .last-place .ensures, in-move (moved start) (from start) (start .args .place) (start .pre .0))
 
-sub-smaller : tie.Need-sub-smaller
-sub-smaller c = omega (arith, c .last-place .ensures, placed (c .before .before .before .before .before .before .before .before))
-
-smaller-requires : tie.Need-smaller-requires
+smaller-requires : tie.Need-smaller-requires Inv-loop μ-loop
 smaller-requires c κs = search needs
 
-smaller-requires-2 : tie.Need-smaller-requires-2
-smaller-requires-2 c κs = search needs
+-- the steps are in the move, and the move has few
+placed : (c : tie.After-smaller Inv-loop μ-loop)
+    → (let a = c .before .before .before .before .before .before .before .before .before .args in
+    (a .place + c .smaller .result ≤ lastPlace (a .sizes)) × (lastPlace (a .sizes) ≤ mostSteps))
+placed c =
+    let start = c .before .before .before .before .before .before .before .before .before in
+    (omega (arith, c .smaller .ensures, c .before .last-place .ensures, in-move (moved start) (from start) (start .args .place) (start .pre .0)), last-small (start .args .sizes) (start .pre .0 .given .ranges))
 
-sub-smaller-2 : tie.Need-sub-smaller-2
-sub-smaller-2 c = search needs
-
-smaller-requires-3 : tie.Need-smaller-requires-3
-smaller-requires-3 c κs = search needs
-
--- how the steps are parted: the forward ones end with the first half of the places, and the others start behind it
-parted : (c : tie.After-smaller3)
-    → (let a = c .before .before .before .before .before .before .before .before .before .before .before .args in
-    let taken = c .before .before .smaller .result in
-    let forth = c .smaller3 .result in
-    (forth ≤ taken) × (a .place + taken ≤ lastPlace (a .sizes)) × (0 < forth → a .place + forth ≤ lastPlace (a .sizes) / 2) × (forth < taken → lastPlace (a .sizes) / 2 ≤ a .place + forth))
-parted c =
-    let at = placed (c .before .before .before .before .before .before .before .before .before .before .before) in
-    let last = c .before .before .before .last-place .ensures in
-    let one = c .before .before .smaller .ensures in
-    let two = c .before .smaller2 .ensures in
-    let three = c .smaller3 .ensures in
-    (omega arith, omega arith, λ h. omega arith, λ h. omega arith)
-
-pages-are : (c : tie.After-pages-table) → (let a = c .before .before .before .before .before .before .before .args in PagesTable (moveOf (a .sizes) (a .list .now) (a .sets .now)) (c .pages-table .last .1 .1 .0))
+pages-are : (c : tie.After-pages-table Inv-loop μ-loop) → PagesTable (moved (c .before .before .before .before .before .before .before)) (c .pages-table .last .1 .1 .0)
 pages-are c =
     let start = c .before .before .before .before .before .before .before in
+    rw (c .pages-table .ensures, start .pre .0 .given .sets-length) (pages-tell (moved start) (start .pre .0 .given) _ refl)
+
+reciprocal-requires : tie.Need-reciprocal-requires Inv-loop μ-loop
+reciprocal-requires c κs = c .before .before .before .before .before .before .before .before .before .pre .0 .given .ranges .m-low
+
+new-requires : tie.Need-new-requires Inv-loop μ-loop
+new-requires c κs = (c .before .before .before .before .before .before .before .before .before .before .pre .0 .given .ranges, omega (arith, placed (c .before)))
+
+nothing-done-requires : tie.Need-nothing-done-requires Inv-loop μ-loop
+nothing-done-requires c κs = search needs
+
+loop-holds : tie.Need-loop-holds Inv-loop μ-loop
+loop-holds c =
+    let start = c .before .before .before .before .before .before .before .before .before .before .before .before in
     let a = start .args in
-    rw (c .pages-table .ensures, start .pre .given .sets-length) (pages-tell (moveOf (a .sizes) (a .list .now) (a .sets .now)) (start .pre .given) _ refl)
+    let first : a .place ≡ a .place + 0 = omega arith in
+    (none-taken _ _ _, c .nothing-done .ensures ∙ none-counted _ _, c .before .new .ensures ∙ ap (placeOf (a .sizes)) first, omega arith, record { sources-tell = λ e. absurd (never-both refl e); sets-tell = λ e. start .pre .1 })
 
-slice-aggregate-take-pass : tie.Need-slice-aggregate-take-pass
-slice-aggregate-take-pass c = sym (pages-are (c .before .before .before .before .before) .room)
+-- where the loop stands
+abbrev start : tie.At-loop Inv-loop μ-loop → tie.Start Inv-loop μ-loop
+start c = c .before .before .before .before .before .before .before .before .before .before .before .before .before
 
-take-pass-requires : tie.Need-take-pass-requires
-take-pass-requires c κs =
-    let start = c .before .before .before .before .before .before .before .before .before .before .before .before .before .before .before .before in
-    let P = parted (c .before .before .before .before .before) in
-    ((start .pre, omega (arith, P .0, P .1), pages-are (c .before .before .before .before .before .before .before .before .before)), λ i h. pass-forth (start .args .sizes) (start .args .place + i) (omega (arith, P .2 (omega arith))))
+standing : (c : tie.At-loop Inv-loop μ-loop) → (let l = c .loop in Standing (moved (start c)) (runningOf (l .store) (l .marks) (l .work)) (start c .args .place + l .i))
+standing c = goes-on (moved (start c)) (from (start c)) (start c .args .place) (start c .pre .0) (c .loop .i) (omega (arith, placed (c .before .before .before .before))) _ (c .loop .inv .0)
 
-slice-aggregate-take-pass-2 : tie.Need-slice-aggregate-take-pass-2
-slice-aggregate-take-pass-2 c = sym (pages-are (c .before .before .before .before .before .before .before .before .before .before .before .before .before .before .before .before .before) .room)
+inside : (c : tie.In-loop Inv-loop μ-loop) → (let s = start (c .before) in (s .args .place + c .before .loop .i < lastPlace (s .args .sizes)) × (lastPlace (s .args .sizes) ≤ mostSteps))
+inside c = (let P = placed (c .before .before .before .before .before) in (omega arith, P .1))
 
-add-take-pass : tie.Need-add-take-pass
-add-take-pass c = (let P = parted (c .before .before .before .before .before .before .before .before .before .before .before .before .before .before .before .before .before) in omega (arith, P .0, P .1, placed (c .before .before .before .before .before .before .before .before .before .before .before .before .before .before .before .before .before .before .before .before .before .before .before .before .before .before .before .before)))
+fill-other-requires : tie.Need-fill-other-requires Inv-loop μ-loop
+fill-other-requires c κs = (start (c .before .before) .pre .0 .given, c .before .before .loop .inv .4)
 
-sub-take-pass : tie.Need-sub-take-pass
-sub-take-pass c = parted (c .before .before .before .before .before .before .before .before .before .before .before .before .before .before .before .before .before) .0
+slice-aggregate-step : tie.Need-slice-aggregate-step Inv-loop μ-loop
+slice-aggregate-step c = sym (pages-are (c .before .before .before .before .before .before .before .before .before .before) .room)
 
-take-pass-requires-2 : tie.Need-take-pass-requires-2
-take-pass-requires-2 c κs =
-    let start = c .before .before .before .before .before .before .before .before .before .before .before .before .before .before .before .before .before .before .before .before .before .before .before .before .before .before .before .before in
-    let a = start .args in
-    let P = parted (c .before .before .before .before .before .before .before .before .before .before .before .before .before .before .before .before .before) in
-    let forth = c .before .before .before .before .before .before .before .before .before .before .before .before .before .before .before .before .before .smaller3 .result in
-    let S = goes-on (moveOf (a .sizes) (a .list .now) (a .sets .now)) (runningOf (a .store .now) (a .marks .now) (a .work .now)) (a .place) (start .pre) forth (omega (arith, P .0, P .1)) _ (c .before .before .before .before .before .before .before .before .before .before .before .take-pass .ensures .0) in
-    ((S, omega (arith, P .0, P .1), pages-are (c .before .before .before .before .before .before .before .before .before .before .before .before .before .before .before .before .before .before .before .before .before)), λ i h. pass-back (a .sizes) (a .place + forth + i) (omega (arith, P .3 (omega arith))))
+step-requires : tie.Need-step-requires Inv-loop μ-loop
+step-requires c κs =
+    let loop = c .before .before .before .before .before .before .before .before .before in
+    let l = loop .loop in
+    let s = start loop in
+    let S = standing loop in
+    let at = number-is _ _ _ (l .inv .2) in (
+      (S .given, pages-are (loop .before .before .before .before .before .before), c .before .before .before .before .before .before .fill-other .ensures, omega (arith, c .before .before .before .step-arg2 .given)),
+      (loop .before .before .before .reciprocal .ensures, is-place _ _ _ (l .inv .2), rw at (marks-here _ _ _ S), S .lent, counts-fit (moved s) (S .given) (s .args .place) (l .i) (l .tally) (omega (arith, inside (c .before .before .before .before .before .before .before .before))) (l .inv .1)),
+    )
 
-together-requires : tie.Need-together-requires
-together-requires c κs =
-    let start = c .before .before .before .before .before .before .before .before .before .before .before .before .before .before .before .before .before .before .before .before .before .before .before .before .before .before .before .before .before .before .before .before .before .before .before in
-    let a = start .args in
-    let M = moveOf (a .sizes) (a .list .now) (a .sets .now) in
-    let P = parted (c .before .before .before .before .before .before .before .before .before .before .before .before .before .before .before .before .before .before .before .before .before .before .before .before) in
-    let forth = c .before .before .before .before .before .before .before .before .before .before .before .before .before .before .before .before .before .before .before .before .before .before .before .before .smaller3 .result in
-    (counts-fit M (start .pre .given) (a .place) forth _ (omega (arith, P .0, P .1)) (c .before .before .before .before .before .before .before .before .before .before .before .before .before .before .before .before .before .before .take-pass .ensures .1), counts-fit M (start .pre .given) (a .place + forth) _ _ (omega (arith, P .0, P .1)) (c .before .before .before .before .before .before .take-pass2 .ensures .1))
+next-requires : tie.Need-next-requires Inv-loop μ-loop
+next-requires c κs =
+    let inner = c .before .before .before .before .before .before .before .before .before .before .before .before .before .before .before in
+    let l = inner .before .loop in
+    (start (inner .before) .pre .0 .given .ranges, is-place _ _ _ (l .inv .2), rw (number-is _ _ _ (l .inv .2)) (inside inner .0))
 
--- the place reached is in the move
-add-reached : tie.Need-add-reached
-add-reached c = omega (arith, parted (c .before .before .before .before .before .before .before .before .before .before .before .before .before .before .before .before .before .before .before .before .before .before .before .before .before) .1, placed (c .before .before .before .before .before .before .before .before .before .before .before .before .before .before .before .before .before .before .before .before .before .before .before .before .before .before .before .before .before .before .before .before .before .before .before .before))
+add-i : tie.Need-add-i Inv-loop μ-loop
+add-i c = omega (arith, inside (c .before .before .before .before .before .before .before .before .before .before .before .before .before .before .before .before))
 
-cast-t41 : tie.Need-cast-t41
-cast-t41 c = omega (arith, parted (c .before .before .before .before .before .before .before .before .before .before .before .before .before .before .before .before .before .before .before .before .before .before .before .before .before) .1, placed (c .before .before .before .before .before .before .before .before .before .before .before .before .before .before .before .before .before .before .before .before .before .before .before .before .before .before .before .before .before .before .before .before .before .before .before .before))
+loop-less : tie.Need-loop-less Inv-loop μ-loop
+loop-less c = search needs
 
-same-requires : tie.Need-same-requires
+loop-again : tie.Need-loop-again Inv-loop μ-loop
+loop-again c =
+    let step = c .before .before .before .before .before .before .before in
+    let inner = step .before .before .before .before .before .before .before .before .before in
+    let s = start (inner .before) in
+    let l = inner .before .loop in
+    let at : l .at .at ≡ s .args .place + l .i = number-is _ _ _ (l .inv .2) in
+    let on : l .at .at + 1 ≡ s .args .place + (l .i + 1) = omega arith in (
+      one-taken (moved s) (s .args .place) (l .i) _ _ _ (l .inv .0) (rw at at (step .step .ensures .0)),
+      one-counted (moved s) (s .args .place) (l .i) _ _ (inside inner .0) (l .inv .1) (rw at at (step .step .ensures .1)),
+      c .next .ensures ∙ ap (placeOf (s .args .sizes)) on,
+      omega arith,
+      step .before .before .before .before .before .before .before .fill-other .ensures,
+    )
+
+-- where it ends: the place reached is in the move
+add-reached : tie.Need-add-reached Inv-loop μ-loop
+add-reached c = omega (arith, placed (c .before .before .before .before .before))
+
+cast-t36 : tie.Need-cast-t36 Inv-loop μ-loop
+cast-t36 c = omega (arith, placed (c .before .before .before .before .before))
+
+same-requires : tie.Need-same-requires Inv-loop μ-loop
 same-requires c κs = search needs
 
-same-length : tie.Need-same-length
-same-length c = search needs
+same-length : tie.Need-same-length Inv-loop μ-loop
+same-length c = (let l = c .before .before in standing l .lent .store-length ∙ sym (start l .pre .0 .lent .store-length))
 
-same-length-2 : tie.Need-same-length-2
-same-length-2 c = search needs
+same-length-2 : tie.Need-same-length-2 Inv-loop μ-loop
+same-length-2 c = (let l = c .before .before in standing l .lent .marks-length ∙ sym (start l .pre .0 .lent .marks-length))
 
-same-length-3 : tie.Need-same-length-3
-same-length-3 c = search needs
+same-length-3 : tie.Need-same-length-3 Inv-loop μ-loop
+same-length-3 c = (let l = c .before .before in standing l .lent .work-length ∙ sym (start l .pre .0 .lent .work-length))
 
-returns : tie.Need-returns
+returns : tie.Need-returns Inv-loop μ-loop
 returns c =
-    let a = c .before .before .before .before .before .before .before .before .before .before .before .before .before .before .before .before .before .before .before .before .before .before .before .before .before .before .before .before .before .before .before .before .before .before .before .before .before .args in
-    let one = c .before .before .before .before .before .before .before .before .before .before .before .before .before .before .before .before .before .before .before .before .take-pass .ensures in
-    let two = c .before .before .before .before .before .before .before .before .take-pass2 .ensures in
-    let P = parted (c .before .before .before .before .before .before .before .before .before .before .before .before .before .before .before .before .before .before .before .before .before .before .before .before .before .before) in
-    carried _ _ _ _ _ _ _ _ _ _ _ _ _ (c .before .before .before .before .before .before .before .before .before .before .before .before .before .before .before .before .before .before .before .before .before .before .before .before .before .before .before .before .before .last-place .ensures) (c .before .before .before .before .before .before .before .before .before .before .before .before .before .before .before .before .before .before .before .before .before .before .before .before .before .before .before .before .smaller .ensures) (c .same .ensures)
-    (both-taken _ (a .place) _ _ _ _ _ (P .0) (one .0) (two .0)) (both-counted _ (a .place) _ _ _ _ _ (P .0) (one .1) (two .1) (c .before .together .ensures))
+    let l = c .before .before in
+    let smaller = l .before .before .before .before in
+    let all : l .loop .i ≡ smaller .smaller .result = omega arith in
+    carried _ _ _ _ _ _ _ _ _ _ _ _ _ (smaller .before .last-place .ensures) (smaller .smaller .ensures) (c .same .ensures) (rw all at (l .loop .inv .0)) (rw all at (l .loop .inv .1))
 
 pub carry-out-spec : {M : Type 1} → statement M
 carry-out-spec =
     tie.close
     (tie.spec
+    Inv-loop
+    μ-loop
     pages-table-requires
     last-place-requires
     sub-smaller
     smaller-requires
-    smaller-requires-2
-    sub-smaller-2
-    smaller-requires-3
-    slice-aggregate-take-pass
-    take-pass-requires
-    slice-aggregate-take-pass-2
-    add-take-pass
-    sub-take-pass
-    take-pass-requires-2
-    together-requires
+    reciprocal-requires
+    new-requires
+    nothing-done-requires
+    loop-holds
+    fill-other-requires
+    slice-aggregate-step
+    step-requires
+    next-requires
+    add-i
+    loop-less
+    loop-again
     add-reached
-    cast-t41
+    cast-t36
     same-requires
     same-length
     same-length-2

@@ -1,67 +1,111 @@
 -- A step does the operation of its place, and counts it.
-use Rattle.flash.proofs.Kit.{refl, sym, _∙_, needs}
-use Rattle.method.specs.Move.{moveOf}
-use Rattle.flash.proofs.Bounds.{block-in-marks, block-in-store}
+use Rattle.flash.proofs.Kit.{refl, sym, _∙_, subst, Bool, _+_, _*_, _≤_, _<_, arith, needs}
+use Rattle.flash.proofs.Bounds.{slot-in-marks, slot-in-store, block-in-marks, block-in-store, product-le}
+use Rattle.method.specs.Move.{Move, moveOf}
 use Rattle.method.specs.Place.{write, erase, done, operationAt}
 use Rattle.method.specs.Step.{perform, tallied}
 use Rattle.places.specs.inner.Place.{passOf}
 use Rattle.places.proofs.StepTold.{IsWrite, is-write, IsErase, is-erase, told-done}
-use Rattle.mover.proofs.StepLaws.{erased, stepped, write-known}
+use Rattle.mover.specs.inner.Steps.{OtherTable}
+use Rattle.mover.proofs.StepLaws.{wrote, erased, stepped, WriteKnown, write-known}
 use Rattle.mover.proofs.step.step.Statement.{statement}
 use Rattle.mover.proofs.step.step.Tie as tie
+
+abbrev start : tie.After-operation → tie.Start
+start c = c .before .before .before .before .before .before .before .before
+
+abbrev moved : tie.Start → Move
+moved c = moveOf (c .args .sizes) (c .args .list .now) (c .args .sets .now)
 
 operation-requires : tie.Need-operation-requires
 operation-requires c κs = search needs
 
+-- ---- the step at the place is this write
 enum-known-backward : tie.Need-enum-known-backward
 enum-known-backward c = search needs
 
--- the step at the place is this write
-writes : (c : tie.After-write-arg3)
-    → (let a = c .before .before .before .before .before .before .before .before .before .before .before .before .before .before .args in
-    let v = c .before .before .before .before .backward .given .0 in
+writes : (c : tie.After-backward) → (let a = start (c .before .before) .args in let v = c .backward .given .0 in
     IsWrite (a .sizes) (a .place .at) (v .0) (v .1 .0) (v .1 .1 .0) (v .1 .1 .1 .0))
-writes c =
-    let a = c .before .before .before .before .before .before .before .before .before .before .before .before .before .before .args in
-    is-write (a .sizes) (a .place .at) _ _ _ _ (sym (c .before .before .before .before .backward .given .1) ∙ c .before .before .before .before .before .before .operation .ensures)
+writes c = (let a = start (c .before .before) .args in is-write (a .sizes) (a .place .at) _ _ _ _ (sym (c .backward .given .1) ∙ c .before .before .operation .ensures))
 
-write-requires : tie.Need-write-requires
-write-requires c κs =
-    let start = c .before .before .before .before .before .before .before .before .before .before .before .before .before .before in
-    let a = start .args in
-    let v = c .before .before .before .before .backward .given .0 in
-    let A = start .pre .0 .0 in
+known : (c : tie.After-backward) → (let s = start (c .before .before) in let v = c .backward .given .0 in
+    WriteKnown (moved s) (s .pre .0 .0) (s .args .place) (s .pre .1 .1) (s .args .marks .now) (s .pre .1 .2) (v .0) (v .1 .0))
+known c =
+    let s = start (c .before .before) in
+    let v = c .backward .given .0 in
+    write-known (moved s) (s .pre .0 .0) (s .args .place) (s .pre .1 .1) (s .args .marks .now) (s .pre .1 .2) (v .0) (v .1 .0) (v .1 .1 .0) (writes c .is)
+
+-- its slot is one of the store
+inside : (c : tie.After-backward) → (let Z = start (c .before .before) .args .sizes in let v = c .backward .given .0 in
+    (v .1 .0 * Z .m + v .1 .1 .0 < (Z .n + 1) * Z .m) × ((Z .n + 1) * Z .m ≤ 4160))
+inside c =
+    let s = start (c .before .before) in
+    let Z = s .args .sizes in
+    let v = c .backward .given .0 in
+    let R = s .pre .0 .0 .ranges in
     let W = writes c in
-    let K = write-known (moveOf (a .sizes) (a .list .now) (a .sets .now)) A (a .place .at) (a .marks .now) (start .pre .1 .1) (v .0) (v .1 .0) (v .1 .1 .0) (W .is) in
-    ((A, rw (K .pass-is) at (start .pre .0 .1), start .pre .0 .2, start .pre .1 .0, K .moment-is), (W .page-in, W .block-in, W .low, W .high, W .mark-is))
+    (slot-in-marks Z (v .1 .0) (v .1 .1 .0) (W .block-in) (W .page-in), product-le (Z .n + 1) (Z .m) {c = 65} {d = 64} (omega (arith, R .n-high)) (R .m-high))
 
-one-write-requires : tie.Need-one-write-requires
-one-write-requires c κs = search needs
+write-slots-requires : tie.Need-write-slots-requires
+write-slots-requires c κs =
+    let s = start (c .before .before .before .before) in
+    let W = writes (c .before .before) in
+    ((s .pre .0 .0, s .pre .0 .1, subst (λ (t : Bool). OtherTable (moved s) t (s .args .other .now)) (known (c .before .before) .pass-is) (s .pre .0 .2), s .pre .0 .3), (s .pre .1 .0, refl, W .page-in, W .block-in, W .low, W .high))
 
+slice-aggregate-sum-to-page : tie.Need-slice-aggregate-sum-to-page
+slice-aggregate-sum-to-page c = sym (c .before .before .write-slots .ensures .room)
+
+sum-to-page-requires : tie.Need-sum-to-page-requires
+sum-to-page-requires c κs =
+    let s = start (c .before .before .before .before .before .before .before .before) in
+    let L = s .pre .1 .3 in
+    let F = c .before .before .before .write-slots .ensures in
+    ((F .some, omega (arith, F .few, F .room), omega (arith, F .few), L .work-length), (λ j h. rw (L .store-length) (slot-in-store (s .args .sizes) _ (F .stored j h))))
+
+mul-write-page : tie.Need-mul-write-page
+mul-write-page c = omega (arith, inside (c .before .before .before .before .before .before .before .before .before .before .before .before))
+
+add-write-page : tie.Need-add-write-page
+add-write-page c = omega (arith, inside (c .before .before .before .before .before .before .before .before .before .before .before .before))
+
+write-page-requires : tie.Need-write-page-requires
+write-page-requires c κs =
+    let b = c .before .before .before .before .before .before .before .before .before .before .before .before .before in
+    let s = start (b .before .before) in
+    let L = s .pre .1 .3 in
+    let i = inside b .0 in
+    (rw (L .store-length) (slot-in-store (s .args .sizes) _ i), (rw (L .marks-length) i, omega (arith, c .before .before .before .before .before .before .sum-to-page .kept .1 .1 .1 .1 .0, L .work-length)))
+
+add-tally : tie.Need-add-tally
+add-tally c = omega (arith, start (c .before .before .before .before .before .before .before .before .before .before .before .before .before .before .before .before .before .before .before .before .before) .pre .1 .4)
+
+add-tally-2 : tie.Need-add-tally-2
+add-tally-2 c = omega (arith, start (c .before .before .before .before .before .before .before .before .before .before .before .before .before .before .before .before .before .before .before .before .before .before) .pre .1 .4)
+
+-- ---- it is this erase
 enum-known-block : tie.Need-enum-known-block
 enum-known-block c = search needs
 
--- the step at the place is this erase
-erases : (c : tie.After-erase-block-arg2)
-    → (let a = c .before .before .before .before .before .before .before .before .before .before .before .before .before .args in
-    IsErase (a .sizes) (a .place .at) (c .before .before .before .block .given .0 .0))
-erases c =
-    let a = c .before .before .before .before .before .before .before .before .before .before .before .before .before .args in
-    is-erase (a .sizes) (a .place .at) _ (sym (c .before .before .before .block .given .1) ∙ c .before .before .before .before .before .operation .ensures)
+erases : (c : tie.After-block) → (let a = start (c .before .before) .args in IsErase (a .sizes) (a .place .at) (c .block .given .0 .0))
+erases c = (let a = start (c .before .before) .args in is-erase (a .sizes) (a .place .at) _ (sym (c .block .given .1) ∙ c .before .before .operation .ensures))
 
 erase-block-requires : tie.Need-erase-block-requires
 erase-block-requires c κs =
-    let start = c .before .before .before .before .before .before .before .before .before .before .before .before .before in
-    let Z = (start .args .sizes) in
-    let E = erases c in
-    (rw (start .pre .1 .0 .store-length) (block-in-store Z (c .before .before .before .block .given .0 .0) (E .block-in)), rw (start .pre .1 .0 .marks-length) (block-in-marks Z (c .before .before .before .block .given .0 .0) (E .block-in)))
+    let b = c .before .before .before in
+    let s = start (b .before .before) in
+    let L = s .pre .1 .3 in
+    (rw (L .store-length) (block-in-store (s .args .sizes) (b .block .given .0 .0) (erases b .block-in)), rw (L .marks-length) (block-in-marks (s .args .sizes) (b .block .given .0 .0) (erases b .block-in)))
 
-one-erase-requires : tie.Need-one-erase-requires
-one-erase-requires c κs = search needs
+add-tally-3 : tie.Need-add-tally-3
+add-tally-3 c = search needs
+
+add-tally-4 : tie.Need-add-tally-4
+add-tally-4 c = search needs
 
 enum-told : tie.Need-enum-told
 enum-told c = search needs
 
+-- ---- what is left
 same-length : tie.Need-same-length
 same-length c = search needs
 
@@ -74,11 +118,15 @@ same-length-3 c = search needs
 returns : tie.Need-returns
 unfolding tallied
 returns c =
-    let d = c .before in
-    let a = d .before .before .before .before .before .before .before .before .before .before .before .before .before .before .before .before .before .before .before .before .before .args in
-    let v = d .before .before .before .before .before .before .before .before .before .before .before .backward .given .0 in
-    stepped (moveOf (a .sizes) (a .list .now) (a .sets .now)) (a .place .at) (write (passOf (v .0)) (v .1 .0) (v .1 .1 .0)) (writes (d .before .before .before .before .before .before .before) .is) _ _ _ _
-    (d .before .before .before .before .before .before .write .ensures) (c .one-write .ensures)
+    let w = c .before .before .before .before .before .before .before .before .before .before .before .before .before .before .before .before .before in
+    let b = w .before .before .before in
+    let s = start (b .before .before) in
+    let a = s .args in
+    let v = b .backward .given .0 in
+    let W = writes b in
+    stepped (moved s) (a .place .at) (write (passOf (v .0)) (v .1 .0) (v .1 .1 .0)) (W .is) _ _ _ _
+    (wrote (moved s) (passOf (v .0)) (v .1 .0) (v .1 .1 .0) (a .store .now) (a .marks .now) (a .work .now) _ _ _ _ (w .write-slots .result) (v .1 .1 .1 .0) (c .before .before .before .before .before .before .before .before .before .before .before .before .before .sum-to-page .ensures)
+    (w .write-slots .ensures .sums (a .marks .now) (known b .moment-is)) (W .mark-is) (c .before .before .before .before .before .before .write-page .ensures)) refl
 
 same-length-4 : tie.Need-same-length-4
 same-length-4 c = search needs
@@ -89,19 +137,19 @@ same-length-5 c = search needs
 returns-2 : tie.Need-returns-2
 unfolding tallied
 returns-2 c =
-    let d = c .before in
-    let a = d .before .before .before .before .before .before .before .before .before .before .before .before .before .before .before .before .before .before .args in
-    let M = moveOf (a .sizes) (a .list .now) (a .sets .now) in
-    let b = d .before .before .before .before .before .before .before .before .block .given .0 .0 in
-    stepped M (a .place .at) (erase b) (erases (d .before .before .before .before .before) .is) _ _ _ _
-    (erased M b (a .store .now) (a .marks .now) (a .work .now) _ _ (d .before .before .before .before .erase-block .ensures)) (c .one-erase .ensures)
+    let e = c .before .before .before .before .before .before in
+    let b = e .before .before .before .before in
+    let s = start (b .before .before) in
+    let a = s .args in
+    let block = b .block .given .0 .0 in
+    stepped (moved s) (a .place .at) (erase block) (erases b .is) _ _ _ _ (erased (moved s) block (a .store .now) (a .marks .now) (a .work .now) _ _ (e .erase-block .ensures)) refl
 
 returns-3 : tie.Need-returns-3
 unfolding perform tallied
 returns-3 c =
-    let a = c .before .before .before .before .before .before .before .before .before .before .args in
-    let Z = a .sizes in
-    stepped (moveOf Z (a .list .now) (a .sets .now)) (a .place .at) done (told-done Z (operationAt Z (a .place .at)) (sym (c .enum-told .given .1) ∙ c .before .before .operation .ensures)) _ _ _ _ refl refl
+    let s = start (c .before .before) in
+    let Z = s .args .sizes in
+    stepped (moved s) (s .args .place .at) done (told-done Z (operationAt Z (s .args .place .at)) (sym (c .enum-told .given .1) ∙ c .before .before .operation .ensures)) _ _ _ _ refl refl
 
 pub step-spec : {M : Type 1} → statement M
 step-spec =
@@ -109,11 +157,18 @@ step-spec =
     (tie.spec
     operation-requires
     enum-known-backward
-    write-requires
-    one-write-requires
+    write-slots-requires
+    slice-aggregate-sum-to-page
+    sum-to-page-requires
+    mul-write-page
+    add-write-page
+    write-page-requires
+    add-tally
+    add-tally-2
     enum-known-block
     erase-block-requires
-    one-erase-requires
+    add-tally-3
+    add-tally-4
     enum-told
     same-length
     same-length-2

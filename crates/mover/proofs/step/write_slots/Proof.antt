@@ -1,5 +1,5 @@
 -- The slots of a write, gathered by the rows of its set in the pass that it is of.
-use Rattle.flash.proofs.Kit.{_≡_, refl, _∙_, ℕ, _+_, _-_, _*_, _≤_, _<_, arith, needs}
+use Rattle.flash.proofs.Kit.{_≡_, refl, _∙_, _+_, _-_, _*_, _≤_, _<_, arith, needs}
 use Rattle.flash.specs.Geometry.{slotCount, numberAt}
 use Rattle.flash.proofs.Bounds.{product-le}
 use Rattle.split.specs.Split.{setOf}
@@ -17,14 +17,14 @@ use Rattle.mover.proofs.step.write_slots.Tie as tie
 
 -- ---- backward
 sub-wide : tie.Need-sub-wide
-sub-wide c = c .before .before .before .before .before .pre .1 .2 (c .if1 .taken)
+sub-wide c = c .before .before .before .before .before .pre .1 .4 (c .if1 .taken)
 
 -- the page number is one of the list
 inside : (c : tie.After-struct-known) → (let a = c .before .before .before .before .before .before .args in ((a .block - 1) * a .sizes .m + a .page < a .sizes .n * a .sizes .m) × (a .sizes .n * a .sizes .m ≤ 4096))
 inside c =
     let start = c .before .before .before .before .before .before in
     let a = start .args in
-    let low = start .pre .1 .2 (c .before .if1 .taken) in
+    let low = start .pre .1 .4 (c .before .if1 .taken) in
     let G = start .pre .0 .0 .ranges in
     (slot-lt (a .sizes .m) (a .block - 1) (a .page) (a .sizes .n) (omega arith) (omega arith), product-le (a .sizes .n) (a .sizes .m) {c = 64} {d = 64} (G .n-high) (G .m-high))
 
@@ -35,7 +35,7 @@ add-wide : tie.Need-add-wide
 add-wide c = omega (arith, inside c)
 
 shared-slice-read-wide : tie.Need-shared-slice-read-wide
-shared-slice-read-wide c = omega (arith, inside (c .before), c .before .before .before .before .before .before .before .pre .0 .1 .other-tells .room)
+shared-slice-read-wide c = omega (arith, inside (c .before), c .before .before .before .before .before .before .before .pre .0 .3)
 
 wide-requires : tie.Need-wide-requires
 wide-requires c κs = search needs
@@ -46,7 +46,7 @@ sent c =
     let start = c .before .before .before .before .before .before .before .before in
     let a = start .args in
     let yes = c .before .before .before .if1 .taken in
-    let s = set-sent (moveOf (a .sizes) (a .list .now) (a .sets .now)) (start .pre .0 .0) (a .other .now) (start .pre .0 .1 .other-tells .sets-tell yes) (a .block) (a .page) (start .pre .1 .2 yes) (start .pre .1 .1) (start .pre .1 .0) in
+    let s = set-sent (moveOf (a .sizes) (a .list .now) (a .sets .now)) (start .pre .0 .0) (a .other .now) (start .pre .0 .2 .sets-tell yes) (a .block) (a .page) (start .pre .1 .4 yes) (start .pre .1 .3) (start .pre .1 .2) in
     (c .wide .ensures ∙ s .0, rw (c .wide .ensures) (s .1), start .pre .0 .0 .ranges .m-high)
 
 mul-row : tie.Need-mul-row
@@ -62,7 +62,7 @@ part-backward-slots-start : tie.Need-part-backward-slots-start
 part-backward-slots-start c = search needs
 
 part-backward-slots-end : tie.Need-part-backward-slots-end
-part-backward-slots-end c = omega (arith, sent c, c .before .before .before .before .before .before .before .before .pre .0 .1 .pages-tell .room)
+part-backward-slots-end c = omega (arith, sent c, c .before .before .before .before .before .before .before .before .pre .0 .1 .room)
 
 backward-slots-requires : tie.Need-backward-slots-requires
 backward-slots-requires c κs =
@@ -70,8 +70,8 @@ backward-slots-requires c κs =
     let a = start .args in
     let A = start .pre .0 .0 in
     let s = sent (c .before .before) in
-    let P = start .pre .0 .1 .pages-tell .row (c .before .before .wide .result) (s .1) .fits in
-    ((rw (row-is (a .pages .now) (c .before .before .wide .result)) P, list-in (moveOf (a .sizes) (a .list .now) (a .sets .now)) A, start .pre .1 .2 (c .before .before .before .before .before .if1 .taken), start .pre .1 .1, start .pre .0 .2), (A .ranges .n-high, A .ranges .m-high, s .1, start .pre .0 .3))
+    let P = start .pre .0 .1 .row (c .before .before .wide .result) (s .1) .fits in
+    ((rw (row-is (a .pages .now) (c .before .before .wide .result)) P, list-in (moveOf (a .sizes) (a .list .now) (a .sets .now)) A, start .pre .1 .4 (c .before .before .before .before .before .if1 .taken), start .pre .1 .3, start .pre .1 .0), (A .ranges .n-high, A .ranges .m-high, s .1, start .pre .1 .1))
 
 returns : tie.Need-returns
 returns c =
@@ -82,16 +82,16 @@ returns c =
     let set = c .before .before .before .wide .result in
     let s = sent (c .before .before .before) in
     let yes = c .before .before .before .before .before .before .if1 .taken in
-    let low = start .pre .1 .2 yes in
-    let P = start .pre .0 .1 .pages-tell .row set (s .1) in
+    let low = start .pre .1 .4 yes in
+    let P = start .pre .0 .1 .row set (s .1) in
     let G = rw (row-is (a .pages .now) set) at (c .backward-slots .ensures) in
     rw yes
     (record {
-      sums = λ marks T. rw (G .0) (backward-slots M A (a .block) (a .page) set low (start .pre .1 .1) (start .pre .1 .0) (s .0) _ P marks T);
+      sums = λ marks T. rw (G .0) (backward-slots M A (a .block) (a .page) set low (start .pre .1 .3) (start .pre .1 .2) (s .0) _ P marks T);
       some = G .1;
       few = G .2;
       room = G .3;
-      stored = among (λ t. t < slotCount (a .sizes)) _ _ (c .backward-slots .result) (omega (arith, G .2, G .3)) (G .0) (backward-stored (a .sizes) set (s .1) _ (P .fits) (a .list .now) (list-in M A) (a .block) (record { low = low; high = start .pre .1 .1 }));
+      stored = among (λ t. t < slotCount (a .sizes)) _ _ (c .backward-slots .result) (omega (arith, G .2, G .3)) (G .0) (backward-stored (a .sizes) set (s .1) _ (P .fits) (a .list .now) (list-in M A) (a .block) (record { low = low; high = start .pre .1 .3 }));
     })
 
 -- ---- forward
@@ -127,9 +127,8 @@ forward-slots-requires c κs =
     let start = c .before .before .before .before .before .before .before .before in
     let a = start .args in
     let A = start .pre .0 .0 in
-    let T = start .pre .0 .1 in
     let no = c .before .before .before .if1 .left in
-    ((rw (row-is (a .pages .now) (a .page)) (T .pages-tell .row (a .page) (start .pre .1 .0) .fits), rw (row-is (a .other .now) (a .page)) (T .other-tells .sources-tell no .row (a .page) (start .pre .1 .0) .fits), omega arith, start .pre .1 .3 no), (A .ranges .n-high, A .ranges .m-high, start .pre .1 .0, start .pre .0 .3))
+    ((rw (row-is (a .pages .now) (a .page)) (start .pre .0 .1 .row (a .page) (start .pre .1 .2) .fits), rw (row-is (a .other .now) (a .page)) (start .pre .0 .2 .sources-tell no .row (a .page) (start .pre .1 .2) .fits), omega arith, start .pre .1 .5 no), (A .ranges .n-high, A .ranges .m-high, start .pre .1 .2, start .pre .1 .1))
 
 returns-2 : tie.Need-returns-2
 returns-2 c =
@@ -137,19 +136,18 @@ returns-2 c =
     let a = start .args in
     let A = start .pre .0 .0 in
     let M = moveOf (a .sizes) (a .list .now) (a .sets .now) in
-    let T = start .pre .0 .1 in
     let no = c .before .before .before .before .if1 .left in
-    let high = start .pre .1 .3 no in
-    let P = T .pages-tell .row (a .page) (start .pre .1 .0) in
-    let S = T .other-tells .sources-tell no .row (a .page) (start .pre .1 .0) in
+    let high = start .pre .1 .5 no in
+    let P = start .pre .0 .1 .row (a .page) (start .pre .1 .2) in
+    let S = start .pre .0 .2 .sources-tell no .row (a .page) (start .pre .1 .2) in
     let G = rw (row-is (a .pages .now) (a .page), row-is (a .other .now) (a .page)) at (c .forward-slots .ensures) in
     rw no
     (record {
-      sums = λ marks T. rw (G .0, forward-slots M A (a .page) (start .pre .1 .0) _ _ P S (a .block) (omega arith) marks T) (record { number = refl; sums = λ page. refl });
+      sums = λ marks T. rw (G .0, forward-slots M A (a .page) (start .pre .1 .2) _ _ P S (a .block) (omega arith) marks T) (record { number = refl; sums = λ page. refl });
       some = G .1;
       few = G .2;
       room = G .3;
-      stored = among (λ t. t < slotCount (a .sizes)) _ _ (c .forward-slots .result) (omega (arith, G .2, G .3)) (G .0) (forward-stored (a .sizes) (a .page) (start .pre .1 .0) _ (P .fits) _ (S .fits) (a .block + 1) (record { low = omega arith; high = high }));
+      stored = among (λ t. t < slotCount (a .sizes)) _ _ (c .forward-slots .result) (omega (arith, G .2, G .3)) (G .0) (forward-stored (a .sizes) (a .page) (start .pre .1 .2) _ (P .fits) _ (S .fits) (a .block + 1) (record { low = omega arith; high = high }));
     })
 
 pub write-slots-spec : {M : Type 1} → statement M
