@@ -2,5 +2,4 @@
 pub mod StepLaws
 pub mod RunLaws
 pub mod RefusalLaws
-pub mod ToldLaws
 pub mod ReadLaws
