@@ -1,17 +1,16 @@
 -- A run step by step: what one step more leaves and counts.
-use Rattle.flash.proofs.Kit.{_≡_, refl, cond, List, ℕ, _+_, _-_, _≤_, _<_, min, arith, eqb}
+use Rattle.flash.proofs.Kit.{_≡_, refl, false, cond, List, ℕ, _+_, _-_, _≤_, _<_, min, arith, eqb}
 use Rattle.flash.specs.declared.sizes.Sizes.{Sizes}
 use Rattle.method.specs.declared.tally.Tally.{Tally}
-use Rattle.method.specs.Move.{Move, AcceptedMove}
-use Rattle.method.specs.Place.{operationAt, lastPlace, marksOf}
+use Rattle.method.specs.Move.{Move, AcceptedMove, Lent}
+use Rattle.method.specs.Place.{operationAt, lastPlace}
 use Rattle.method.specs.Step.{runningOf, Running, step, steps, nothingDone, tallied, tallyOf, operationsFrom}
-use Rattle.method.specs.Answers.{stepsTaken, runCarriedOut}
-use Rattle.method.proofs.basics.AcceptedCalls.{stands-at, at-stands}
+use Rattle.method.specs.Answers.{isElsewhere, stepsTaken, runCarriedOut}
+use Rattle.method.proofs.basics.AcceptedCalls.{stands-at}
 use Rattle.method.proofs.states.StepsAddUp.{steps-add}
-use Rattle.method.proofs.states.StepsLeadOn.{steps-stand}
+use Rattle.method.proofs.states.StepsLeadOn.{Stood, steps-stand}
 use Rattle.method.proofs.places.Tallies.{tally-next, few-tallied}
 use Rattle.places.proofs.PlaceLaws.{last-small}
-use Rattle.mover.specs.inner.Steps.{FewCounted, Standing}
 use Rattle.mover.specs.Answers.{ranAs}
 
 pub none-taken : (M : Move) (place : ℕ) (run : Running) → run ≡ steps M 0 place run
@@ -32,11 +31,11 @@ module _ (M : Move) (place i : ℕ) where
   one-counted tally next h e f = rw (tally-next (M .sizes) place i h, ← e) f
 
 pub counts-fit : (M : Move) → AcceptedMove M → (place i : ℕ) (tally : Tally) → place + i ≤ lastPlace (M .sizes)
-    → tally ≡ tallyOf (operationsFrom (M .sizes) place i) → FewCounted tally
-counts-fit M G place i tally h e =
-    let few = last-small (M .sizes) (G .ranges) in
+    → tally ≡ tallyOf (operationsFrom (M .sizes) place i) → (tally .steps ≤ 8320) × (tally .writes ≤ 8320) × (tally .erases ≤ 8320)
+counts-fit M A place i tally h e =
+    let few = last-small (M .sizes) (A .ranges) in
     let counts = few-tallied (M .sizes) i place h in
-    rw e (record { steps = omega arith; writes = omega arith; erases = omega arith })
+    rw e (omega arith, omega arith, omega arith)
 
 -- ---- the answer of a run that is carried out
 pub carried : (M : Move) (store marks work : List ℕ) (place budget last taken : ℕ) (store′ marks′ work′ : List ℕ) (tally : Tally) (finished : ℕ)
@@ -50,14 +49,6 @@ carried M store marks work place budget last taken store′ marks′ work′ tal
     rw (← t, ← e, g, C, ← L)
 
 -- ---- a run that goes on: after so many steps it stands at the place that they lead to
-pub marks-here : (M : Move) (run : Running) (place : ℕ) → Standing M run place → run .chip .marks ≡ marksOf (M .sizes) place
-marks-here M run place S = stands-at (M .sizes) (run .chip) place (S .here) .marks
-
-pub goes-on : (M : Move) (run : Running) (place : ℕ) → Standing M run place → (i : ℕ) → place + i ≤ lastPlace (M .sizes) → (after : Running) → after ≡ steps M i place run → Standing M after (place + i)
-goes-on M run place S i h after e =
-    let A = S .given in
-    let stood = steps-stand M A i place run h (record { lent = S .lent; stands = stands-at (M .sizes) (run .chip) place (S .here) }) in
-    rw e (record { given = A; lent = stood .lent; here = at-stands (M .sizes) (steps M i place run .chip) (place + i) (stood .stands) })
-
-pub in-move : (M : Move) (run : Running) (place : ℕ) → Standing M run place → place ≤ lastPlace (M .sizes)
-in-move M run place S = stands-at (M .sizes) (run .chip) place (S .here) .inside
+pub goes-on : (M : Move) (A : AcceptedMove M) (run : Running) (place : ℕ) → Lent (M .sizes) (run .chip) (run .work) → isElsewhere (M .sizes) (run .chip) place ≡ false
+    → (i : ℕ) → place + i ≤ lastPlace (M .sizes) → (after : Running) → after ≡ steps M i place run → Stood M A after (place + i)
+goes-on M A run place L here i h after e = rw e (steps-stand M A i place run h (record { lent = L; stands = stands-at (M .sizes) (run .chip) place here }))

@@ -1,2 +1,2 @@
--- How the code works inside: the tables of a pass, how much is counted at most. Nothing here has to be believed.
+-- How the code works inside: the tables of a pass, and the move that they tell. Nothing here has to be believed.
 pub mod Steps

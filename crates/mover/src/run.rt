@@ -1,15 +1,15 @@
 // The run: as many steps as the budget allows.
 ghost use mathlib.Core.Path.{_≡_};
-ghost use mathlib.Core.Bool.{cond};
+ghost use mathlib.Core.Bool.{false, cond};
 ghost use Prim.Native.Nat.{min};
 ghost use lib.Dec.{eqb};
 ghost use Rattle.split.specs.Request.{requestOf};
 ghost use Rattle.split.specs.inner.Rows.{ByDestination};
-ghost use Rattle.method.specs.Move.{moveOf, AcceptedMove};
-ghost use Rattle.method.specs.Step.{runningOf, nothingDone};
-ghost use Rattle.method.specs.Answers.{stepsTaken, runCarriedOut, runAnswer};
+ghost use Rattle.method.specs.Move.{moveOf, AcceptedMove, Lent};
+ghost use Rattle.method.specs.Step.{nothingDone};
+ghost use Rattle.method.specs.Answers.{isElsewhere, stepsTaken, runCarriedOut, runAnswer};
 ghost use Rattle.mover.specs.Answers.{ranAs};
-ghost use Rattle.mover.specs.inner.Steps.{OtherTable, Standing};
+ghost use Rattle.mover.specs.inner.Steps.{OtherTable};
 use crate::refusals::move_refusal;
 use crate::step::step;
 use flash::quotient::reciprocal;
@@ -88,8 +88,8 @@ fn carry_out(
     budget: usize,
     other: &mut [u8; TABLE],
 ) -> RunResult
-    requires { ⌜ Standing (moveOf sizes (now list) (now sets)) (runningOf (now store) (now marks) (now work)) place
-        × ByDestination (now list) (now sets) (now other) ⌝ }
+    requires { ⌜ AcceptedMove (moveOf sizes (now list) (now sets)) × Lent sizes (record { store = now store; marks = now marks }) (now work)
+        × (isElsewhere sizes (record { store = now store; marks = now marks }) place ≡ false) × ByDestination (now list) (now sets) (now other) ⌝ }
     ensures { λ r. ⌜ ranAs r (now (store .exit)) (now (marks .exit)) (now (work .exit))
         ≡ runCarriedOut (moveOf sizes (now (list .entry)) (now (sets .entry))) (record { store = now (store .entry); marks = now (marks .entry) })
         (now (work .entry)) place (stepsTaken sizes place budget) ⌝ }
@@ -111,7 +111,6 @@ fn carry_out(
             sizes,
             reciprocal,
             list,
-            sets,
             &pages,
             other,
             store,

@@ -1,17 +1,20 @@
 // One step of the move: a page is written or a block is erased.
 ghost use mathlib.Core.Path.{_≡_};
 ghost use mathlib.Core.Bool.{true, false};
-ghost use Prim.Native.Nat.{_+_, _≤_, _<_};
-ghost use lib.ListN.{length};
+ghost use mathlib.Core.List.{List};
+ghost use Prim.Native.Nat.{ℕ, _+_, _-_, _*_, _≤_, _<_};
+ghost use lib.ListN.{length, getD, take, drop};
+ghost use Rattle.flash.specs.Geometry.{slotCount};
 ghost use Rattle.flash.specs.inner.Reciprocal.{reciprocalOf};
-ghost use Rattle.method.specs.Move.{moveOf, AcceptedMove, Lent};
+ghost use Rattle.method.specs.Move.{Lent};
 ghost use Rattle.method.specs.Place.{marksOf, operationAt};
 ghost use Rattle.method.specs.Step as method;
-ghost use Rattle.method.specs.Step.{runningOf, tallied};
-ghost use Rattle.walk.specs.inner.Rows.{tableLength, PagesTable};
-ghost use Rattle.walk.specs.inner.Slots.{slotsLength};
-ghost use Rattle.places.specs.inner.Place.{placeOf};
-ghost use Rattle.mover.specs.inner.Steps.{OtherTable, ForWrite, FewCounted};
+ghost use Rattle.method.specs.Step.{runningOf, writeSlots, tallied};
+ghost use Rattle.walk.specs.inner.Moments.{Tells, momentIn};
+ghost use Rattle.walk.specs.inner.Rows.{rowLength, tableLength};
+ghost use Rattle.walk.specs.inner.Slots.{slotsLength, SumsAs};
+ghost use Rattle.places.specs.inner.Place.{passOf, placeOf};
+ghost use Rattle.mover.specs.inner.Steps.{moveBy, PassTables};
 use flash::block::erase_block;
 use flash::casts::wide;
 use flash::page::write_page;
@@ -25,13 +28,22 @@ use walk::walk::SLOTS;
 use walk::walk::backward_slots;
 use walk::walk::forward_slots;
 
+// The row of a set in a table.
+fn row(table: &[u8], set: usize) -> &[u8]
+    requires { ⌜ (set < 64) × (length (now table) ≡ tableLength) ⌝ }
+    ensures { λ r. ⌜ now r ≡ take (set * rowLength + rowLength - set * rowLength) (drop (set * rowLength) (now (table .entry))) ⌝ }
+{
+    let start = set * ROW;
+    let end = start + ROW;
+    &table[start..end]
+}
+
 // The slots whose pages are summed for a write. The block that is being filled tells what the others are full of, so that the
 // marks are not looked at.
 fn write_slots(
     sizes: Sizes,
     reciprocal: usize,
     list: &[u16],
-    sets: &[u8],
     pages: &[u8],
     other: &[u8],
     backward: bool,
@@ -39,30 +51,22 @@ fn write_slots(
     page: usize,
     slots: &mut [usize; SLOTS],
 ) -> usize
-    requires { ⌜ AcceptedMove (moveOf sizes (now list) (now sets))
-        × PagesTable (moveOf sizes (now list) (now sets)) (now pages)
-        × OtherTable (moveOf sizes (now list) (now sets)) backward (now other)
-        × (length (now other) ≡ tableLength) ⌝ }
+    requires { ⌜ PassTables (moveBy sizes (now list) (now pages)) backward (now pages) (now other) ⌝ }
     requires { ⌜ (reciprocal ≡ reciprocalOf (sizes .m)) × (length (now slots) ≡ slotsLength) × (page < sizes .m) × (block ≤ sizes .n)
         × (backward ≡ true → 1 ≤ block) × (backward ≡ false → block + 1 ≤ sizes .n) ⌝ }
-    ensures { λ r. ⌜ ForWrite (moveOf sizes (now (list .entry)) (now (sets .entry))) backward block page (now (slots .exit)) r ⌝ }
+    ensures { λ r. ⌜ (1 ≤ r) × (r ≤ slotsLength) × (length (now (slots .exit)) ≡ slotsLength)
+        × ((j : ℕ) → j < r → getD (now (slots .exit)) j 0 < slotCount sizes) ⌝ }
+    ensures { λ r. ⌜ ((marks : List ℕ)
+        → Tells (moveBy sizes (now (list .entry)) (now (pages .entry))) marks (momentIn backward (sizes .n) block (block + 1))
+        → SumsAs (take r (now (slots .exit)))
+        (writeSlots (moveBy sizes (now (list .entry)) (now (pages .entry))) (passOf backward) block page marks)) ⌝ }
 {
     if backward {
         let set = wide(other[(block - 1) * sizes.m + page]);
-        let row = set * ROW;
-        let end = row + ROW;
-        return backward_slots(sizes, reciprocal, list, set, &pages[row..end], block, slots);
+        return backward_slots(sizes, reciprocal, list, set, row(pages, set), block, slots);
     }
-    let row = page * ROW;
-    let end = row + ROW;
-    forward_slots(
-        sizes,
-        page,
-        &pages[row..end],
-        &other[row..end],
-        block + 1,
-        slots,
-    )
+    let sources = row(other, page);
+    forward_slots(sizes, page, row(pages, page), sources, block + 1, slots)
 }
 
 // Does the step at a place, and counts it.
@@ -70,7 +74,6 @@ pub fn step(
     sizes: Sizes,
     reciprocal: usize,
     list: &[u16],
-    sets: &[u8],
     pages: &[u8],
     other: &[u8],
     store: &mut [u8],
@@ -79,14 +82,12 @@ pub fn step(
     place: Place,
     mut tally: Tally,
 ) -> Tally
-    requires { ⌜ AcceptedMove (moveOf sizes (now list) (now sets))
-        × PagesTable (moveOf sizes (now list) (now sets)) (now pages)
-        × OtherTable (moveOf sizes (now list) (now sets)) (place .backward) (now other)
-        × (length (now other) ≡ tableLength) ⌝ }
+    requires { ⌜ PassTables (moveBy sizes (now list) (now pages)) (place .backward) (now pages) (now other) ⌝ }
     requires { ⌜ (reciprocal ≡ reciprocalOf (sizes .m)) × (place ≡ placeOf sizes (place .at)) × (now marks ≡ marksOf sizes (place .at))
-        × Lent sizes (record { store = now store; marks = now marks }) (now work) × FewCounted tally ⌝ }
+        × Lent sizes (record { store = now store; marks = now marks }) (now work)
+        × ((tally .steps ≤ 8320) × (tally .writes ≤ 8320) × (tally .erases ≤ 8320)) ⌝ }
     ensures { λ _. ⌜ runningOf (now (store .exit)) (now (marks .exit)) (now (work .exit))
-        ≡ method.step (moveOf sizes (now (list .entry)) (now (sets .entry))) (place .at)
+        ≡ method.step (moveBy sizes (now (list .entry)) (now (pages .entry))) (place .at)
         (runningOf (now (store .entry)) (now (marks .entry)) (now (work .entry))) ⌝ }
     ensures { λ r. ⌜ r ≡ tallied (operationAt sizes (place .at)) tally ⌝ }
 {
@@ -102,7 +103,6 @@ pub fn step(
                 sizes,
                 reciprocal,
                 list,
-                sets,
                 pages,
                 other,
                 backward,

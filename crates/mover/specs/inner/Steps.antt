@@ -1,45 +1,36 @@
--- What a step is given and gathers, and how much a run counts at most.
+-- What a step is lent: the tables of its pass, and the move that they tell.
 use mathlib.Core.Path.{_≡_}
 use mathlib.Core.Bool.{Bool, true, false}
-use mathlib.Core.List.{List}
-use Prim.Native.Nat.{ℕ, _+_, _≤_, _<_}
-use lib.ListN.{length, getD, take}
-use Rattle.flash.specs.Geometry.{slotCount}
+use mathlib.Core.List.{List, map}
+use Prim.Native.Nat.{ℕ}
+use lib.Dec.{eqb}
+use lib.ListN.{length}
+use Rattle.flash.specs.Lists.{range, first, part}
+use Rattle.flash.specs.declared.sizes.Sizes.{Sizes}
+use Rattle.flash.specs.Geometry.{originalCount, blockOf, numberAt}
 use Rattle.split.specs.inner.Rows.{ByDestination}
-use Rattle.method.specs.declared.tally.Tally.{Tally}
-use Rattle.method.specs.Move.{Move, AcceptedMove, Lent}
-use Rattle.method.specs.Step.{Running, writeSlots}
-use Rattle.method.specs.Answers.{isElsewhere}
-use Rattle.walk.specs.inner.Moments.{Tells, momentIn}
-use Rattle.walk.specs.inner.Rows.{SourcesTable}
-use Rattle.walk.specs.inner.Slots.{slotsLength, SumsAs}
-use Rattle.places.specs.inner.Place.{passOf}
+use Rattle.method.specs.Move.{Move, moveOf, AcceptedMove}
+use Rattle.walk.specs.inner.Rows.{rowLength, tableLength, entryOf, PagesTable, SourcesTable}
 
--- The table that a pass needs besides that of the pages: the sources, or the sets by destination.
+-- The sets that a table of pages tells: an original is of the set whose row has it at its block.
+module _ (Z : Sizes) (pages : List ℕ) where
+  abbrev pub hasOriginal : (k set : ℕ) → Bool
+  hasOriginal k set = (let b = blockOf (Z .m) k in eqb (numberAt (Z .m) b (entryOf (part rowLength set pages) b)) k)
+
+  unfoldable pub setsBy : List ℕ
+  setsBy = map (λ k. first (hasOriginal k) (range 0 (Z .m)) 0) (range 0 (originalCount Z))
+
+abbrev pub moveBy : Sizes → (list pages : List ℕ) → Move
+moveBy Z list pages = moveOf Z list (setsBy Z pages)
+
+-- the table that a pass needs besides that of the pages: the sources, or the sets by destination
 pub record OtherTable (M : Move) (isBackward : Bool) (other : List ℕ) : Type 0 where
   pub sources-tell : isBackward ≡ false → SourcesTable M other
   pub sets-tell : isBackward ≡ true → ByDestination (M .list) (M .sets) other
 
--- what a run goes on from: an accepted move, with store and marks as the place has them
-pub record Standing (M : Move) (run : Running) (place : ℕ) : Type 0 where
-  pub given : AcceptedMove M
-  pub lent : Lent (M .sizes) (run .chip) (run .work)
-  pub here : isElsewhere (M .sizes) (run .chip) place ≡ false
-
--- the slots that an array starts with are those of a write
-pub record ForWrite (M : Move) (isBackward : Bool) (block page : ℕ) (slots : List ℕ) (count : ℕ) : Type 0 where
-  pub sums : (marks : List ℕ) → Tells M marks (momentIn isBackward (M .sizes .n) block (block + 1)) → SumsAs (take count slots) (writeSlots M (passOf isBackward) block page marks)
-  pub some : 1 ≤ count
-  pub few : count ≤ slotsLength
-  pub room : length slots ≡ slotsLength
-  pub stored : (j : ℕ) → j < count → getD slots j 0 < slotCount (M .sizes)
-
--- the steps of the largest move, 2 × 64 × 65
-abbrev pub mostSteps : ℕ
-mostSteps = 8320
-
--- no count is above them
-pub record FewCounted (t : Tally) : Type 0 where
-  pub steps : t .steps ≤ mostSteps
-  pub writes : t .writes ≤ mostSteps
-  pub erases : t .erases ≤ mostSteps
+-- the tables of a pass are those of the move
+pub record PassTables (M : Move) (isBackward : Bool) (pages other : List ℕ) : Type 0 where
+  pub accepted : AcceptedMove M
+  pub pages-tell : PagesTable M pages
+  pub other-tells : OtherTable M isBackward other
+  pub room : length other ≡ tableLength

@@ -4,12 +4,15 @@ use Rattle.flash.proofs.Bools.{never-both}
 use Rattle.method.specs.Move.{Move, moveOf}
 use Rattle.method.specs.Place.{lastPlace}
 use Rattle.method.specs.Step.{Running, runningOf, steps, tallyOf, operationsFrom}
+use Rattle.method.proofs.basics.AcceptedCalls.{stands-at}
+use Rattle.method.proofs.states.StepsLeadOn.{Stood}
 use Rattle.walk.specs.inner.Rows.{PagesTable}
 use Rattle.walk.proofs.TableLaws.{sets-in, pages-tell}
 use Rattle.places.specs.inner.Place.{placeOf}
 use Rattle.places.proofs.PlaceLaws.{last-small, number-is, is-place}
-use Rattle.mover.specs.inner.Steps.{mostSteps, OtherTable, Standing}
-use Rattle.mover.proofs.RunLaws.{none-taken, none-counted, one-taken, one-counted, counts-fit, carried, marks-here, goes-on, in-move}
+use Rattle.mover.specs.inner.Steps.{OtherTable}
+use Rattle.mover.proofs.StepLaws.{sets-told, pass-tables}
+use Rattle.mover.proofs.RunLaws.{none-taken, none-counted, one-taken, one-counted, counts-fit, carried, goes-on}
 use Rattle.mover.proofs.run.carry_out.Statement.{statement}
 use Rattle.mover.proofs.run.carry_out.Tie as tie
 
@@ -30,7 +33,7 @@ from c = runningOf (c .args .store .now) (c .args .marks .now) (c .args .work .n
 pages-table-requires : tie.Need-pages-table-requires Inv-loop μ-loop
 pages-table-requires c κs =
     let start = c .before .before .before .before .before .before in
-    let A = start .pre .0 .given in
+    let A = start .pre .0 in
     (A .ranges, sets-in (moved start) A, refl)
 
 last-place-requires : tie.Need-last-place-requires Inv-loop μ-loop
@@ -39,7 +42,7 @@ last-place-requires c κs = search needs
 sub-smaller : tie.Need-sub-smaller Inv-loop μ-loop
 sub-smaller c =
     let start = c .before .before .before .before .before .before .before .before in
-    omega (arith, c .last-place .ensures, in-move (moved start) (from start) (start .args .place) (start .pre .0))
+    omega (arith, c .last-place .ensures, stands-at (start .args .sizes) (from start .chip) (start .args .place) (start .pre .2) .inside)
 
 smaller-requires : tie.Need-smaller-requires Inv-loop μ-loop
 smaller-requires c κs = search needs
@@ -47,21 +50,21 @@ smaller-requires c κs = search needs
 -- the steps are in the move, and the move has few
 placed : (c : tie.After-smaller Inv-loop μ-loop)
     → (let a = c .before .before .before .before .before .before .before .before .before .args in
-    (a .place + c .smaller .result ≤ lastPlace (a .sizes)) × (lastPlace (a .sizes) ≤ mostSteps))
+    (a .place + c .smaller .result ≤ lastPlace (a .sizes)) × (lastPlace (a .sizes) ≤ 8320))
 placed c =
     let start = c .before .before .before .before .before .before .before .before .before in
-    (omega (arith, c .smaller .ensures, c .before .last-place .ensures, in-move (moved start) (from start) (start .args .place) (start .pre .0)), last-small (start .args .sizes) (start .pre .0 .given .ranges))
+    (omega (arith, c .smaller .ensures, c .before .last-place .ensures, stands-at (start .args .sizes) (from start .chip) (start .args .place) (start .pre .2) .inside), last-small (start .args .sizes) (start .pre .0 .ranges))
 
 pages-are : (c : tie.After-pages-table Inv-loop μ-loop) → PagesTable (moved (c .before .before .before .before .before .before .before)) (c .pages-table .last .1 .1 .0)
 pages-are c =
     let start = c .before .before .before .before .before .before .before in
-    rw (c .pages-table .ensures, start .pre .0 .given .sets-length) (pages-tell (moved start) (start .pre .0 .given) _ refl)
+    rw (c .pages-table .ensures, start .pre .0 .sets-length) (pages-tell (moved start) (start .pre .0) _ refl)
 
 reciprocal-requires : tie.Need-reciprocal-requires Inv-loop μ-loop
-reciprocal-requires c κs = c .before .before .before .before .before .before .before .before .before .pre .0 .given .ranges .m-low
+reciprocal-requires c κs = c .before .before .before .before .before .before .before .before .before .pre .0 .ranges .m-low
 
 new-requires : tie.Need-new-requires Inv-loop μ-loop
-new-requires c κs = (c .before .before .before .before .before .before .before .before .before .before .pre .0 .given .ranges, omega (arith, placed (c .before)))
+new-requires c κs = (c .before .before .before .before .before .before .before .before .before .before .pre .0 .ranges, omega (arith, placed (c .before)))
 
 nothing-done-requires : tie.Need-nothing-done-requires Inv-loop μ-loop
 nothing-done-requires c κs = search needs
@@ -71,20 +74,20 @@ loop-holds c =
     let start = c .before .before .before .before .before .before .before .before .before .before .before .before in
     let a = start .args in
     let first : a .place ≡ a .place + 0 = omega arith in
-    (none-taken _ _ _, c .nothing-done .ensures ∙ none-counted _ _, c .before .new .ensures ∙ ap (placeOf (a .sizes)) first, omega arith, record { sources-tell = λ e. absurd (never-both refl e); sets-tell = λ e. start .pre .1 })
+    (none-taken _ _ _, c .nothing-done .ensures ∙ none-counted _ _, c .before .new .ensures ∙ ap (placeOf (a .sizes)) first, omega arith, record { sources-tell = λ e. absurd (never-both refl e); sets-tell = λ e. start .pre .3 })
 
 -- where the loop stands
 abbrev start : tie.At-loop Inv-loop μ-loop → tie.Start Inv-loop μ-loop
 start c = c .before .before .before .before .before .before .before .before .before .before .before .before .before
 
-standing : (c : tie.At-loop Inv-loop μ-loop) → (let l = c .loop in Standing (moved (start c)) (runningOf (l .store) (l .marks) (l .work)) (start c .args .place + l .i))
-standing c = goes-on (moved (start c)) (from (start c)) (start c .args .place) (start c .pre .0) (c .loop .i) (omega (arith, placed (c .before .before .before .before))) _ (c .loop .inv .0)
+standing : (c : tie.At-loop Inv-loop μ-loop) → (let l = c .loop in Stood (moved (start c)) (start c .pre .0) (runningOf (l .store) (l .marks) (l .work)) (start c .args .place + l .i))
+standing c = goes-on (moved (start c)) (start c .pre .0) (from (start c)) (start c .args .place) (start c .pre .1) (start c .pre .2) (c .loop .i) (omega (arith, placed (c .before .before .before .before))) _ (c .loop .inv .0)
 
-inside : (c : tie.In-loop Inv-loop μ-loop) → (let s = start (c .before) in (s .args .place + c .before .loop .i < lastPlace (s .args .sizes)) × (lastPlace (s .args .sizes) ≤ mostSteps))
+inside : (c : tie.In-loop Inv-loop μ-loop) → (let s = start (c .before) in (s .args .place + c .before .loop .i < lastPlace (s .args .sizes)) × (lastPlace (s .args .sizes) ≤ 8320))
 inside c = (let P = placed (c .before .before .before .before .before) in (omega arith, P .1))
 
 fill-other-requires : tie.Need-fill-other-requires Inv-loop μ-loop
-fill-other-requires c κs = (start (c .before .before) .pre .0 .given, c .before .before .loop .inv .4)
+fill-other-requires c κs = (start (c .before .before) .pre .0, c .before .before .loop .inv .4)
 
 slice-aggregate-step : tie.Need-slice-aggregate-step Inv-loop μ-loop
 slice-aggregate-step c = sym (pages-are (c .before .before .before .before .before .before .before .before .before .before) .room)
@@ -96,15 +99,15 @@ step-requires c κs =
     let s = start loop in
     let S = standing loop in
     let at = number-is _ _ _ (l .inv .2) in (
-      (S .given, pages-are (loop .before .before .before .before .before .before), c .before .before .before .before .before .before .fill-other .ensures, omega (arith, c .before .before .before .step-arg2 .given)),
-      (loop .before .before .before .reciprocal .ensures, is-place _ _ _ (l .inv .2), rw at (marks-here _ _ _ S), S .lent, counts-fit (moved s) (S .given) (s .args .place) (l .i) (l .tally) (omega (arith, inside (c .before .before .before .before .before .before .before .before))) (l .inv .1)),
+      pass-tables (moved s) (s .pre .0) _ (pages-are (loop .before .before .before .before .before .before)) _ _ (c .before .before .before .before .before .before .fill-other .ensures) (omega (arith, c .before .before .before .step-arg2 .given)),
+      (loop .before .before .before .reciprocal .ensures, is-place _ _ _ (l .inv .2), rw at (S .stands .marks), S .lent, counts-fit (moved s) (s .pre .0) (s .args .place) (l .i) (l .tally) (omega (arith, inside (c .before .before .before .before .before .before .before .before))) (l .inv .1)),
     )
 
 next-requires : tie.Need-next-requires Inv-loop μ-loop
 next-requires c κs =
     let inner = c .before .before .before .before .before .before .before .before .before .before .before .before .before .before .before in
     let l = inner .before .loop in
-    (start (inner .before) .pre .0 .given .ranges, is-place _ _ _ (l .inv .2), rw (number-is _ _ _ (l .inv .2)) (inside inner .0))
+    (start (inner .before) .pre .0 .ranges, is-place _ _ _ (l .inv .2), rw (number-is _ _ _ (l .inv .2)) (inside inner .0))
 
 add-i : tie.Need-add-i Inv-loop μ-loop
 add-i c = omega (arith, inside (c .before .before .before .before .before .before .before .before .before .before .before .before .before .before .before .before))
@@ -120,7 +123,7 @@ loop-again c =
     let l = inner .before .loop in
     let at : l .at .at ≡ s .args .place + l .i = number-is _ _ _ (l .inv .2) in
     let on : l .at .at + 1 ≡ s .args .place + (l .i + 1) = omega arith in (
-      one-taken (moved s) (s .args .place) (l .i) _ _ _ (l .inv .0) (rw at at (step .step .ensures .0)),
+      one-taken (moved s) (s .args .place) (l .i) _ _ _ (l .inv .0) (rw (at, sets-told (moved s) (s .pre .0) _ (pages-are (inner .before .before .before .before .before .before .before))) at (step .step .ensures .0)),
       one-counted (moved s) (s .args .place) (l .i) _ _ (inside inner .0) (l .inv .1) (rw at at (step .step .ensures .1)),
       c .next .ensures ∙ ap (placeOf (s .args .sizes)) on,
       omega arith,
@@ -138,13 +141,13 @@ same-requires : tie.Need-same-requires Inv-loop μ-loop
 same-requires c κs = search needs
 
 same-length : tie.Need-same-length Inv-loop μ-loop
-same-length c = (let l = c .before .before in standing l .lent .store-length ∙ sym (start l .pre .0 .lent .store-length))
+same-length c = (let l = c .before .before in standing l .lent .store-length ∙ sym (start l .pre .1 .store-length))
 
 same-length-2 : tie.Need-same-length-2 Inv-loop μ-loop
-same-length-2 c = (let l = c .before .before in standing l .lent .marks-length ∙ sym (start l .pre .0 .lent .marks-length))
+same-length-2 c = (let l = c .before .before in standing l .lent .marks-length ∙ sym (start l .pre .1 .marks-length))
 
 same-length-3 : tie.Need-same-length-3 Inv-loop μ-loop
-same-length-3 c = (let l = c .before .before in standing l .lent .work-length ∙ sym (start l .pre .0 .lent .work-length))
+same-length-3 c = (let l = c .before .before in standing l .lent .work-length ∙ sym (start l .pre .1 .work-length))
 
 returns : tie.Need-returns Inv-loop μ-loop
 returns c =

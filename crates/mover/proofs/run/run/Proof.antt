@@ -64,7 +64,7 @@ carry-out-requires c κs =
     let R = requestOf (a .sizes) (a .list .now) (a .sets .now) in
     let chip : Chip = record { store = a .store .now; marks = a .marks .now } in
     let g = move-accepted R chip (a .work .now) [] (sym (c .before .before .before .before .before .before .before .before .before .move-refusal .ensures .0) ∙ c .before .before .before .before .before .before .before .before .if1 .left) in
-    (record { given = g .0; lent = g .1; here = sym (c .before .before .before .before .before .is-elsewhere .ensures) ∙ c .before .before .before .before .if2 .left }, c .before .before .before .before .before .before .before .before .before .move-refusal .ensures .1 (c .before .before .before .before .before .before .before .before .if1 .left))
+    (g .0, g .1, sym (c .before .before .before .before .before .is-elsewhere .ensures) ∙ c .before .before .before .before .if2 .left, c .before .before .before .before .before .before .before .before .before .move-refusal .ensures .1 (c .before .before .before .before .before .before .before .before .if1 .left))
 
 same-length-7 : tie.Need-same-length-7
 same-length-7 c = search needs

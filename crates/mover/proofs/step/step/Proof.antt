@@ -1,21 +1,21 @@
 -- A step does the operation of its place, and counts it.
 use Rattle.flash.proofs.Kit.{refl, sym, _∙_, subst, Bool, _+_, _*_, _≤_, _<_, arith, needs}
 use Rattle.flash.proofs.Bounds.{slot-in-marks, slot-in-store, block-in-marks, block-in-store, product-le}
-use Rattle.method.specs.Move.{Move, moveOf}
+use Rattle.method.specs.Move.{Move}
 use Rattle.method.specs.Place.{write, erase, done, operationAt}
 use Rattle.method.specs.Step.{perform, tallied}
 use Rattle.places.specs.inner.Place.{passOf}
 use Rattle.places.proofs.StepTold.{IsWrite, is-write, IsErase, is-erase, told-done}
-use Rattle.mover.specs.inner.Steps.{OtherTable}
+use Rattle.mover.specs.inner.Steps.{moveBy, PassTables}
 use Rattle.mover.proofs.StepLaws.{wrote, erased, stepped, WriteKnown, write-known}
 use Rattle.mover.proofs.step.step.Statement.{statement}
 use Rattle.mover.proofs.step.step.Tie as tie
 
 abbrev start : tie.After-operation → tie.Start
-start c = c .before .before .before .before .before .before .before .before
+start c = c .before .before .before .before .before .before .before
 
 abbrev moved : tie.Start → Move
-moved c = moveOf (c .args .sizes) (c .args .list .now) (c .args .sets .now)
+moved c = moveBy (c .args .sizes) (c .args .list .now) (c .args .pages .now)
 
 operation-requires : tie.Need-operation-requires
 operation-requires c κs = search needs
@@ -29,11 +29,11 @@ writes : (c : tie.After-backward) → (let a = start (c .before .before) .args i
 writes c = (let a = start (c .before .before) .args in is-write (a .sizes) (a .place .at) _ _ _ _ (sym (c .backward .given .1) ∙ c .before .before .operation .ensures))
 
 known : (c : tie.After-backward) → (let s = start (c .before .before) in let v = c .backward .given .0 in
-    WriteKnown (moved s) (s .pre .0 .0) (s .args .place) (s .pre .1 .1) (s .args .marks .now) (s .pre .1 .2) (v .0) (v .1 .0))
+    WriteKnown (moved s) (s .pre .0 .accepted) (s .args .place) (s .pre .1 .1) (s .args .marks .now) (s .pre .1 .2) (v .0) (v .1 .0))
 known c =
     let s = start (c .before .before) in
     let v = c .backward .given .0 in
-    write-known (moved s) (s .pre .0 .0) (s .args .place) (s .pre .1 .1) (s .args .marks .now) (s .pre .1 .2) (v .0) (v .1 .0) (v .1 .1 .0) (writes c .is)
+    write-known (moved s) (s .pre .0 .accepted) (s .args .place) (s .pre .1 .1) (s .args .marks .now) (s .pre .1 .2) (v .0) (v .1 .0) (v .1 .1 .0) (writes c .is)
 
 -- its slot is one of the store
 inside : (c : tie.After-backward) → (let Z = start (c .before .before) .args .sizes in let v = c .backward .given .0 in
@@ -42,7 +42,7 @@ inside c =
     let s = start (c .before .before) in
     let Z = s .args .sizes in
     let v = c .backward .given .0 in
-    let R = s .pre .0 .0 .ranges in
+    let R = s .pre .0 .accepted .ranges in
     let W = writes c in
     (slot-in-marks Z (v .1 .0) (v .1 .1 .0) (W .block-in) (W .page-in), product-le (Z .n + 1) (Z .m) {c = 65} {d = 64} (omega (arith, R .n-high)) (R .m-high))
 
@@ -50,17 +50,17 @@ write-slots-requires : tie.Need-write-slots-requires
 write-slots-requires c κs =
     let s = start (c .before .before .before .before) in
     let W = writes (c .before .before) in
-    ((s .pre .0 .0, s .pre .0 .1, subst (λ (t : Bool). OtherTable (moved s) t (s .args .other .now)) (known (c .before .before) .pass-is) (s .pre .0 .2), s .pre .0 .3), (s .pre .1 .0, refl, W .page-in, W .block-in, W .low, W .high))
+    (subst (λ (t : Bool). PassTables (moved s) t (s .args .pages .now) (s .args .other .now)) (known (c .before .before) .pass-is) (s .pre .0), (s .pre .1 .0, refl, W .page-in, W .block-in, W .low, W .high))
 
 slice-aggregate-sum-to-page : tie.Need-slice-aggregate-sum-to-page
-slice-aggregate-sum-to-page c = sym (c .before .before .write-slots .ensures .room)
+slice-aggregate-sum-to-page c = sym (c .before .before .write-slots .ensures .0 .2)
 
 sum-to-page-requires : tie.Need-sum-to-page-requires
 sum-to-page-requires c κs =
     let s = start (c .before .before .before .before .before .before .before .before) in
     let L = s .pre .1 .3 in
-    let F = c .before .before .before .write-slots .ensures in
-    ((F .some, omega (arith, F .few, F .room), omega (arith, F .few), L .work-length), (λ j h. rw (L .store-length) (slot-in-store (s .args .sizes) _ (F .stored j h))))
+    let F = c .before .before .before .write-slots .ensures .0 in
+    ((F .0, omega (arith, F .1, F .2), omega (arith, F .1), L .work-length), (λ j h. rw (L .store-length) (slot-in-store (s .args .sizes) _ (F .3 j h))))
 
 mul-write-page : tie.Need-mul-write-page
 mul-write-page c = omega (arith, inside (c .before .before .before .before .before .before .before .before .before .before .before .before))
@@ -126,7 +126,7 @@ returns c =
     let W = writes b in
     stepped (moved s) (a .place .at) (write (passOf (v .0)) (v .1 .0) (v .1 .1 .0)) (W .is) _ _ _ _
     (wrote (moved s) (passOf (v .0)) (v .1 .0) (v .1 .1 .0) (a .store .now) (a .marks .now) (a .work .now) _ _ _ _ (w .write-slots .result) (v .1 .1 .1 .0) (c .before .before .before .before .before .before .before .before .before .before .before .before .before .sum-to-page .ensures)
-    (w .write-slots .ensures .sums (a .marks .now) (known b .moment-is)) (W .mark-is) (c .before .before .before .before .before .before .write-page .ensures)) refl
+    (w .write-slots .ensures .1 (a .marks .now) (known b .moment-is)) (W .mark-is) (c .before .before .before .before .before .before .write-page .ensures)) refl
 
 same-length-4 : tie.Need-same-length-4
 same-length-4 c = search needs
