@@ -1,7 +1,8 @@
 -- The answer of read, case by case, and what the marks tell it: the moment, and slots of the store, one at least.
-use Rattle.flash.proofs.Kit.{_≡_, refl, _∙_, _≢_, _⊎_, inl, inr, Bool, true, false, cond, List, [], _∷_, ℕ, _+_, _≤_, _<_, arith, eqb, leb, length}
+use Rattle.flash.proofs.Kit.{_≡_, refl, _∙_, _≢_, _⊎_, inl, inr, Bool, true, false, cond, List, [], ℕ, _+_, _≤_, _<_, arith, eqb, leb, length}
 use Rattle.flash.proofs.Kit.{ne-eqb, le-leb, lt-leb}
-use Rattle.flash.specs.Tables.{firstFit, numberOr0, refusal}
+use Rattle.flash.specs.Tables.{refusal}
+use Rattle.flash.proofs.Tables.{refusal-nil}
 use Rattle.flash.specs.Geometry.{originalCount, slotCount}
 use Rattle.flash.specs.Chip.{Chip}
 use Rattle.split.specs.Request.{Request}
@@ -22,13 +23,7 @@ use Rattle.walk.specs.inner.Moments.{Tells, momentIn}
 use Rattle.walk.proofs.MomentLaws.{tells}
 use Rattle.mover.specs.Answers.{readAs}
 use Rattle.mover.specs.declared.read.ReadResult.{ReadResult}
-use Rattle.mover.proofs.RefusalLaws.{move-then}
-
-last-rows : (unfit beyond : Bool) → refusal (record { fits = unfit; gives = 6 } ∷ record { fits = beyond; gives = 7 } ∷ []) ≡ cond unfit 6 (cond beyond 7 0)
-unfolding refusal firstFit numberOr0
-last-rows true beyond = refl
-last-rows false true = refl
-last-rows false false = refl
+use Rattle.mover.proofs.RefusalLaws.{row-first, by-move, past-move}
 
 module _ (R : Request) (chip : Chip) (work : List ℕ) (k : ℕ) where
   -- what a refused read returns; it leaves the work page
@@ -42,13 +37,13 @@ module _ (R : Request) (chip : Chip) (work : List ℕ) (k : ℕ) where
   -- rows 1 to 4 decide
   pub refused-by-move : (x : ℕ) (r : ReadResult) → x ≡ refusal (moveRows R chip work []) → x ≢ 0 → Refused x r
   unfolding readRows
-  refused-by-move x r e ne = refused-answer x r ne (move-then R chip work _ ∙ rw (← e, ne-eqb x 0 ne))
+  refused-by-move x r e ne = refused-answer x r ne (by-move R chip work _ x e ne)
 
   -- and else rows 6 and 7
   module _ (e : 0 ≡ refusal (moveRows R chip work [])) where
     by-rest : refusal (readRows R chip work k) ≡ cond (fitsNone (reading (R .sizes) (chip .marks))) 6 (cond (leb (originalCount (R .sizes)) k) 7 0)
     unfolding readRows
-    by-rest = move-then R chip work _ ∙ rw (← e) (last-rows _ _)
+    by-rest = past-move R chip work _ e ∙ rw (row-first, row-first, refusal-nil)
 
     pub refused-6 : (r : ReadResult) → fitsNone (reading (R .sizes) (chip .marks)) ≡ true → Refused 6 r
     refused-6 r f = refused-answer 6 r (λ z. absurd (omega arith)) (by-rest ∙ rw f)
@@ -57,7 +52,8 @@ module _ (R : Request) (chip : Chip) (work : List ℕ) (k : ℕ) where
     refused-7 r f g = refused-answer 7 r (λ z. absurd (omega arith)) (by-rest ∙ rw (f, le-leb _ _ g))
 
     pub rebuilt : (count : ℕ) (after : List ℕ) → fitsNone (reading (R .sizes) (chip .marks)) ≡ false → k < originalCount (R .sizes)
-        → count ≡ length (readSlots (move R) (chip .marks) k) → after ≡ readPage (move R) chip k → readAs (record { number = 0; count = count }) after ≡ readAnswer R chip work k
+        → count ≡ length (readSlots (move R) (chip .marks) k) → after ≡ readPage (move R) chip k
+        → readAs (record { number = 0; count = count }) after ≡ readAnswer R chip work k
     unfolding readAnswer
     rebuilt count after f g h i = rw (by-rest, f, lt-leb _ _ g, h, i)
 
@@ -86,7 +82,8 @@ module _ (M : Move) (marks : List ℕ) (told : MarksRead) (answer : answerOf (M 
     by-shape : (low high : ℕ) → fitsNone (reading (M .sizes) marks) ≡ false → Shape (M .sizes) marks low high (cond isBackward 2 0)
         → moment ≡ momentIn isBackward (M .sizes .n) low high → Readable moment
     by-shape low high f S e =
-        let r : (k : ℕ) → k < originalCount (M .sizes) → Reads M marks low high (M .sizes .n) (readSlots M marks k) k = λ k h. reads M A marks low high k h (cond isBackward 2 0) (which isBackward) S in
+        let r : (k : ℕ) → k < originalCount (M .sizes) → Reads M marks low high (M .sizes .n) (readSlots M marks k) k =
+        λ k h. reads M A marks low high k h (cond isBackward 2 0) (which isBackward) S in
         record { fits-one = f; moment-is = rw e (tells M A marks isBackward low high S); some = λ k h. r k h .some; stored = λ k h i l. r k h .sited i l .inside }
 
     pub full : (change : ℕ) → told ≡ Full isBackward change → moment ≡ momentIn isBackward (M .sizes .n) change change → Readable moment

@@ -3,6 +3,7 @@ use Rattle.flash.proofs.Kit.{_≡_, refl, _∙_, _≢_, Bool, true, false, cond
 use Rattle.flash.specs.Tables.{Row, firstFit, numberOr0, refusal}
 use Rattle.flash.specs.Geometry.{inRange, originalCount}
 use Rattle.flash.specs.Chip.{Chip}
+use Rattle.flash.proofs.Tables.{refusal-nil}
 use Rattle.split.specs.OneToOne.{badList, isOneToOne}
 use Rattle.split.specs.Split.{isSplit}
 use Rattle.split.specs.Request.{Request}
@@ -13,26 +14,19 @@ use Rattle.method.proofs.basics.AcceptedCalls.{parts-ok}
 use Rattle.mover.specs.Answers.{ranAs}
 use Rattle.mover.specs.declared.run.RunResult.{RunResult}
 
-abbrev rows : (a b c d : Bool) → List (Row ℕ) → List (Row ℕ)
-rows a b c d rest =
-    record { fits = a; gives = 1 } ∷ record { fits = b; gives = 2 } ∷ record { fits = c; gives = 3 } ∷ record { fits = d; gives = 4 } ∷ rest
-
--- the first that fits, and else the rows that follow
-rows-number : (a b c d : Bool) → refusal (rows a b c d []) ≡ cond a 1 (cond b 2 (cond c 3 (cond d 4 0)))
+pub row-first : (fits : Bool) (gives : ℕ) (rest : List (Row ℕ)) → refusal (record { fits = fits; gives = gives } ∷ rest) ≡ cond fits gives (refusal rest)
 unfolding refusal firstFit numberOr0
-rows-number true b c d = refl
-rows-number false true c d = refl
-rows-number false false true d = refl
-rows-number false false false true = refl
-rows-number false false false false = refl
+row-first true gives rest = refl
+row-first false gives rest = refl
 
-rows-then : (a b c d : Bool) (rest : List (Row ℕ)) → refusal (rows a b c d rest) ≡ cond (eqb (refusal (rows a b c d [])) 0) (refusal rest) (refusal (rows a b c d []))
-unfolding refusal firstFit numberOr0
-rows-then true b c d rest = refl
-rows-then false true c d rest = refl
-rows-then false false true d rest = refl
-rows-then false false false true rest = refl
-rows-then false false false false rest = refl
+-- rows 1 to 4: the first that fits, and else the rows that follow
+four-rows : (a b c d : Bool) (rest : ℕ)
+    → (let number : ℕ → ℕ = λ x. cond a 1 (cond b 2 (cond c 3 (cond d 4 x))) in number rest ≡ cond (eqb (number 0) 0) rest (number 0))
+four-rows true b c d rest = refl
+four-rows false true c d rest = refl
+four-rows false false true d rest = refl
+four-rows false false false true rest = refl
+four-rows false false false false rest = refl
 
 module _ (R : Request) (chip : Chip) (work : List ℕ) where
   abbrev number : ℕ
@@ -42,11 +36,21 @@ module _ (R : Request) (chip : Chip) (work : List ℕ) where
       ≡ cond (not (inRange (R .sizes))) 1 (cond (badParts R chip work) 2
       (cond (badList (originalCount (R .sizes)) (R .list)) 3 (cond (not (isSplit (R .sizes .n) (R .sizes .m) (R .list) (R .sets))) 4 0)))
   unfolding moveRows
-  move-number = rows-number _ _ _ _
+  move-number = rw (row-first, row-first, row-first, row-first, refusal-nil)
 
-  pub move-then : (rest : List (Row ℕ)) → refusal (moveRows R chip work rest) ≡ cond (eqb number 0) (refusal rest) number
-  unfolding moveRows
-  move-then rest = rows-then _ _ _ _ rest
+  module _ (rest : List (Row ℕ)) where
+    move-then : refusal (moveRows R chip work rest) ≡ cond (eqb number 0) (refusal rest) number
+    unfolding moveRows
+    move-then =
+        rw (move-number, row-first, row-first, row-first, row-first)
+        (four-rows (not (inRange (R .sizes))) (badParts R chip work) (badList (originalCount (R .sizes)) (R .list))
+        (not (isSplit (R .sizes .n) (R .sizes .m) (R .list) (R .sets))) (refusal rest))
+
+    pub by-move : (x : ℕ) → x ≡ number → x ≢ 0 → refusal (moveRows R chip work rest) ≡ x
+    by-move x e ne = move-then ∙ rw (← e, ne-eqb x 0 ne)
+
+    pub past-move : 0 ≡ number → refusal (moveRows R chip work rest) ≡ refusal rest
+    past-move e = move-then ∙ rw (← e)
 
   -- past rows 1 and 2 the list decides, and then the split
   pub by-list : inRange (R .sizes) ≡ true → badParts R chip work ≡ false
@@ -64,19 +68,10 @@ module _ (R : Request) (chip : Chip) (work : List ℕ) where
 
 -- ---- the answer of run
 module _ (R : Request) (chip : Chip) (work : List ℕ) (place : ℕ) where
-  -- rows 1 to 4 decide, and else row 5
-  by-move : (x : ℕ) → x ≡ refusal (moveRows R chip work []) → x ≢ 0 → refusal (runRows R chip work place) ≡ x
-  unfolding runRows
-  by-move x e ne = move-then R chip work _ ∙ rw (← e, ne-eqb x 0 ne)
-
   by-place : (elsewhere : Bool) → 0 ≡ refusal (moveRows R chip work []) → elsewhere ≡ isElsewhere (R .sizes) chip place
       → refusal (runRows R chip work place) ≡ cond elsewhere 5 0
-  unfolding runRows refusal firstFit numberOr0
-  by-place elsewhere e f = move-then R chip work _ ∙ rw (← e, ← f) (last elsewhere)
-    where
-      last : (t : Bool) → refusal (record { fits = t; gives = 5 } ∷ []) ≡ cond t 5 0
-      last true = refl
-      last false = refl
+  unfolding runRows
+  by-place elsewhere e f = past-move R chip work _ e ∙ rw (row-first, refusal-nil, ← f)
 
   module _ (budget : ℕ) where
     -- what a refused run returns; it leaves all as it was
@@ -89,8 +84,10 @@ module _ (R : Request) (chip : Chip) (work : List ℕ) (place : ℕ) where
     unfolding runAnswer runRefused
     refused-answer x ne e ran r = rw (r, e, ne-eqb x 0 ne)
 
+    -- rows 1 to 4 decide, and else row 5
     pub refused-by-move : (x : ℕ) → x ≡ refusal (moveRows R chip work []) → x ≢ 0 → Refused x
-    refused-by-move x e ne = refused-answer x ne (by-move x e ne)
+    unfolding runRows
+    refused-by-move x e ne = refused-answer x ne (by-move R chip work _ x e ne)
 
     pub refused-by-place : 0 ≡ refusal (moveRows R chip work []) → true ≡ isElsewhere (R .sizes) chip place → Refused 5
     refused-by-place e f = refused-answer 5 (λ z. absurd (omega arith)) (by-place true e f)

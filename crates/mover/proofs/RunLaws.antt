@@ -1,5 +1,6 @@
 -- A run step by step: what one step more leaves and counts.
-use Rattle.flash.proofs.Kit.{_≡_, refl, false, cond, List, ℕ, _+_, _-_, _≤_, _<_, min, arith, eqb}
+use mir.Val.{boolByte}
+use Rattle.flash.proofs.Kit.{_≡_, refl, Bool, true, false, cond, List, ℕ, _+_, _-_, _≤_, _<_, min, arith, eqb}
 use Rattle.flash.specs.declared.sizes.Sizes.{Sizes}
 use Rattle.method.specs.declared.tally.Tally.{Tally}
 use Rattle.method.specs.Move.{Move, AcceptedMove, Lent}
@@ -38,15 +39,19 @@ counts-fit M A place i tally h e =
     rw e (omega arith, omega arith, omega arith)
 
 -- ---- the answer of a run that is carried out
-pub carried : (M : Move) (store marks work : List ℕ) (place budget last taken : ℕ) (store′ marks′ work′ : List ℕ) (tally : Tally) (finished : ℕ)
-    → last ≡ lastPlace (M .sizes) → taken ≡ min budget (last - place) → finished ≡ cond (eqb (place + taken) last) 1 0
+one-or-0 : (t : Bool) → boolByte t ≡ cond t 1 0
+one-or-0 true = refl
+one-or-0 false = refl
+
+pub carried : (M : Move) (store marks work : List ℕ) (place budget last taken : ℕ) (store′ marks′ work′ : List ℕ) (tally : Tally)
+    → last ≡ lastPlace (M .sizes) → taken ≡ min budget (last - place)
     → runningOf store′ marks′ work′ ≡ steps M taken place (runningOf store marks work) → tally ≡ tallyOf (operationsFrom (M .sizes) place taken)
-    → ranAs (record { number = 0; place = place + taken; tally = tally; finished = finished }) store′ marks′ work′
+    → ranAs (record { number = 0; place = place + taken; tally = tally; finished = boolByte (eqb (place + taken) last) }) store′ marks′ work′
     ≡ runCarriedOut M (record { store = store; marks = marks }) work place (stepsTaken (M .sizes) place budget)
 unfolding runCarriedOut stepsTaken
-carried M store marks work place budget last taken store′ marks′ work′ tally finished e f g L C =
+carried M store marks work place budget last taken store′ marks′ work′ tally e f L C =
     let t : taken ≡ min budget (lastPlace (M .sizes) - place) = rw e at f in
-    rw (← t, ← e, g, C, ← L)
+    rw (← t, ← e, C, ← L, one-or-0)
 
 -- ---- a run that goes on: after so many steps it stands at the place that they lead to
 pub goes-on : (M : Move) (A : AcceptedMove M) (run : Running) (place : ℕ) → Lent (M .sizes) (run .chip) (run .work) → isElsewhere (M .sizes) (run .chip) place ≡ false

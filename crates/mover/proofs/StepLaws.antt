@@ -1,5 +1,5 @@
 -- What a step does: what a write sums, and the operation that a place has.
-use Rattle.flash.proofs.Kit.{_≡_, refl, sym, ap, _∙_, subst, ⊎-elim, Bool, true, false, cond, List, ℕ, _+_, _-_, _*_, _≤_, _<_, min, add-one, arith, eqb}
+use Rattle.flash.proofs.Kit.{_≡_, refl, sym, ap, _∙_, subst, ⊎-elim, Bool, true, false, cond, List, ℕ, _+_, _-_, _*_, _≤_, _<_, min, add-one, arith}
 use Rattle.flash.proofs.Kit.{eq-eqb, eqb-true, length, getD, take, drop, length-map, ext-getD, zero-add}
 use Rattle.flash.specs.Lists.{range, first, part}
 use Rattle.flash.specs.declared.sizes.Sizes.{Sizes}
@@ -41,7 +41,8 @@ module _ (M : Move) (pass : Pass) (block page : ℕ) (store marks work : List �
 
 -- the set of the page that goes to a page of a block
 pub set-sent : (M : Move) → AcceptedMove M → (other : List ℕ) → ByDestination (M .list) (M .sets) other → (b page : ℕ) → 1 ≤ b → b ≤ M .sizes .n → page < M .sizes .m
-    → (getD other (numberAt (M .sizes .m) b page) 0 ≡ setOf (M .sets) (sentTo M (numberAt (M .sizes .m) b page))) × (getD other (numberAt (M .sizes .m) b page) 0 < M .sizes .m)
+    → (getD other (numberAt (M .sizes .m) b page) 0 ≡ setOf (M .sets) (sentTo M (numberAt (M .sizes .m) b page)))
+    × (getD other (numberAt (M .sizes .m) b page) 0 < M .sizes .m)
 unfolding setOf
 set-sent M A other D b page low high page-ok =
     let m = M .sizes .m in
@@ -103,7 +104,8 @@ told-by : (t : Bool) → (isBackward (passOf t) ≡ t) × (letterAbove (passOf t
 told-by true = (refl, refl)
 told-by false = (refl, refl)
 
-module _ (M : Move) (A : AcceptedMove M) (here : Place) (placed : here ≡ placeOf (M .sizes) (here .at)) (marks : List ℕ) (is : marks ≡ marksOf (M .sizes) (here .at)) where
+module _ (M : Move) (A : AcceptedMove M) (here : Place) (placed : here ≡ placeOf (M .sizes) (here .at)) (marks : List ℕ)
+    (is : marks ≡ marksOf (M .sizes) (here .at)) where
   open Sizes (M .sizes) using (n, m)
 
   abbrev at : ℕ

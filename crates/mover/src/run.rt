@@ -1,8 +1,7 @@
 // The run: as many steps as the budget allows.
 ghost use mathlib.Core.Path.{_≡_};
-ghost use mathlib.Core.Bool.{false, cond};
+ghost use mathlib.Core.Bool.{false};
 ghost use Prim.Native.Nat.{min};
-ghost use lib.Dec.{eqb};
 ghost use Rattle.split.specs.Request.{requestOf};
 ghost use Rattle.split.specs.inner.Rows.{ByDestination};
 ghost use Rattle.method.specs.Move.{moveOf, AcceptedMove, Lent};
@@ -29,16 +28,6 @@ pub struct RunResult {
     pub place: u32,
     pub tally: Tally,
     pub finished: u32,
-}
-
-pub fn nothing_done() -> Tally
-    ensures { λ r. ⌜ r ≡ nothingDone ⌝ }
-{
-    Tally {
-        steps: 0,
-        writes: 0,
-        erases: 0,
-    }
 }
 
 // Fills the table that a pass needs besides that of the pages: the sources, or the sets by destination. It may be there already.
@@ -69,13 +58,6 @@ fn smaller(a: usize, b: usize) -> usize
     if a < b { a } else { b }
 }
 
-// 1 where the two are equal, else 0.
-fn same(a: usize, b: usize) -> u32
-    ensures { λ r. ⌜ r ≡ cond (eqb a b) 1 0 ⌝ }
-{
-    if a == b { 1 } else { 0 }
-}
-
 // Carries out a run that is not refused. The other table holds the sets by destination, as the check of the move left it.
 fn carry_out(
     sizes: Sizes,
@@ -100,7 +82,11 @@ fn carry_out(
     let taken = smaller(budget, last - place);
     let reciprocal = reciprocal(sizes.m);
     let mut at = Place::new(sizes, place);
-    let mut tally = nothing_done();
+    let mut tally = Tally {
+        steps: 0,
+        writes: 0,
+        erases: 0,
+    };
     let mut held = true;
     let mut i = 0;
     while i < taken {
@@ -123,11 +109,13 @@ fn carry_out(
         i += 1;
     }
     let reached = place + taken;
+    let finished = (reached == last) as u32;
+    let place = reached as u32;
     RunResult {
         number: 0,
-        place: reached as u32,
+        place,
         tally,
-        finished: same(reached, last),
+        finished,
     }
 }
 
@@ -137,7 +125,11 @@ fn refused(number: u32) -> RunResult
     RunResult {
         number,
         place: 0,
-        tally: nothing_done(),
+        tally: Tally {
+            steps: 0,
+            writes: 0,
+            erases: 0,
+        },
         finished: 0,
     }
 }

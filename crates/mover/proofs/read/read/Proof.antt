@@ -36,7 +36,8 @@ returns : tie.Need-returns
 returns c =
     let start = c .before .before .before .before .before .before .before .before .before .before in
     let r = c .before .before .move-refusal in
-    refused-by-move (asked start) (chip start) (start .args .work .now) (start .args .k) (r .result) (c .refused .result) (r .ensures .0) (c .before .if1 .taken) (c .refused .ensures)
+    refused-by-move (asked start) (chip start) (start .args .work .now) (start .args .k)
+    (r .result) (c .refused .result) (r .ensures .0) (c .before .if1 .taken) (c .refused .ensures)
 
 -- ---- past rows 1 to 4
 abbrev start : tie.Else1 → tie.Start
@@ -64,7 +65,8 @@ returns-2 : tie.Need-returns-2
 returns-2 c =
     let read = c .before .before .before in
     let s = start (read .before) in
-    refused-6 (asked s) (chip s) (s .args .work .now) (s .args .k) (none (read .before)) (c .refused2 .result) (none-fits (move (asked s)) (s .args .marks .now) (read .read-marks .result) (read .read-marks .ensures .0) (c .before .enum-told .given .1)) (c .refused2 .ensures)
+    refused-6 (asked s) (chip s) (s .args .work .now) (s .args .k) (none (read .before)) (c .refused2 .result)
+    (none-fits (move (asked s)) (s .args .marks .now) (read .read-marks .result) (read .read-marks .ensures .0) (c .before .enum-told .given .1)) (c .refused2 .ensures)
 
 -- ---- the marks tell a moment
 enum-known-backward : tie.Need-enum-known-backward
@@ -85,7 +87,8 @@ add-moment-in c =
 moment-in-requires-2 : tie.Need-moment-in-requires-2
 moment-in-requires-2 c κs = accepted (c .before .before .before .before) .0 .ranges .n-high
 
-readable : (c : tie.At-match-came) → (let r = c .before in let s = start (r .before) in Readable (move (asked s)) (s .args .marks .now) (r .read-marks .result) (r .read-marks .ensures .0) (c .match .moment))
+readable : (c : tie.At-match-came) → (let r = c .before in let s = start (r .before) in
+    Readable (move (asked s)) (s .args .marks .now) (r .read-marks .result) (r .read-marks .ensures .0) (c .match .moment))
 readable c =
     let r = c .before .read-marks in
     let s = start (c .before .before) in
@@ -109,7 +112,8 @@ returns-3 c =
     let count = c .before .before in
     let e = count .before .before .before in
     let s = start e in
-    refused-7 (asked s) (chip s) (s .args .work .now) (s .args .k) (none e) (c .refused3 .result) (readable (count .before) .fits-one) (rw (← count .original-count .ensures) (c .before .if2 .taken)) (c .refused3 .ensures)
+    refused-7 (asked s) (chip s) (s .args .work .now) (s .args .k) (none e) (c .refused3 .result) (readable (count .before) .fits-one)
+    (rw (← count .original-count .ensures) (c .before .if2 .taken)) (c .refused3 .ensures)
 
 -- ---- the page is one of the originals
 within : (c : tie.Else2) → (let a = start (c .before .before .before .before) .args in a .k < a .sizes .n * a .sizes .m)
@@ -133,8 +137,12 @@ sum-to-page-requires c κs =
     let R = readable (e .before .before) in
     let L = accepted (e .before .before .before .before) .1 in
     let G = gathered r in
-    let inside = among (λ t. t < slotCount (s .args .sizes)) _ _ (r .read-slots .result) (omega (arith, G .few, G .room)) (G .slots-are) (R .stored (s .args .k) (within e)) in
-    ((omega (arith, R .some (s .args .k) (within e), count-is _ _ _ _ G), omega (arith, G .few, G .room), omega (arith, G .few), L .work-length), (λ j h. rw (L .store-length) (slot-in-store (s .args .sizes) _ (inside j h))))
+    let stored = R .stored (s .args .k) (within e) in
+    let inside = among (λ t. t < slotCount (s .args .sizes)) _ _ (r .read-slots .result) (omega (arith, G .few, G .room)) (G .slots-are) stored in
+    let some = R .some (s .args .k) (within e) in (
+      (omega (arith, some, count-is _ _ _ _ G), omega (arith, G .few, G .room), omega (arith, G .few), L .work-length),
+      (λ j h. rw (L .store-length) (slot-in-store (s .args .sizes) _ (inside j h))),
+    )
 
 cast-count : tie.Need-cast-count
 cast-count c = omega (arith, gathered (c .before .before .before .before .before) .few)
@@ -150,7 +158,8 @@ returns-4 c =
     let f = e .before .before .before .before in
     let s = start f in
     let G = gathered r in
-    rebuilt (asked s) (chip s) (s .args .work .now) (s .args .k) (none f) _ _ (readable (e .before .before) .fits-one) (within e) (count-is _ _ _ _ G) (c .before .before .sum-to-page .ensures ∙ ap (sum (λ t. part (s .args .sizes .p) t (s .args .store .now))) (G .slots-are))
+    rebuilt (asked s) (chip s) (s .args .work .now) (s .args .k) (none f) _ _ (readable (e .before .before) .fits-one) (within e) (count-is _ _ _ _ G)
+    (c .before .before .sum-to-page .ensures ∙ ap (sum (λ t. part (s .args .sizes .p) t (s .args .store .now))) (G .slots-are))
 
 pub read-spec : {M : Type 1} → statement M
 read-spec =

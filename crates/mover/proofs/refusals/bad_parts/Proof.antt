@@ -18,10 +18,4 @@ unfolding badParts badChip
 returns c = rw (c .before .before .before .original-count .ensures, c .before .before .slot-count .ensures, c .before .store-length .ensures)
 
 pub bad-parts-spec : {M : Type 1} → statement M
-bad-parts-spec =
-    tie.close
-    (tie.spec
-    original-count-requires
-    slot-count-requires
-    store-length-requires
-    returns)
+bad-parts-spec = tie.close (tie.spec original-count-requires slot-count-requires store-length-requires returns)

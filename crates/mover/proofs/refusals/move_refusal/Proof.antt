@@ -23,8 +23,7 @@ returns c =
     (sym (N ∙ rw (← c .before .in-range .ensures, c .if1 .taken)), λ z. absurd (omega arith))
 
 -- the sizes are in their ranges
-ranged : (c : tie.Else1)
-    → (let a = c .before .before .before .before .before .before .before .args in not (inRange (a .sizes)) ≡ false)
+ranged : (c : tie.Else1) → (let a = c .before .before .before .before .before .before .before .args in not (inRange (a .sizes)) ≡ false)
 ranged c = rw (← c .before .in-range .ensures) (c .if1 .left)
 
 ranges : (c : tie.Else1) → (let a = c .before .before .before .before .before .before .before .args in Bounds (a .sizes))

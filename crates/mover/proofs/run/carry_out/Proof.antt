@@ -53,9 +53,11 @@ placed : (c : tie.After-smaller Inv-loop μ-loop)
     (a .place + c .smaller .result ≤ lastPlace (a .sizes)) × (lastPlace (a .sizes) ≤ 8320))
 placed c =
     let start = c .before .before .before .before .before .before .before .before .before in
-    (omega (arith, c .smaller .ensures, c .before .last-place .ensures, stands-at (start .args .sizes) (from start .chip) (start .args .place) (start .pre .2) .inside), last-small (start .args .sizes) (start .pre .0 .ranges))
+    let in-move = stands-at (start .args .sizes) (from start .chip) (start .args .place) (start .pre .2) .inside in
+    (omega (arith, c .smaller .ensures, c .before .last-place .ensures), last-small (start .args .sizes) (start .pre .0 .ranges))
 
-pages-are : (c : tie.After-pages-table Inv-loop μ-loop) → PagesTable (moved (c .before .before .before .before .before .before .before)) (c .pages-table .last .1 .1 .0)
+pages-are : (c : tie.After-pages-table Inv-loop μ-loop)
+    → PagesTable (moved (c .before .before .before .before .before .before .before)) (c .pages-table .last .1 .1 .0)
 pages-are c =
     let start = c .before .before .before .before .before .before .before in
     rw (c .pages-table .ensures, start .pre .0 .sets-length) (pages-tell (moved start) (start .pre .0) _ refl)
@@ -66,31 +68,36 @@ reciprocal-requires c κs = c .before .before .before .before .before .before .b
 new-requires : tie.Need-new-requires Inv-loop μ-loop
 new-requires c κs = (c .before .before .before .before .before .before .before .before .before .before .pre .0 .ranges, omega (arith, placed (c .before)))
 
-nothing-done-requires : tie.Need-nothing-done-requires Inv-loop μ-loop
-nothing-done-requires c κs = search needs
-
 loop-holds : tie.Need-loop-holds Inv-loop μ-loop
 loop-holds c =
-    let start = c .before .before .before .before .before .before .before .before .before .before .before .before in
-    let a = start .args in
-    let first : a .place ≡ a .place + 0 = omega arith in
-    (none-taken _ _ _, c .nothing-done .ensures ∙ none-counted _ _, c .before .new .ensures ∙ ap (placeOf (a .sizes)) first, omega arith, record { sources-tell = λ e. absurd (never-both refl e); sets-tell = λ e. start .pre .3 })
+    let start = c .before .before .before .before .before .before .before .before .before .before .before in
+    let first : start .args .place ≡ start .args .place + 0 = omega arith in (
+      none-taken _ _ _,
+      none-counted _ _,
+      c .new .ensures ∙ ap (placeOf (start .args .sizes)) first,
+      omega arith,
+      record { sources-tell = λ e. absurd (never-both refl e); sets-tell = λ e. start .pre .3 },
+    )
 
 -- where the loop stands
 abbrev start : tie.At-loop Inv-loop μ-loop → tie.Start Inv-loop μ-loop
-start c = c .before .before .before .before .before .before .before .before .before .before .before .before .before
+start c = c .before .before .before .before .before .before .before .before .before .before .before .before
 
-standing : (c : tie.At-loop Inv-loop μ-loop) → (let l = c .loop in Stood (moved (start c)) (start c .pre .0) (runningOf (l .store) (l .marks) (l .work)) (start c .args .place + l .i))
-standing c = goes-on (moved (start c)) (start c .pre .0) (from (start c)) (start c .args .place) (start c .pre .1) (start c .pre .2) (c .loop .i) (omega (arith, placed (c .before .before .before .before))) _ (c .loop .inv .0)
+standing : (c : tie.At-loop Inv-loop μ-loop)
+    → (let l = c .loop in Stood (moved (start c)) (start c .pre .0) (runningOf (l .store) (l .marks) (l .work)) (start c .args .place + l .i))
+standing c =
+    let s = start c in
+    goes-on (moved s) (s .pre .0) (from s) (s .args .place) (s .pre .1) (s .pre .2) (c .loop .i) (omega (arith, placed (c .before .before .before))) _ (c .loop .inv .0)
 
-inside : (c : tie.In-loop Inv-loop μ-loop) → (let s = start (c .before) in (s .args .place + c .before .loop .i < lastPlace (s .args .sizes)) × (lastPlace (s .args .sizes) ≤ 8320))
-inside c = (let P = placed (c .before .before .before .before .before) in (omega arith, P .1))
+inside : (c : tie.In-loop Inv-loop μ-loop)
+    → (let s = start (c .before) in (s .args .place + c .before .loop .i < lastPlace (s .args .sizes)) × (lastPlace (s .args .sizes) ≤ 8320))
+inside c = (let P = placed (c .before .before .before .before) in (omega arith, P .1))
 
 fill-other-requires : tie.Need-fill-other-requires Inv-loop μ-loop
 fill-other-requires c κs = (start (c .before .before) .pre .0, c .before .before .loop .inv .4)
 
 slice-aggregate-step : tie.Need-slice-aggregate-step Inv-loop μ-loop
-slice-aggregate-step c = sym (pages-are (c .before .before .before .before .before .before .before .before .before .before) .room)
+slice-aggregate-step c = sym (pages-are (c .before .before .before .before .before .before .before .before .before) .room)
 
 step-requires : tie.Need-step-requires Inv-loop μ-loop
 step-requires c κs =
@@ -98,9 +105,12 @@ step-requires c κs =
     let l = loop .loop in
     let s = start loop in
     let S = standing loop in
+    let in-move = inside (c .before .before .before .before .before .before .before .before) in
+    let few = counts-fit (moved s) (s .pre .0) (s .args .place) (l .i) (l .tally) (omega arith) (l .inv .1) in
     let at = number-is _ _ _ (l .inv .2) in (
-      pass-tables (moved s) (s .pre .0) _ (pages-are (loop .before .before .before .before .before .before)) _ _ (c .before .before .before .before .before .before .fill-other .ensures) (omega (arith, c .before .before .before .step-arg2 .given)),
-      (loop .before .before .before .reciprocal .ensures, is-place _ _ _ (l .inv .2), rw at (S .stands .marks), S .lent, counts-fit (moved s) (s .pre .0) (s .args .place) (l .i) (l .tally) (omega (arith, inside (c .before .before .before .before .before .before .before .before))) (l .inv .1)),
+      pass-tables (moved s) (s .pre .0) _ (pages-are (loop .before .before .before .before .before)) _ _
+          (c .before .before .before .before .before .before .fill-other .ensures) (omega (arith, c .before .before .before .step-arg2 .given)),
+      (loop .before .before .reciprocal .ensures, is-place _ _ _ (l .inv .2), rw at (S .stands .marks), S .lent, few),
     )
 
 next-requires : tie.Need-next-requires Inv-loop μ-loop
@@ -123,7 +133,8 @@ loop-again c =
     let l = inner .before .loop in
     let at : l .at .at ≡ s .args .place + l .i = number-is _ _ _ (l .inv .2) in
     let on : l .at .at + 1 ≡ s .args .place + (l .i + 1) = omega arith in (
-      one-taken (moved s) (s .args .place) (l .i) _ _ _ (l .inv .0) (rw (at, sets-told (moved s) (s .pre .0) _ (pages-are (inner .before .before .before .before .before .before .before))) at (step .step .ensures .0)),
+      one-taken (moved s) (s .args .place) (l .i) _ _ _ (l .inv .0)
+          (rw (at, sets-told (moved s) (s .pre .0) _ (pages-are (inner .before .before .before .before .before .before))) at (step .step .ensures .0)),
       one-counted (moved s) (s .args .place) (l .i) _ _ (inside inner .0) (l .inv .1) (rw at at (step .step .ensures .1)),
       c .next .ensures ∙ ap (placeOf (s .args .sizes)) on,
       omega arith,
@@ -132,29 +143,29 @@ loop-again c =
 
 -- where it ends: the place reached is in the move
 add-reached : tie.Need-add-reached Inv-loop μ-loop
-add-reached c = omega (arith, placed (c .before .before .before .before .before))
+add-reached c = omega (arith, placed (c .before .before .before .before))
 
-cast-t36 : tie.Need-cast-t36 Inv-loop μ-loop
-cast-t36 c = omega (arith, placed (c .before .before .before .before .before))
+cast-finished : tie.Need-cast-finished Inv-loop μ-loop
+cast-finished c = search needs
 
-same-requires : tie.Need-same-requires Inv-loop μ-loop
-same-requires c κs = search needs
+cast-place : tie.Need-cast-place Inv-loop μ-loop
+cast-place c = omega (arith, placed (c .before .before .before .before))
 
 same-length : tie.Need-same-length Inv-loop μ-loop
-same-length c = (let l = c .before .before in standing l .lent .store-length ∙ sym (start l .pre .1 .store-length))
+same-length c = standing (c .before) .lent .store-length ∙ sym (start (c .before) .pre .1 .store-length)
 
 same-length-2 : tie.Need-same-length-2 Inv-loop μ-loop
-same-length-2 c = (let l = c .before .before in standing l .lent .marks-length ∙ sym (start l .pre .1 .marks-length))
+same-length-2 c = standing (c .before) .lent .marks-length ∙ sym (start (c .before) .pre .1 .marks-length)
 
 same-length-3 : tie.Need-same-length-3 Inv-loop μ-loop
-same-length-3 c = (let l = c .before .before in standing l .lent .work-length ∙ sym (start l .pre .1 .work-length))
+same-length-3 c = standing (c .before) .lent .work-length ∙ sym (start (c .before) .pre .1 .work-length)
 
 returns : tie.Need-returns Inv-loop μ-loop
 returns c =
-    let l = c .before .before in
-    let smaller = l .before .before .before .before in
+    let l = c .before in
+    let smaller = l .before .before .before in
     let all : l .loop .i ≡ smaller .smaller .result = omega arith in
-    carried _ _ _ _ _ _ _ _ _ _ _ _ _ (smaller .before .last-place .ensures) (smaller .smaller .ensures) (c .same .ensures) (rw all at (l .loop .inv .0)) (rw all at (l .loop .inv .1))
+    carried _ _ _ _ _ _ _ _ _ _ _ _ (smaller .before .last-place .ensures) (smaller .smaller .ensures) (rw all at (l .loop .inv .0)) (rw all at (l .loop .inv .1))
 
 pub carry-out-spec : {M : Type 1} → statement M
 carry-out-spec =
@@ -168,7 +179,6 @@ carry-out-spec =
     smaller-requires
     reciprocal-requires
     new-requires
-    nothing-done-requires
     loop-holds
     fill-other-requires
     slice-aggregate-step
@@ -178,8 +188,8 @@ carry-out-spec =
     loop-less
     loop-again
     add-reached
-    cast-t36
-    same-requires
+    cast-finished
+    cast-place
     same-length
     same-length-2
     same-length-3

@@ -13,7 +13,8 @@ returns : tie.Need-returns
 returns c =
     let start = c .before .before .before in
     let a = start .args in
-    subst (λ (t : Bool). OtherTable (moveOf (a .sizes) (a .list .now) (a .sets .now)) t (a .other .now)) (same (a .held) (a .backward) (c .if1 .taken)) (start .pre .1)
+    let held = same (a .held) (a .backward) (c .if1 .taken) in
+    subst (λ (t : Bool). OtherTable (moveOf (a .sizes) (a .list .now) (a .sets .now)) t (a .other .now)) held (start .pre .1)
   where
     same : (a b : Bool) → Bool·beq a b ≡ true → a ≡ b
     same true true e = refl
@@ -25,7 +26,8 @@ sets-by-destination-requires : tie.Need-sets-by-destination-requires
 sets-by-destination-requires c κs =
     let start = c .before .before .before .before .before in
     let A = start .pre .0 in
-    (A .sets-length ∙ sym (A .list-length), omega (arith, A .list-length, c .sets-by-destination-arg .given, product-le (start .args .sizes .n) (start .args .sizes .m) {c = 64} {d = 64} (A .ranges .n-high) (A .ranges .m-high)))
+    let few = product-le (start .args .sizes .n) (start .args .sizes .m) {c = 64} {d = 64} (A .ranges .n-high) (A .ranges .m-high) in
+    (A .sets-length ∙ sym (A .list-length), omega (arith, A .list-length, c .sets-by-destination-arg .given))
 
 returns-2 : tie.Need-returns-2
 returns-2 c =

@@ -26,7 +26,7 @@ enum-known-backward c = search needs
 
 writes : (c : tie.After-backward) → (let a = start (c .before .before) .args in let v = c .backward .given .0 in
     IsWrite (a .sizes) (a .place .at) (v .0) (v .1 .0) (v .1 .1 .0) (v .1 .1 .1 .0))
-writes c = (let a = start (c .before .before) .args in is-write (a .sizes) (a .place .at) _ _ _ _ (sym (c .backward .given .1) ∙ c .before .before .operation .ensures))
+writes c = is-write _ _ _ _ _ _ (sym (c .backward .given .1) ∙ c .before .before .operation .ensures)
 
 known : (c : tie.After-backward) → (let s = start (c .before .before) in let v = c .backward .given .0 in
     WriteKnown (moved s) (s .pre .0 .accepted) (s .args .place) (s .pre .1 .1) (s .args .marks .now) (s .pre .1 .2) (v .0) (v .1 .0))
@@ -50,7 +50,8 @@ write-slots-requires : tie.Need-write-slots-requires
 write-slots-requires c κs =
     let s = start (c .before .before .before .before) in
     let W = writes (c .before .before) in
-    (subst (λ (t : Bool). PassTables (moved s) t (s .args .pages .now) (s .args .other .now)) (known (c .before .before) .pass-is) (s .pre .0), (s .pre .1 .0, refl, W .page-in, W .block-in, W .low, W .high))
+    let tables = subst (λ (t : Bool). PassTables (moved s) t (s .args .pages .now) (s .args .other .now)) (known (c .before .before) .pass-is) (s .pre .0) in
+    (tables, (s .pre .1 .0, refl, W .page-in, W .block-in, W .low, W .high))
 
 slice-aggregate-sum-to-page : tie.Need-slice-aggregate-sum-to-page
 slice-aggregate-sum-to-page c = sym (c .before .before .write-slots .ensures .0 .2)
@@ -74,13 +75,17 @@ write-page-requires c κs =
     let s = start (b .before .before) in
     let L = s .pre .1 .3 in
     let i = inside b .0 in
-    (rw (L .store-length) (slot-in-store (s .args .sizes) _ i), (rw (L .marks-length) i, omega (arith, c .before .before .before .before .before .before .sum-to-page .kept .1 .1 .1 .1 .0, L .work-length)))
+    let work-is = c .before .before .before .before .before .before .sum-to-page .kept .1 .1 .1 .1 .0 in
+    (rw (L .store-length) (slot-in-store (s .args .sizes) _ i), (rw (L .marks-length) i, omega (arith, work-is, L .work-length)))
+
+abbrev told : tie.After-write-page → tie.After-backward
+told c = c .before .before .before .before .before .before .before .before .before .before .before .before .before .before
 
 add-tally : tie.Need-add-tally
-add-tally c = omega (arith, start (c .before .before .before .before .before .before .before .before .before .before .before .before .before .before .before .before .before .before .before .before .before) .pre .1 .4)
+add-tally c = omega (arith, start (told (c .before .before .before .before .before) .before .before) .pre .1 .4)
 
 add-tally-2 : tie.Need-add-tally-2
-add-tally-2 c = omega (arith, start (c .before .before .before .before .before .before .before .before .before .before .before .before .before .before .before .before .before .before .before .before .before .before) .pre .1 .4)
+add-tally-2 c = omega (arith, start (told (c .before .before .before .before .before .before) .before .before) .pre .1 .4)
 
 -- ---- it is this erase
 enum-known-block : tie.Need-enum-known-block
@@ -94,7 +99,9 @@ erase-block-requires c κs =
     let b = c .before .before .before in
     let s = start (b .before .before) in
     let L = s .pre .1 .3 in
-    (rw (L .store-length) (block-in-store (s .args .sizes) (b .block .given .0 .0) (erases b .block-in)), rw (L .marks-length) (block-in-marks (s .args .sizes) (b .block .given .0 .0) (erases b .block-in)))
+    let block = b .block .given .0 .0 in
+    let i = erases b .block-in in
+    (rw (L .store-length) (block-in-store (s .args .sizes) block i), rw (L .marks-length) (block-in-marks (s .args .sizes) block i))
 
 add-tally-3 : tie.Need-add-tally-3
 add-tally-3 c = search needs
@@ -125,7 +132,8 @@ returns c =
     let v = b .backward .given .0 in
     let W = writes b in
     stepped (moved s) (a .place .at) (write (passOf (v .0)) (v .1 .0) (v .1 .1 .0)) (W .is) _ _ _ _
-    (wrote (moved s) (passOf (v .0)) (v .1 .0) (v .1 .1 .0) (a .store .now) (a .marks .now) (a .work .now) _ _ _ _ (w .write-slots .result) (v .1 .1 .1 .0) (c .before .before .before .before .before .before .before .before .before .before .before .before .before .sum-to-page .ensures)
+    (wrote (moved s) (passOf (v .0)) (v .1 .0) (v .1 .1 .0) (a .store .now) (a .marks .now) (a .work .now) _ _ _ _ (w .write-slots .result) (v .1 .1 .1 .0)
+    (c .before .before .before .before .before .before .before .before .before .before .before .before .before .sum-to-page .ensures)
     (w .write-slots .ensures .1 (a .marks .now) (known b .moment-is)) (W .mark-is) (c .before .before .before .before .before .before .write-page .ensures)) refl
 
 same-length-4 : tie.Need-same-length-4
@@ -142,14 +150,16 @@ returns-2 c =
     let s = start (b .before .before) in
     let a = s .args in
     let block = b .block .given .0 .0 in
-    stepped (moved s) (a .place .at) (erase block) (erases b .is) _ _ _ _ (erased (moved s) block (a .store .now) (a .marks .now) (a .work .now) _ _ (e .erase-block .ensures)) refl
+    stepped (moved s) (a .place .at) (erase block) (erases b .is) _ _ _ _
+    (erased (moved s) block (a .store .now) (a .marks .now) (a .work .now) _ _ (e .erase-block .ensures)) refl
 
 returns-3 : tie.Need-returns-3
 unfolding perform tallied
 returns-3 c =
     let s = start (c .before .before) in
     let Z = s .args .sizes in
-    stepped (moved s) (s .args .place .at) done (told-done Z (operationAt Z (s .args .place .at)) (sym (c .enum-told .given .1) ∙ c .before .before .operation .ensures)) _ _ _ _ refl refl
+    stepped (moved s) (s .args .place .at) done
+    (told-done Z (operationAt Z (s .args .place .at)) (sym (c .enum-told .given .1) ∙ c .before .before .operation .ensures)) _ _ _ _ refl refl
 
 pub step-spec : {M : Type 1} → statement M
 step-spec =

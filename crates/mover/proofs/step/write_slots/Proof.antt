@@ -24,13 +24,15 @@ sub-wide : tie.Need-sub-wide
 sub-wide c = c .before .before .before .before .pre .1 .4 (c .if1 .taken)
 
 -- the page number is one of the list
-inside : (c : tie.Then1) → (let a = c .before .before .before .before .args in ((a .block - 1) * a .sizes .m + a .page < a .sizes .n * a .sizes .m) × (a .sizes .n * a .sizes .m ≤ 4096))
+inside : (c : tie.Then1) → (let a = c .before .before .before .before .args in
+    ((a .block - 1) * a .sizes .m + a .page < a .sizes .n * a .sizes .m) × (a .sizes .n * a .sizes .m ≤ 4096))
 inside c =
     let start = c .before .before .before .before in
     let a = start .args in
     let low = start .pre .1 .4 (c .if1 .taken) in
     let B = start .pre .0 .accepted .ranges in
-    (slot-lt (a .sizes .m) (a .block - 1) (a .page) (a .sizes .n) (omega arith) (omega arith), product-le (a .sizes .n) (a .sizes .m) {c = 64} {d = 64} (B .n-high) (B .m-high))
+    let few = product-le (a .sizes .n) (a .sizes .m) {c = 64} {d = 64} (B .n-high) (B .m-high) in
+    (slot-lt (a .sizes .m) (a .block - 1) (a .page) (a .sizes .n) (omega arith) (omega arith), few)
 
 mul-wide : tie.Need-mul-wide
 mul-wide c = omega (arith, inside (c .before))
@@ -46,13 +48,15 @@ wide-requires c κs = search needs
 
 -- the set of the page that goes there
 sent : (c : tie.After-wide) → (let start = c .before .before .before .before .before .before .before in let a = start .args in
-    (c .wide .result ≡ setOf (moved start .sets) (sentTo (moved start) (numberAt (a .sizes .m) (a .block) (a .page)))) × (c .wide .result < a .sizes .m) × (a .sizes .m ≤ 64))
+    (c .wide .result ≡ setOf (moved start .sets) (sentTo (moved start) (numberAt (a .sizes .m) (a .block) (a .page))))
+    × (c .wide .result < a .sizes .m) × (a .sizes .m ≤ 64))
 sent c =
     let start = c .before .before .before .before .before .before .before in
     let a = start .args in
     let T = start .pre .0 in
     let yes = c .before .before .before .if1 .taken in
-    let s = set-sent (moved start) (T .accepted) (a .other .now) (T .other-tells .sets-tell yes) (a .block) (a .page) (start .pre .1 .4 yes) (start .pre .1 .3) (start .pre .1 .2) in
+    let by-destination = T .other-tells .sets-tell yes in
+    let s = set-sent (moved start) (T .accepted) (a .other .now) by-destination (a .block) (a .page) (start .pre .1 .4 yes) (start .pre .1 .3) (start .pre .1 .2) in
     (c .wide .ensures ∙ s .0, rw (c .wide .ensures) (s .1), T .accepted .ranges .m-high)
 
 row-requires : tie.Need-row-requires
@@ -65,7 +69,9 @@ backward-slots-requires c κs =
     let T = start .pre .0 in
     let B = T .accepted .ranges in
     let s = sent w in
-    ((rw (c .before .row .ensures, row-is) (T .pages-tell .row (w .wide .result) (s .1) .fits), list-in (moved start) (T .accepted), start .pre .1 .4 (w .before .before .before .if1 .taken), start .pre .1 .3, start .pre .1 .0), (B .n-high, B .m-high, s .1, start .pre .1 .1))
+    let pages = T .pages-tell .row (w .wide .result) (s .1) .fits in
+    let low = start .pre .1 .4 (w .before .before .before .if1 .taken) in
+    ((rw (c .before .row .ensures, row-is) pages, list-in (moved start) (T .accepted), low, start .pre .1 .3, start .pre .1 .0), (B .n-high, B .m-high, s .1, start .pre .1 .1))
 
 returns : tie.Need-returns
 returns c =
@@ -81,14 +87,17 @@ returns c =
     let P = start .pre .0 .pages-tell .row set (s .1) in
     let G = rw (c .before .before .row .ensures, row-is) at (c .backward-slots .ensures) in
     let stored = backward-stored (a .sizes) set (s .1) _ (P .fits) (a .list .now) (list-in M A) (a .block) (record { low = low; high = start .pre .1 .3 }) in
-    rw yes ((G .1, G .2, G .3, among (λ t. t < slotCount (a .sizes)) _ _ (c .backward-slots .result) (omega (arith, G .2, G .3)) (G .0) stored), λ marks T. rw (G .0) (backward-slots M A (a .block) (a .page) set low (start .pre .1 .3) (start .pre .1 .2) (s .0) _ P marks T))
+    let inside = among (λ t. t < slotCount (a .sizes)) _ _ (c .backward-slots .result) (omega (arith, G .2, G .3)) (G .0) stored in
+    rw yes ((G .1, G .2, G .3, inside), λ marks T. rw (G .0) (backward-slots M A (a .block) (a .page) set low (start .pre .1 .3) (start .pre .1 .2) (s .0) _ P marks T))
 
 -- ---- forward
 row-requires-2 : tie.Need-row-requires-2
 row-requires-2 c κs = (let start = c .before .before .before .before in (omega (arith, start .pre .0 .accepted .ranges .m-high), start .pre .0 .room))
 
 row-requires-3 : tie.Need-row-requires-3
-row-requires-3 c κs = (let start = c .before .before .before .before .before in (omega (arith, start .pre .0 .accepted .ranges .m-high), start .pre .0 .pages-tell .room))
+row-requires-3 c κs =
+    let start = c .before .before .before .before .before in
+    (omega (arith, start .pre .0 .accepted .ranges .m-high), start .pre .0 .pages-tell .room)
 
 add-forward-slots : tie.Need-add-forward-slots
 add-forward-slots c = search needs
@@ -100,7 +109,11 @@ forward-slots-requires c κs =
     let T = start .pre .0 in
     let B = T .accepted .ranges in
     let no = c .before .before .before .if1 .left in
-    ((rw (c .before .row3 .ensures, row-is) (T .pages-tell .row (a .page) (start .pre .1 .2) .fits), rw (c .before .before .row2 .ensures, row-is) (T .other-tells .sources-tell no .row (a .page) (start .pre .1 .2) .fits), omega arith, start .pre .1 .5 no), (B .n-high, B .m-high, start .pre .1 .2, start .pre .1 .1))
+    let pages = T .pages-tell .row (a .page) (start .pre .1 .2) .fits in
+    let sources = T .other-tells .sources-tell no .row (a .page) (start .pre .1 .2) .fits in (
+      (rw (c .before .row3 .ensures, row-is) pages, rw (c .before .before .row2 .ensures, row-is) sources, omega arith, start .pre .1 .5 no),
+      (B .n-high, B .m-high, start .pre .1 .2, start .pre .1 .1),
+    )
 
 returns-2 : tie.Need-returns-2
 returns-2 c =
@@ -109,11 +122,17 @@ returns-2 c =
     let T = start .pre .0 in
     let no = c .before .before .before .before .if1 .left in
     let page-in = start .pre .1 .2 in
+    let high = start .pre .1 .5 no in
     let P = T .pages-tell .row (a .page) page-in in
     let S = T .other-tells .sources-tell no .row (a .page) page-in in
     let G = rw (c .before .before .row3 .ensures, row-is, c .before .before .before .row2 .ensures, row-is) at (c .forward-slots .ensures) in
-    let stored = forward-stored (a .sizes) (a .page) page-in _ (P .fits) _ (S .fits) (a .block + 1) (record { low = omega arith; high = start .pre .1 .5 no }) in
-    rw no ((G .1, G .2, G .3, among (λ t. t < slotCount (a .sizes)) _ _ (c .forward-slots .result) (omega (arith, G .2, G .3)) (G .0) stored), λ marks T. rw (G .0, forward-slots (moved start) (start .pre .0 .accepted) (a .page) page-in _ _ P S (a .block) (omega (arith, start .pre .1 .5 no)) marks T) (record { number = refl; sums = λ page. refl }))
+    let stored = forward-stored (a .sizes) (a .page) page-in _ (P .fits) _ (S .fits) (a .block + 1) (record { low = omega arith; high = high }) in
+    let inside = among (λ t. t < slotCount (a .sizes)) _ _ (c .forward-slots .result) (omega (arith, G .2, G .3)) (G .0) stored in
+    rw no (
+      (G .1, G .2, G .3, inside),
+      λ marks M. rw (G .0, forward-slots (moved start) (T .accepted) (a .page) page-in _ _ P S (a .block) (omega arith) marks M)
+          (record { number = refl; sums = λ page. refl }),
+    )
 
 pub write-slots-spec : {M : Type 1} → statement M
 write-slots-spec =
