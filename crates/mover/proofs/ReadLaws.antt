@@ -82,7 +82,7 @@ module _ (M : Move) (marks : List ℕ) (told : MarksRead) (answer : answerOf (M 
     by-shape : (low high : ℕ) → fitsNone (reading (M .sizes) marks) ≡ false → Shape (M .sizes) marks low high (cond isBackward 2 0)
         → moment ≡ momentIn isBackward (M .sizes .n) low high → Readable moment
     by-shape low high f S e =
-        let r : (k : ℕ) → k < originalCount (M .sizes) → Reads M marks low high (M .sizes .n) (readSlots M marks k) k =
+        let r : (k : ℕ) → k < originalCount (M .sizes) → Reads M marks (M .sizes .n) (readSlots M marks k) k =
         λ k h. reads M A marks low high k h (cond isBackward 2 0) (which isBackward) S in
         record { fits-one = f; moment-is = rw e (tells M A marks isBackward low high S); some = λ k h. r k h .some; stored = λ k h i l. r k h .sited i l .inside }
 

@@ -11,7 +11,7 @@ use Rattle.method.specs.Move.{AcceptedMove, Lent, move}
 use Rattle.method.specs.Read.{readSlots, readPage}
 use Rattle.method.specs.Answers.{moveRows}
 use Rattle.method.proofs.basics.AcceptedCalls.{move-accepted}
-use Rattle.walk.specs.inner.Slots.{Appends}
+use Rattle.walk.specs.inner.Slots.{StartsWith}
 use Rattle.walk.proofs.GatherLaws.{among, count-is}
 use Rattle.mover.proofs.ReadLaws.{refused-by-move, refused-6, refused-7, rebuilt, none-fits, Readable, full, torn}
 use Rattle.mover.proofs.read.read.Statement.{statement}
@@ -123,7 +123,7 @@ read-slots-requires : tie.Need-read-slots-requires
 read-slots-requires c κs = (accepted (c .before .before .before .before .before) .0, within (c .before), refl)
 
 gathered : (c : tie.After-read-slots) → (let s = start (c .before .before .before .before .before .before) in
-    Appends (replicate 65 0) 0 (readSlots (move (asked s)) (s .args .marks .now) (s .args .k)) (c .read-slots .last .1 .1 .1 .1 .1 .0) (c .read-slots .result))
+    StartsWith (replicate 65 0) 1 (readSlots (move (asked s)) (s .args .marks .now) (s .args .k)) (c .read-slots .last .1 .1 .1 .1 .1 .0) (c .read-slots .result))
 gathered c = c .read-slots .ensures _ (readable (c .before .before .before .before) .moment-is)
 
 slice-aggregate-sum-to-page : tie.Need-slice-aggregate-sum-to-page
