@@ -1,5 +1,5 @@
 -- `sum_to_slot` leaves the sum of the pages of all slots in the page of another slot: a step's write.
-use Rattle.flash.proofs.Kit.{_≡_, _≢_, refl, sym, ap, _∙_, cond, List, [], ℕ, _+_, _-_, _*_, _≤_, arith, ltb, length, take, drop, length-take}
+use Rattle.flash.proofs.Kit.{_≡_, _≢_, refl, sym, ap, _∙_, cond, [], _+_, _-_, _*_, _≤_, arith, ltb, length, take, drop, length-take}
 use Rattle.flash.proofs.Kit.{length-drop, length-take-le, take-all, lt-ltb, needs}
 use Rattle.flash.specs.Lists.{part, setPart}
 use Rattle.flash.specs.PageSum.{sum}
