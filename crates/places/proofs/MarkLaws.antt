@@ -9,89 +9,70 @@ use Rattle.flash.proofs.Bools.{never-both, bool-eq}
 use Rattle.flash.proofs.Ranges.{all-in, all-is, all-not}
 use Rattle.flash.proofs.Same.{eq-same, ne-same}
 use Rattle.flash.proofs.Comparisons.{lt-cases}
-use Rattle.method.specs.Place.{Pass, lastPlace, passAt, filling, filled, Held, code, written, above, heldAt, heldMark, marksOf}
+use Rattle.method.specs.Place.{lastPlace, filling, written, above, heldAt, heldMark, marksOf}
 use Rattle.method.specs.Answers.{isElsewhere}
-use Rattle.method.proofs.places.StepsAtPlaces.{pages-in}
 use Rattle.method.proofs.places.PagesHeld.{held-below, held-above, held-written, held-blank, MarksAt, marksOf-at, marks-eq}
 use Rattle.places.specs.declared.place.Place.{Place}
 use Rattle.places.specs.inner.Place.{passOf, placeOf}
 use Rattle.places.proofs.PlaceLaws.{pass-is, block-is, page-is}
-use Rattle.places.specs.inner.BlockMarks.{MarksDue, blockStands}
+use Rattle.places.specs.inner.BlockMarks.{blockStands}
 use Rattle.flash.proofs.Ranges.{none-full}
 
-module _ (Z : Sizes) (place : ℕ) where
-  open Sizes Z using (m)
-
-  -- ---- the marks of a block
-  module _ (block : ℕ) where
-    -- all pages hold the same
-    due-all : (x : Held) (mark : ℕ) → ((page : ℕ) → heldAt Z place block page ≡ x) → mark ≡ heldMark Z x → MarksDue Z place block mark m
-    due-all x mark held e = record {
-      fits = omega arith;
-      mark-is = λ page h. ap (heldMark Z) (held page) ∙ sym e ∙ rw (lt-ltb page m h) refl;
-    }
-
-    -- the block that is being filled
-    due-part : (mark : ℕ) → block ≡ filling Z place → mark ≡ heldMark Z (written (passAt Z place)) → MarksDue Z place block mark (filled Z place)
-    unfolding heldMark
-    due-part mark here e = record {
-      fits = pages-in Z place;
-      mark-is = λ page h.
-          ⊎-elim
-          (λ (l : page < filled Z place). ap (heldMark Z) (held-written Z place block page here l) ∙ sym e ∙ rw (lt-ltb page (filled Z place) l) refl)
-          (λ (l : filled Z place ≤ page). ap (heldMark Z) (held-blank Z place block page here l) ∙ rw (le-ltb page (filled Z place) l) refl)
-          (lt-cases page (filled Z place));
-    }
-
--- the same by what the code holds of the place
-module _ (Z : Sizes) (here : Place) (is : here ≡ placeOf Z (here .at)) (block mark : ℕ) where
-  open Sizes Z using (m)
-
-  abbrev Due : ℕ → Type 0
-  Due written = MarksDue Z (here .at) block mark written
-
-  pub due-below : block < here .block → mark ≡ letter Z 1 → Due m
-  unfolding heldMark
-  due-below h e = due-all Z (here .at) block code mark (λ page. held-below Z (here .at) block page (omega (arith, block-is Z here is))) e
-
-  pub due-above : here .block < block → mark ≡ heldMark Z (above (passOf (here .backward))) → Due m
-  due-above h e =
-      due-all Z (here .at) block (above (passOf (here .backward))) mark
-      (λ page. held-above Z (here .at) block page (omega (arith, block-is Z here is)) ∙ ap above (pass-is Z here is)) e
-
-  pub due-here : here .block ≤ block → block ≤ here .block → mark ≡ heldMark Z (written (passOf (here .backward))) → Due (here .page)
-  due-here low high e =
-      rw (page-is Z here is)
-      (due-part Z (here .at) block mark (omega (arith, block-is Z here is)) (e ∙ ap (λ (x : Pass). heldMark Z (written x)) (sym (pass-is Z here is))))
-
 -- ---- a block stands where each of its marks does
-all-same : (f g : ℕ → Bool) (size : ℕ) → ((j : ℕ) → j < size → f j ≡ g j) → all f (range 0 size) ≡ all g (range 0 size)
-all-same f g size same =
-    bool-eq (all f (range 0 size)) (all g (range 0 size))
-    (λ e. all-is g 0 size (λ j a b. sym (same j (omega arith)) ∙ all-in f 0 size e j a b))
-    (λ e. all-is f 0 size (λ j a b. same j (omega arith) ∙ all-in g 0 size e j a b))
-
-module _ (Z : Sizes) (place block mark wr : ℕ) (D : MarksDue Z place block mark wr) (marks : List ℕ) where
+module _ (Z : Sizes) (here : Place) (is : here ≡ placeOf Z (here .at)) (block : ℕ) (marks : List ℕ) where
   open Sizes Z using (m)
 
-  abbrev due : ℕ → ℕ
-  due page = cond (ltb page wr) mark erased
-
-  stands-is : blockStands Z marks place block ≡ all (λ page. eqb (markAt marks (slot m block page)) (due page)) (range 0 m)
+  stands-is : (due : ℕ → ℕ) → ((page : ℕ) → page < m → due page ≡ heldMark Z (heldAt Z (here .at) block page))
+      → all (λ page. eqb (markAt marks (slot m block page)) (due page)) (range 0 m) ≡ blockStands Z marks (here .at) block
   unfolding blockStands
-  stands-is = all-same _ _ m (λ j h. ap (eqb (markAt marks (slot m block j))) (D .mark-is j h))
+  stands-is due same =
+      bool-eq (all f (range 0 m)) (all g (range 0 m))
+      (λ e. all-is g 0 m (λ j a b. sym (ap (eqb (mark j)) (same j (omega arith))) ∙ all-in f 0 m e j a b))
+      (λ e. all-is f 0 m (λ j a b. ap (eqb (mark j)) (same j (omega arith)) ∙ all-in g 0 m e j a b))
+    where
+      mark : ℕ → ℕ
+      mark page = markAt marks (slot m block page)
 
-  pub stands-full : wr ≡ m → isFull m marks block mark ≡ blockStands Z marks place block
+      f : ℕ → Bool
+      f page = eqb (mark page) (due page)
+
+      g : ℕ → Bool
+      g page = eqb (mark page) (heldMark Z (heldAt Z (here .at) block page))
+
+  -- the blocks below the one that is being filled, and those above it
+  pub below-stands : block < here .block → isFull m marks block (letter Z 1) ≡ blockStands Z marks (here .at) block
+  unfolding isFull heldMark
+  below-stands h = stands-is (λ page. letter Z 1) (λ page k. sym (ap (heldMark Z) (held-below Z (here .at) block page (omega (arith, block-is Z here is)))))
+
+  pub above-stands : here .block < block → isFull m marks block (heldMark Z (above (passOf (here .backward)))) ≡ blockStands Z marks (here .at) block
   unfolding isFull
-  stands-full e =
-      all-same (λ page. eqb (markAt marks (slot m block page)) mark) (λ page. eqb (markAt marks (slot m block page)) (due page)) m
-      (λ j h. rw (lt-ltb j wr (omega arith)) refl) ∙ sym stands-is
+  above-stands h =
+      stands-is (λ page. heldMark Z (above (passOf (here .backward)))) (λ page k.
+      sym (ap (heldMark Z) (held-above Z (here .at) block page (omega (arith, block-is Z here is)) ∙ ap above (pass-is Z here is))))
 
-  pub stands-all : ((j : ℕ) → j < m → markAt marks (slot m block j) ≡ due j) → true ≡ blockStands Z marks place block
-  stands-all f = sym (stands-is ∙ all-is (λ page. eqb (markAt marks (slot m block page)) (due page)) 0 m (λ j a b. eq-eqb _ _ (f j (omega arith))))
+  -- the block that is being filled: its first pages have the letter of the pass, and the others are blank
+  module _ (low : here .block ≤ block) (high : block ≤ here .block) where
+    abbrev due : ℕ → ℕ
+    due page = cond (ltb page (here .page)) (heldMark Z (written (passOf (here .backward)))) erased
 
-  pub stands-not : (j : ℕ) → j < m → (markAt marks (slot m block j) ≡ due j → ⊥) → false ≡ blockStands Z marks place block
-  stands-not j h ne = sym (stands-is ∙ all-not (λ page. eqb (markAt marks (slot m block page)) (due page)) 0 m j (omega arith) (omega arith) (ne-eqb _ _ ne))
+    filling-stands : all (λ page. eqb (markAt marks (slot m block page)) (due page)) (range 0 m) ≡ blockStands Z marks (here .at) block
+    unfolding heldMark
+    filling-stands =
+        let at : block ≡ filling Z (here .at) = omega (arith, block-is Z here is) in
+        stands-is due (λ page k. ⊎-elim
+        (λ (l : page < here .page).
+        rw (lt-ltb page (here .page) l)
+        (sym (ap (heldMark Z) (held-written Z (here .at) block page at (omega (arith, page-is Z here is)) ∙ ap written (pass-is Z here is)))))
+        (λ (l : here .page ≤ page).
+        rw (le-ltb page (here .page) l)
+        (sym (ap (heldMark Z) (held-blank Z (here .at) block page at (omega (arith, page-is Z here is))))))
+        (lt-cases page (here .page)))
+
+    pub stands-all : ((j : ℕ) → j < m → markAt marks (slot m block j) ≡ due j) → true ≡ blockStands Z marks (here .at) block
+    stands-all f = sym (all-is (λ page. eqb (markAt marks (slot m block page)) (due page)) 0 m (λ j a b. eq-eqb _ _ (f j (omega arith)))) ∙ filling-stands
+
+    pub stands-not : (j : ℕ) → j < m → (markAt marks (slot m block j) ≡ due j → ⊥) → false ≡ blockStands Z marks (here .at) block
+    stands-not j h ne = sym (all-not (λ page. eqb (markAt marks (slot m block page)) (due page)) 0 m j (omega arith) (omega arith) (ne-eqb _ _ ne)) ∙ filling-stands
 
 -- ---- the marks are those of the place where each block stands
 module _ (Z : Sizes) (marks : List ℕ) (place : ℕ) where

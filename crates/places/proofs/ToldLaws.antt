@@ -2,7 +2,7 @@
 use Rattle.flash.proofs.Kit.{_≡_, true, false, ℕ, ltb}
 use Rattle.flash.specs.declared.sizes.Sizes.{Sizes}
 use Rattle.flash.specs.Geometry.{inRange}
-use Rattle.method.specs.Place.{Operation, operationAt, lastPlace}
+use Rattle.method.specs.Place.{operationAt, lastPlace}
 use Rattle.places.specs.Operation.{toldOf, operationAnswer}
 
 module _ (Z : Sizes) (place : ℕ) where
@@ -15,6 +15,6 @@ module _ (Z : Sizes) (place : ℕ) where
     unfolding operationAnswer
     refused-5 e = rw (sizes, e)
 
-    pub told : ltb (lastPlace Z) place ≡ false → (op : Operation) → operationAt Z place ≡ op → operationAnswer Z place ≡ toldOf Z op
+    pub told : ltb (lastPlace Z) place ≡ false → operationAnswer Z place ≡ toldOf Z (operationAt Z place)
     unfolding operationAnswer
-    told e op f = rw (sizes, e, f)
+    told e = rw (sizes, e)

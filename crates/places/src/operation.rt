@@ -17,55 +17,41 @@ pub struct OperationResult {
     pub mark: u32,
 }
 
-fn refused(number: u32) -> OperationResult
-    ensures { λ r. ⌜ r ≡ record { number = number; kind = 0; block = 0; page = 0; mark = 0 } ⌝ }
-{
-    OperationResult {
-        number,
-        kind: 0,
-        block: 0,
-        page: 0,
-        mark: 0,
-    }
-}
-
 // The step at a place of a move with these sizes.
 pub fn operation(sizes: Sizes, place: usize) -> OperationResult
     ensures { λ r. ⌜ r ≡ operationAnswer sizes place ⌝ }
 {
+    let mut told = OperationResult {
+        number: 0,
+        kind: 0,
+        block: 0,
+        page: 0,
+        mark: 0,
+    };
     if !in_range(sizes) {
-        return refused(1);
+        told.number = 1;
+        return told;
     }
     if last_place(sizes) < place {
-        return refused(5);
+        told.number = 5;
+        return told;
     }
-    let here = Place::new(sizes, place);
-    match here.operation(sizes) {
+    match Place::new(sizes, place).operation(sizes) {
         Op::Write {
             backward: _,
             block,
             page,
             mark,
-        } => OperationResult {
-            number: 0,
-            kind: 0,
-            block: block as u32,
-            page: page as u32,
-            mark: mark as u32,
-        },
-        Op::Erase { block } => OperationResult {
-            number: 0,
-            kind: 1,
-            block: block as u32,
-            page: 0,
-            mark: 0,
-        },
-        Op::Done => OperationResult {
-            number: 0,
-            kind: 2,
-            block: 0,
-            page: 0,
-            mark: 0,
-        },
+        } => {
+            told.block = block as u32;
+            told.page = page as u32;
+            told.mark = mark as u32;
+        }
+        Op::Erase { block } => {
+            told.kind = 1;
+            told.block = block as u32;
+        }
+        Op::Done => told.kind = 2,
     }
+    told
 }

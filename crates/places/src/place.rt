@@ -41,18 +41,11 @@ impl Place {
         let steps = sizes.m + 1;
         let turn = at / steps;
         let page = at % steps;
-        if turn < n {
-            return Place {
-                at,
-                backward: false,
-                block: turn,
-                page,
-            };
-        }
-        let block = 2 * n - turn;
+        let backward = n <= turn;
+        let block = if backward { 2 * n - turn } else { turn };
         Place {
             at,
-            backward: true,
+            backward,
             block,
             page,
         }
@@ -83,39 +76,23 @@ impl Place {
     }
 
     // The place that the step leads to: a page on, or the start of the next turn. The forward pass ends when block n is free.
-    pub fn next(self, sizes: Sizes) -> Place
+    pub fn next(mut self, sizes: Sizes) -> Place
         requires { ⌜ Bounds sizes × (self ≡ placeOf sizes (self .at)) × (self .at < lastPlace sizes) ⌝ }
         ensures { λ r. ⌜ r ≡ placeOf sizes (self .at + 1) ⌝ }
     {
-        let at = self.at + 1;
-        let backward = self.backward;
-        let block = self.block;
-        let page = self.page;
-        if page < sizes.m {
-            let page = page + 1;
-            return Place {
-                at,
-                backward,
-                block,
-                page,
-            };
+        self.at += 1;
+        if self.page < sizes.m {
+            self.page += 1;
+            return self;
         }
-        if backward {
-            let block = block - 1;
-            return Place {
-                at,
-                backward,
-                block,
-                page: 0,
-            };
+        self.page = 0;
+        if self.backward {
+            self.block -= 1;
+            return self;
         }
-        let block = block + 1;
-        Place {
-            at,
-            backward: block == sizes.n,
-            block,
-            page: 0,
-        }
+        self.block += 1;
+        self.backward = self.block == sizes.n;
+        self
     }
 }
 

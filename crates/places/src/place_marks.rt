@@ -1,8 +1,8 @@
 // Number 5: whether store and marks are as a place has them.
 ghost use mathlib.Core.Path.{_≡_};
-ghost use mathlib.Core.Bool.{cond, _&&_, not};
+ghost use mathlib.Core.Bool.{_&&_, not};
 ghost use Prim.Native.Nat.{_+_, _*_, _≤_};
-ghost use lib.Dec.{eqb, ltb};
+ghost use lib.Dec.{eqb};
 ghost use lib.ListN.{length};
 ghost use Rattle.flash.specs.Lists.{range, any, isSame};
 ghost use Rattle.flash.specs.Geometry.{Bounds, slotCount, storeLength};
@@ -10,7 +10,7 @@ ghost use Rattle.flash.specs.Chip.{erased, markAt, isBlank};
 ghost use Rattle.method.specs.Place.{marksOf};
 ghost use Rattle.method.specs.Answers.{isElsewhere};
 ghost use Rattle.places.specs.inner.Place.{placeOf};
-ghost use Rattle.places.specs.inner.BlockMarks.{MarksDue, blockStands};
+ghost use Rattle.places.specs.inner.BlockMarks.{blockStands};
 use crate::place::Place;
 use crate::place::last_place;
 use flash::ERASED;
@@ -19,65 +19,26 @@ use flash::page::is_blank;
 use flash::sizes::Sizes;
 use flash::sizes::letter_after;
 
-// The marks that a block has at a place: the first `written` are the letter, the others 255.
-struct Due {
-    letter: u8,
-    written: usize,
-}
-
-fn marks_due(sizes: Sizes, place: Place, block: usize) -> Due
-    requires { ⌜ Bounds sizes × (place ≡ placeOf sizes (place .at)) ⌝ }
-    ensures { λ r. ⌜ MarksDue sizes (place .at) block (r .letter) (r .written) ⌝ }
-{
-    let m = sizes.m;
-    if block < place.block {
-        return Due {
-            letter: letter_after(sizes, 1),
-            written: m,
-        };
-    }
-    let above = place.block < block;
-    if place.backward {
-        let written = if above { m } else { place.page };
-        return Due {
-            letter: letter_after(sizes, 2),
-            written,
-        };
-    }
-    if above {
-        return Due {
-            letter: letter_after(sizes, 0),
-            written: m,
-        };
-    }
-    Due {
-        letter: letter_after(sizes, 1),
-        written: place.page,
-    }
-}
-
-// The mark of a page, where the first `written` pages have the letter.
-fn mark_due(letter: u8, written: usize, page: usize) -> u8
-    ensures { λ r. ⌜ r ≡ cond (ltb page written) letter erased ⌝ }
-{
-    if page < written { letter } else { ERASED }
-}
-
-// Whether a block has the marks that it has at a place. All blocks but one are full of a letter, which is tested faster.
+// Whether a block has the marks that it has at a place. All blocks but the one that is being filled are full of a letter.
 fn block_stands(sizes: Sizes, marks: &[u8], place: Place, block: usize) -> bool
     requires { ⌜ Bounds sizes × (place ≡ placeOf sizes (place .at)) × (block * sizes .m + sizes .m ≤ length (now marks)) ⌝ }
     ensures { λ r. ⌜ r ≡ blockStands sizes (now (marks .entry)) (place .at) block ⌝ }
 {
     let m = sizes.m;
-    let due = marks_due(sizes, place, block);
-    let letter = due.letter;
-    let written = due.written;
-    if written == m {
-        return is_full(marks, m, block, letter);
+    let written = place.page;
+    if block < place.block {
+        return is_full(marks, m, block, letter_after(sizes, 1));
     }
+    if place.block < block {
+        let passes = if place.backward { 2 } else { 0 };
+        return is_full(marks, m, block, letter_after(sizes, passes));
+    }
+    let passes = if place.backward { 2 } else { 1 };
+    let letter = letter_after(sizes, passes);
     let mut page = 0;
     while page < m {
-        if marks[block * m + page] != mark_due(letter, written, page) {
+        let mark = if page < written { letter } else { ERASED };
+        if marks[block * m + page] != mark {
             return false;
         }
         page += 1;
@@ -108,10 +69,8 @@ fn some_torn(p: usize, store: &[u8], marks: &[u8]) -> bool
 {
     let mut t = 0;
     while t < marks.len() {
-        if marks[t] == ERASED {
-            if !is_blank(store, marks, p, t) {
-                return true;
-            }
+        if marks[t] == ERASED && !is_blank(store, marks, p, t) {
+            return true;
         }
         t += 1;
     }

@@ -1,10 +1,10 @@
 -- `operation` meets its contract: two refusals, and the three kinds of step.
-use Rattle.flash.proofs.Kit.{_≡_, sym, ap, _∙_, true, false, ℕ, arith, needs, not-true, not-false, lt-ltb, le-ltb, ltb}
+use Rattle.flash.proofs.Kit.{_≡_, sym, ap, _∙_, true, ℕ, arith, needs, not-true, not-false, lt-ltb, le-ltb}
 use Rattle.flash.specs.Geometry.{inRange}
 use Rattle.flash.proofs.Bounds.{in-range}
-use Rattle.method.specs.Place.{write, erase, done, operationAt, lastPlace}
-use Rattle.places.specs.inner.Place.{passOf, opOf}
-use Rattle.places.specs.Operation.{toldOf}
+use Rattle.method.specs.Place.{operationAt, lastPlace}
+use Rattle.places.specs.inner.Place.{opOf}
+use Rattle.places.specs.Operation.{toldOf, operationAnswer}
 use Rattle.places.proofs.PlaceLaws.{number-is, is-place}
 use Rattle.places.proofs.StepTold.{IsWrite, is-write, IsErase, is-erase, told-done}
 use Rattle.places.proofs.ToldLaws.{refused-1, refused-5, told}
@@ -14,32 +14,18 @@ use Rattle.places.proofs.operation.operation.Tie as tie
 in-range-requires : tie.Need-in-range-requires
 in-range-requires c κs = search needs
 
-refused-requires : tie.Need-refused-requires
-refused-requires c κs = search needs
-
 returns : tie.Need-returns
-returns c =
-    let a = c .before .before .before .args in
-    c .refused .ensures ∙ sym (refused-1 (a .sizes) (a .place) (sym (c .before .before .in-range .ensures) ∙ not-true _ (c .before .if1 .taken)))
+returns c = sym (refused-1 _ _ (sym (c .before .in-range .ensures) ∙ not-true _ (c .if1 .taken)))
 
 -- the sizes are in range
-in-ranges : (c : tie.Else1) → (let a = c .before .before .args in inRange (a .sizes)) ≡ true
+in-ranges : (c : tie.Else1) → inRange (c .before .before .args .sizes) ≡ true
 in-ranges c = sym (c .before .in-range .ensures) ∙ not-false _ (c .if1 .left)
 
 last-place-requires : tie.Need-last-place-requires
 last-place-requires c κs = let B = in-range _ (in-ranges c) in (B .n-high, B .m-high)
 
-refused-requires-2 : tie.Need-refused-requires-2
-refused-requires-2 c κs = search needs
-
 returns-2 : tie.Need-returns-2
-returns-2 c =
-    let a = c .before .before .before .before .before .args in
-    c .refused2 .ensures ∙ sym (refused-5 (a .sizes) (a .place) (in-ranges (c .before .before .before)) (lt-ltb (lastPlace (a .sizes)) (a .place) (omega (arith, c .before .before .last-place .ensures, c .before .if2 .taken))))
-
--- and the place is one of the move
-inside : (c : tie.Else2) → (let a = c .before .before .before .before .args in ltb (lastPlace (a .sizes)) (a .place)) ≡ false
-inside c = let a = c .before .before .before .before .args in le-ltb (lastPlace (a .sizes)) (a .place) (omega (arith, c .before .last-place .ensures, c .if2 .left))
+returns-2 c = sym (refused-5 _ _ (in-ranges (c .before .before)) (lt-ltb _ _ (rw (c .before .last-place .ensures) at (c .if2 .taken))))
 
 new-requires : tie.Need-new-requires
 new-requires c κs = (in-range _ (in-ranges (c .before .before)), omega (arith, c .before .last-place .ensures, c .if2 .left))
@@ -51,79 +37,70 @@ operation-requires c κs = (in-range _ (in-ranges (c .before .before .before)), 
 told-of : (c : tie.After-operation) → (let a = c .before .before .before .before .before .before .args in c .operation .result ≡ opOf (a .sizes) (operationAt (a .sizes) (a .place)))
 told-of c = let a = c .before .before .before .before .before .before .args in c .operation .ensures ∙ ap (λ (p : ℕ). opOf (a .sizes) (operationAt (a .sizes) p)) (number-is _ _ _ (c .before .new .ensures))
 
+-- no refusal: the answer is the step
+answer : (c : tie.After-operation) → (let a = c .before .before .before .before .before .before .args in operationAnswer (a .sizes) (a .place) ≡ toldOf (a .sizes) (operationAt (a .sizes) (a .place)))
+answer c = let e = c .before .before in told _ _ (in-ranges (e .before .before)) (le-ltb _ _ (rw (e .before .last-place .ensures) at (e .if2 .left)))
+
 enum-known-block : tie.Need-enum-known-block
 enum-known-block c = search needs
 
 -- the step at the place is this write
 writes : (c : tie.After-block) → (let a = c .before .before .before .before .before .before .before .before .args in let v = c .block .given .0 in IsWrite (a .sizes) (a .place) (v .0) (v .1 .0) (v .1 .1 .0) (v .1 .1 .1 .0))
-writes c =
-    let a = c .before .before .before .before .before .before .before .before .args in
-    is-write (a .sizes) (a .place) _ _ _ _ (sym (c .block .given .1) ∙ told-of (c .before .before))
+writes c = is-write _ _ _ _ _ _ (sym (c .block .given .1) ∙ told-of (c .before .before))
 
-cast-t13 : tie.Need-cast-t13
-cast-t13 c = let W = writes (c .before) in omega (arith, W .block-in, in-range _ (in-ranges (c .before .before .before .before .before .before .before)) .n-high)
+cast-told : tie.Need-cast-told
+cast-told c = record { fits = omega (arith, writes (c .before) .block-in, in-range _ (in-ranges (c .before .before .before .before .before .before .before)) .n-high) }
 
-cast-t14 : tie.Need-cast-t14
-cast-t14 c = let W = writes (c .before) in omega (arith, W .page-in, in-range _ (in-ranges (c .before .before .before .before .before .before .before)) .m-high)
+cast-told-2 : tie.Need-cast-told-2
+cast-told-2 c = record { fits = omega (arith, writes (c .before) .page-in, in-range _ (in-ranges (c .before .before .before .before .before .before .before)) .m-high) }
 
-cast-t15 : tie.Need-cast-t15
-cast-t15 c = search needs
+cast-told-3 : tie.Need-cast-told-3
+cast-told-3 c = search needs
 
 enum-known-block-2 : tie.Need-enum-known-block-2
 enum-known-block-2 c = search needs
 
 -- the step at the place is this erase
 erases : (c : tie.After-block2) → (let a = c .before .before .before .before .before .before .before .before .args in IsErase (a .sizes) (a .place) (c .block2 .given .0 .0))
-erases c =
-    let a = c .before .before .before .before .before .before .before .before .args in
-    is-erase (a .sizes) (a .place) _ (sym (c .block2 .given .1) ∙ told-of (c .before .before))
+erases c = is-erase _ _ _ (sym (c .block2 .given .1) ∙ told-of (c .before .before))
 
-cast-t16 : tie.Need-cast-t16
-cast-t16 c = let E = erases (c .before) in omega (arith, E .block-in, in-range _ (in-ranges (c .before .before .before .before .before .before .before)) .n-high)
+cast-told-4 : tie.Need-cast-told-4
+cast-told-4 c = record { fits = omega (arith, erases (c .before) .block-in, in-range _ (in-ranges (c .before .before .before .before .before .before .before)) .n-high) }
 
 enum-told : tie.Need-enum-told
 enum-told c = search needs
 
 returns-3 : tie.Need-returns-3
 unfolding toldOf
-returns-3 c =
-    let a = c .before .before .before .before .before .before .before .before .before .args in
-    let W = writes (c .before) in
-    let v = c .before .block .given .0 in
-    rw (W .mark-is) (sym (told (a .sizes) (a .place) (in-ranges (c .before .before .before .before .before .before .before)) (inside (c .before .before .before .before .before)) (write (passOf (v .0)) (v .1 .0) (v .1 .1 .0)) (W .is)))
+returns-3 c = let W = writes (c .before) in rw (W .mark-is) (sym (answer (c .before .before .before) ∙ ap (toldOf _) (W .is)))
 
 returns-4 : tie.Need-returns-4
 unfolding toldOf
-returns-4 c =
-    let a = c .before .before .before .before .before .before .before .before .before .args in
-    let E = erases (c .before) in
-    sym (told (a .sizes) (a .place) (in-ranges (c .before .before .before .before .before .before .before)) (inside (c .before .before .before .before .before)) (erase (c .before .block2 .given .0 .0)) (E .is))
+returns-4 c = sym (answer (c .before .before .before) ∙ ap (toldOf _) (erases (c .before) .is))
 
 returns-5 : tie.Need-returns-5
 unfolding toldOf
 returns-5 c =
-    let a = c .before .before .before .before .before .before .before .before .args in
-    let sizes = a .sizes in
-    sym (told sizes (a .place) (in-ranges (c .before .before .before .before .before .before)) (inside (c .before .before .before .before)) done (told-done sizes _ (sym (c .enum-told .given .1) ∙ told-of (c .before .before))))
+    let o = c .before .before in
+    let a = o .before .before .before .before .before .before .args in
+    sym (answer o ∙ ap (toldOf (a .sizes)) (told-done (a .sizes) (operationAt (a .sizes) (a .place)) (sym (c .enum-told .given .1) ∙ told-of o)))
 
 pub operation-spec : {M : Type 1} → statement M
 operation-spec =
     tie.close
     (tie.spec
     in-range-requires
-    refused-requires
     returns
     last-place-requires
-    refused-requires-2
     returns-2
     new-requires
     operation-requires
     enum-known-block
-    cast-t13
-    cast-t14
-    cast-t15
+    cast-told
+    cast-told-2
+    cast-told-3
     enum-known-block-2
-    cast-t16
+    cast-told-4
     enum-told
     returns-3
     returns-4

@@ -4,30 +4,32 @@ use Rattle.places.proofs.PlaceLaws.{low, high, next-page, next-back, ne
 use Rattle.places.proofs.place.Place.next.Statement.{statement}
 use Rattle.places.proofs.place.Place.next.Tie as tie
 
-add-at : tie.Need-add-at
-add-at c = let start = c .before in omega (arith, start .pre .2, last-small (start .args .sizes) (start .pre .0))
+add-self : tie.Need-add-self
+add-self c = let start = c .before in record { fits = omega (arith, start .pre .2, last-small (start .args .sizes) (start .pre .0)) }
 
-add-page : tie.Need-add-page
-add-page c = search needs
+add-self-2 : tie.Need-add-self-2
+add-self-2 c = search needs
 
 returns : tie.Need-returns
-returns c = let start = c .before .before .before in next-page (start .args .sizes) (start .args .self) (start .pre .1) (start .pre .2) (c .if1 .taken)
+returns c =
+    let start = c .before .before .before .before .before in
+    next-page (start .args .sizes) (start .args .self) (start .pre .1) (start .pre .2) (c .before .if1 .taken)
 
-sub-block : tie.Need-sub-block
-sub-block c = let start = c .before .before .before .before in low (start .args .sizes) (start .args .self) (start .pre .1) (start .pre .2) (c .if2 .taken)
+sub-self : tie.Need-sub-self
+sub-self c = let start = c .before .before .before .before .before .before in low (start .args .sizes) (start .args .self) (start .pre .1) (start .pre .2) (c .before .if2 .taken)
 
 returns-2 : tie.Need-returns-2
 returns-2 c =
-    let start = c .before .before .before .before in
-    next-back (start .args .sizes) (start .args .self) (start .pre .1) (start .pre .2) (c .before .if1 .left) (c .if2 .taken)
+    let start = c .before .before .before .before .before .before in
+    next-back (start .args .sizes) (start .args .self) (start .pre .1) (start .pre .2) (c .before .before .if1 .left) (c .before .if2 .taken)
 
-add-block : tie.Need-add-block
-add-block c = let start = c .before .before .before .before in omega (arith, high (start .args .sizes) (start .args .self) (start .pre .1) (c .if2 .left))
+add-self-3 : tie.Need-add-self-3
+add-self-3 c = let start = c .before .before .before .before .before .before in record { fits = omega (arith, high (start .args .sizes) (start .args .self) (start .pre .1) (c .before .if2 .left)) }
 
 returns-3 : tie.Need-returns-3
 returns-3 c =
-    let start = c .before .before .before .before .before in
-    next-forth (start .args .sizes) (start .args .self) (start .pre .1) (start .pre .2) (c .before .before .if1 .left) (c .before .if2 .left)
+    let start = c .before .before .before .before .before .before .before .before in
+    next-forth (start .args .sizes) (start .args .self) (start .pre .1) (start .pre .2) (c .before .before .before .before .if1 .left) (c .before .before .before .if2 .left)
 
 pub next-spec : {M : Type 1} → statement M
-next-spec = tie.close (tie.spec add-at add-page returns sub-block returns-2 add-block returns-3)
+next-spec = tie.close (tie.spec add-self add-self-2 returns sub-self returns-2 add-self-3 returns-3)
