@@ -2,7 +2,7 @@
 use Rattle.flash.proofs.Kit.{_≡_, sym, ap, _∙_, true, ℕ, arith, needs, not-true, not-false, lt-ltb, le-ltb}
 use Rattle.flash.specs.Geometry.{inRange}
 use Rattle.flash.proofs.Bounds.{in-range}
-use Rattle.method.specs.Place.{operationAt, lastPlace}
+use Rattle.method.specs.Place.{operationAt}
 use Rattle.places.specs.inner.Place.{opOf}
 use Rattle.places.specs.Operation.{toldOf, operationAnswer}
 use Rattle.places.proofs.PlaceLaws.{number-is, is-place}

@@ -1,7 +1,7 @@
 -- `block_stands` meets its contract: below and above the block that is being filled all marks are one letter; in it each page is looked at.
-use Rattle.flash.proofs.Kit.{_≡_, sym, ap, _∙_, ⊎-elim, cond, ℕ, _+_, _-_, _*_, _≤_, _<_, arith, below-more, needs, ltb, lt-ltb, le-ltb}
+use Rattle.flash.proofs.Kit.{_≡_, sym, _∙_, ⊎-elim, cond, ℕ, _+_, _-_, _*_, _≤_, _<_, arith, below-more, needs, ltb, lt-ltb, le-ltb}
 use Rattle.flash.specs.Geometry.{slot}
-use Rattle.flash.specs.Chip.{erased, markAt, isFull}
+use Rattle.flash.specs.Chip.{erased, markAt}
 use Rattle.flash.proofs.Blocks.{mark-is}
 use Rattle.method.specs.Place.{written, above, heldMark}
 use Rattle.places.specs.inner.Place.{passOf}
