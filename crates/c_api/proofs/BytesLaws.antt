@@ -9,6 +9,7 @@ use Rattle.flash.proofs.Bounds.{in-range}
 use Rattle.flash.proofs.Loops.{over-more}
 use Rattle.split.proofs.Answers.{small}
 use Rattle.c_api.specs.Bytes.{entriesOf, isOdd, entriesWithin}
+use Rattle.c_api.specs.Exports.{onBytes}
 
 pub entries-length : (count : ℕ) (bytes : List ℕ) → length bytes ≡ 2 * count → length (entriesOf bytes) ≡ count
 unfolding entriesOf
@@ -85,12 +86,12 @@ count-fits room bytes r count = rw count (entries-fit room bytes)
 pub front-is : (entries rest after : List ℕ) (r : ℕ) → r ≡ length entries → after ≡ entries ++ rest → take r after ≡ entries
 front-is entries rest after r count whole = rw whole (take-at entries rest r (sym count))
 
--- A call that refuses every list of another length alike answers for these entries what it answers for the bytes.
-pub answer-within : {A : Type 0} (Z : Sizes) (answer : List ℕ → A) (refused : A)
-    → ((list : List ℕ) → (inRange Z ≡ true → length list ≢ originalCount Z) → answer list ≡ refused)
-    → (bytes : List ℕ) → answer (entriesWithin 4096 bytes) ≡ cond (isOdd bytes) refused (answer (entriesOf bytes))
-answer-within Z answer refused refuses bytes =
-    ⊎-elim
+-- A call that refuses every list of another length alike answers for the entries decoded what it answers for the bytes.
+pub on-bytes : {A : Type 0} (Z : Sizes) (refused : ℕ → A) (answer : List ℕ → A)
+    → ((list : List ℕ) → (inRange Z ≡ true → length list ≢ originalCount Z) → answer list ≡ refused (cond (inRange Z) 2 1))
+    → (bytes entries : List ℕ) (r : A) → entries ≡ entriesWithin 4096 bytes → r ≡ answer entries → r ≡ onBytes Z refused answer bytes
+on-bytes Z refused answer refuses bytes entries r e f =
+    f ∙ ap answer e ∙ ⊎-elim
     (λ (none : no-list 4096 bytes ≡ true).
     ⊎-elim
     (λ (odd : isOdd bytes ≡ true). rw odd (nothing none))
@@ -100,14 +101,14 @@ answer-within Z answer refused refuses bytes =
     rw (entries-within 4096 bytes fits, or-false-left (isOdd bytes) (ltb 4096 (length bytes / 2)) fits))
     (bool-cases (no-list 4096 bytes))
   where
-    nothing : no-list 4096 bytes ≡ true → answer (entriesWithin 4096 bytes) ≡ refused
+    nothing : no-list 4096 bytes ≡ true → answer (entriesWithin 4096 bytes) ≡ refused (cond (inRange Z) 2 1)
     nothing none = refuses (entriesWithin 4096 bytes) (λ ranged e.
         let B = in-range Z ranged in
         let some : 1 * 1 ≤ originalCount Z = mul-le-mul (B .n-low) (B .m-low) in
         let z = rw (no-entries 4096 bytes none) at e in
         absurd (omega arith))
 
-    too-long : isOdd bytes ≡ false → ltb 4096 (length bytes / 2) ≡ true → answer (entriesOf bytes) ≡ refused
+    too-long : isOdd bytes ≡ false → ltb 4096 (length bytes / 2) ≡ true → answer (entriesOf bytes) ≡ refused (cond (inRange Z) 2 1)
     too-long even long = refuses (entriesOf bytes) (λ ranged e.
         let over = ltb-true 4096 (length bytes / 2) long in
         let count = entries-length (length bytes / 2) bytes (even-bytes bytes even) in

@@ -1,6 +1,3 @@
 -- Laws of the exports, used by their proofs.
 pub mod BytesLaws
-pub mod SplitLaws
-pub mod MendLaws
-pub mod RunLaws
-pub mod ReadLaws
+pub mod ExportLaws

@@ -1,5 +1,3 @@
 -- What the C exports promise: each call on the list that its bytes spell.
 pub mod Bytes
-pub mod SplitExport
-pub mod RunExport
-pub mod ReadExport
+pub mod Exports

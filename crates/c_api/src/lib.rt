@@ -4,4 +4,5 @@ pub mod mend;
 pub mod operation;
 pub mod read;
 pub mod run;
+mod sizes;
 pub mod split_call;

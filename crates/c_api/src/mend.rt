@@ -2,7 +2,7 @@
 
 ghost use mathlib.Core.Path.{_≡_};
 ghost use Rattle.method.specs.Answers.{mendAnswer};
-use flash::sizes::Sizes;
+use crate::sizes::sizes_of;
 use recovery::mend::mend;
 
 #[no_mangle]
@@ -23,17 +23,8 @@ pub extern "C" fn mover_mend(
       chip = record { store = now (store .exit); marks = now (marks .exit) };
     } ≡ mendAnswer (record { n = n; m = m; p = p; s = s }) (record { store = now (store .entry); marks = now (marks .entry) }) ⌝ }
 {
-    let mended = mend(
-        Sizes {
-            n: n as usize,
-            m: m as usize,
-            p: p as usize,
-            s: s as usize,
-        },
-        store,
-        marks,
-    );
-    *place = mended.place as u32;
-    *erases = mended.erases as u32;
-    mended.number as u32
+    let mended = mend(sizes_of(n, m, p, s), store, marks);
+    *place = mended.place;
+    *erases = mended.erases;
+    mended.number
 }

@@ -2,7 +2,7 @@
 
 ghost use mathlib.Core.Path.{_≡_};
 ghost use Rattle.places.specs.Operation.{operationAnswer};
-use flash::sizes::Sizes;
+use crate::sizes::sizes_of;
 use places::operation::operation;
 
 #[no_mangle]
@@ -20,15 +20,7 @@ pub extern "C" fn mover_operation(
         ≡ operationAnswer (record { n = n; m = m; p = 1; s = s }) place ⌝ }
 {
     // a page size in range, since no step depends on it
-    let told = operation(
-        Sizes {
-            n: n as usize,
-            m: m as usize,
-            p: 1,
-            s: s as usize,
-        },
-        place as usize,
-    );
+    let told = operation(sizes_of(n, m, 1, s), place as usize);
     *kind = told.kind;
     *block = told.block;
     *page = told.page;

@@ -1,10 +1,10 @@
 // The read call for C.
 
 ghost use mathlib.Core.Path.{_≡_};
-ghost use Rattle.c_api.specs.ReadExport.{readOfBytes};
+ghost use Rattle.c_api.specs.Exports.{readOfBytes};
 use crate::list::MOST_ENTRIES;
 use crate::list::decode;
-use flash::sizes::Sizes;
+use crate::sizes::sizes_of;
 use mover::read::read;
 
 #[no_mangle]
@@ -28,12 +28,7 @@ pub extern "C" fn mover_read(
     let mut entries = [0u16; MOST_ENTRIES];
     let length = decode(list, &mut entries);
     let rebuilt = read(
-        Sizes {
-            n: n as usize,
-            m: m as usize,
-            p: p as usize,
-            s: s as usize,
-        },
+        sizes_of(n, m, p, s),
         &entries[..length],
         sets,
         store,

@@ -1,10 +1,10 @@
 // The run call for C.
 
 ghost use mathlib.Core.Path.{_≡_};
-ghost use Rattle.c_api.specs.RunExport.{runOfBytes};
+ghost use Rattle.c_api.specs.Exports.{runOfBytes};
 use crate::list::MOST_ENTRIES;
 use crate::list::decode;
-use flash::sizes::Sizes;
+use crate::sizes::sizes_of;
 use mover::run::run;
 
 #[no_mangle]
@@ -39,12 +39,7 @@ pub extern "C" fn mover_run(
     let mut entries = [0u16; MOST_ENTRIES];
     let count = decode(list, &mut entries);
     let ran = run(
-        Sizes {
-            n: n as usize,
-            m: m as usize,
-            p: p as usize,
-            s: s as usize,
-        },
+        sizes_of(n, m, p, s),
         &entries[..count],
         sets,
         store,

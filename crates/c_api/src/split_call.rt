@@ -1,10 +1,10 @@
 // The split call for C.
 
 ghost use mathlib.Core.Path.{_≡_};
-ghost use Rattle.c_api.specs.SplitExport.{splitOfBytes};
+ghost use Rattle.c_api.specs.Exports.{splitOfBytes};
 use crate::list::MOST_ENTRIES;
 use crate::list::decode;
-use flash::sizes::Sizes;
+use crate::sizes::sizes_of;
 use split::call::split;
 
 #[no_mangle]
@@ -14,14 +14,5 @@ pub extern "C" fn mover_split(n: u32, m: u32, p: u32, s: u32, list: &[u8], sets:
 {
     let mut entries = [0u16; MOST_ENTRIES];
     let count = decode(list, &mut entries);
-    split(
-        Sizes {
-            n: n as usize,
-            m: m as usize,
-            p: p as usize,
-            s: s as usize,
-        },
-        &entries[..count],
-        sets,
-    )
+    split(sizes_of(n, m, p, s), &entries[..count], sets)
 }

@@ -1,11 +1,10 @@
 -- The answer of mend, case by case.
-use Rattle.flash.proofs.Kit.{_≡_, true, false, not, none, some, ℕ, _+_, _*_, _≤_, arith, eqb, length, eqb-true, not-false}
+use Rattle.flash.proofs.Kit.{_≡_, true, false, not, none, some, ℕ, eqb, length, eqb-true, not-false}
 use Rattle.flash.specs.Tables.{firstFit, numberOr0, refusal}
 use Rattle.flash.specs.declared.sizes.Sizes.{Sizes}
 use Rattle.flash.specs.Geometry.{inRange, storeLength, marksLength}
 use Rattle.flash.specs.Chip.{Chip, eraseBlock}
 use Rattle.flash.proofs.Bools.{or-false-left, or-false-right}
-use Rattle.flash.proofs.Bounds.{product-le}
 use Rattle.method.specs.Mend.{reading}
 use Rattle.method.specs.Answers.{badChip, marksAnswer, fitsNone, mendRows, mended, mendAnswer}
 
@@ -17,10 +16,6 @@ chip-lengths Z chip e =
       eqb-true _ _ (not-false store (or-false-left (not store) (not marks) e)),
       eqb-true _ _ (not-false marks (or-false-right (not store) (not marks) e)),
     )
-
--- there are at most 128 turns, of at most 65 steps
-pub turn-in : (turn m : ℕ) → turn ≤ 128 → m ≤ 64 → turn * (m + 1) ≤ 128 * 65
-turn-in turn m h k = product-le turn (m + 1) {c = 128} {d = 65} h (omega arith)
 
 module _ (Z : Sizes) (chip : Chip) where
   abbrev Refused : ℕ → Type 0

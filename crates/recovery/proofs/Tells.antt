@@ -1,6 +1,6 @@
 -- What the search of the marks tells when it ends.
-use Rattle.flash.proofs.Kit.{_≡_, refl, sym, ap, _∙_, _⊎_, inl, inr, ⊎-elim, _≢_, Bool, true, false, _||_, List, Option, none, some, ℕ, _+_, _≤_, _<_}
-use Rattle.flash.proofs.Kit.{add-one, arith, eqb, ltb, eqb-true, eqb-false, ne-eqb, ltb-true, ltb-false}
+use Rattle.flash.proofs.Kit.{_≡_, refl, sym, ap, _∙_, _⊎_, inl, inr, ⊎-elim, _≢_, Bool, true, false, _||_, List, Option, none, some, ℕ, _+_, _-_, _*_, _≤_, _<_}
+use Rattle.flash.proofs.Kit.{add-zero, add-one, arith, eqb, ltb, eqb-true, eqb-false, ne-eqb, ltb-true, ltb-false}
 use Rattle.flash.specs.Geometry.{letter}
 use Rattle.flash.specs.declared.sizes.Sizes.{Sizes}
 use Rattle.flash.proofs.Bools.{bool-cases, or-cases, or-false-left, or-false-right}
@@ -11,7 +11,7 @@ use Rattle.method.proofs.recovery.LinesAgree.{Filled}
 use Rattle.method.proofs.recovery.FittingMarks.{torn-shape, filled-shape}
 use Rattle.recovery.specs.declared.marks.MarksRead.{MarksRead}
 use Rattle.recovery.specs.declared.marks.MarksRead.the-variants.{NoMoment, Full, Torn}
-use Rattle.recovery.specs.MarksRead.{placeIfFull, placeIfTorn, answerOf, readingOf}
+use Rattle.recovery.specs.MarksRead.{placeInTurn, answerOf, readingOf}
 use Rattle.recovery.specs.inner.Gathered.{momentOf, Shown}
 use Rattle.recovery.proofs.Reading.{reads-forward-torn, reads-backward-torn, reads-forward-full, reads-backward-full, reads-none, torn-between, under-below, other-above}
 use Rattle.recovery.proofs.Search.{Upto, change-in}
@@ -106,7 +106,7 @@ module _ (Z : Sizes) (pages : 0 < Z .m) (marks : List ℕ) where
     -- ---- which of the four lines fits
     module _ (legal : legalMarks Z marks ≡ true) where
       full-tells : (isBackward : Bool) → count ≡ 0 → 1 ≤ change → change ≤ n → (isBackward ≡ true → upper ≡ letter Z 2) → (isBackward ≡ false → upper ≢ letter Z 2) → Tells (Full isBackward change)
-      unfolding answerOf placeIfFull forwardFull backwardFull
+      unfolding answerOf placeInTurn forwardFull backwardFull
       full-tells false e l h t f =
           let F = filled-is 0 e l h (upper-start h (f refl)) in
           (reads-as (Full false change) (sym (reads-forward-full Z pages marks change legal F)), (l, filled-shape Z pages marks 0 change F))
@@ -115,13 +115,13 @@ module _ (Z : Sizes) (pages : 0 < Z .m) (marks : List ℕ) where
           (reads-as (Full true change) (sym (reads-backward-full Z pages marks change legal F)), (l, filled-shape Z pages marks 2 change F))
 
       torn-tells : (isBackward : Bool) → count ≡ 1 → torn + 1 ≡ change → (isBackward ≡ true → upper ≡ letter Z 2) → (isBackward ≡ false → upper ≢ letter Z 2) → Tells (Torn isBackward torn)
-      unfolding answerOf placeIfTorn forwardTorn backwardTorn
+      unfolding answerOf placeInTurn forwardTorn backwardTorn
       torn-tells false e at t f =
           let T = torn-is 0 e at (λ h. upper-start h (f refl)) in
-          (reads-as (Torn false torn) (sym (reads-forward-torn Z pages marks torn legal T)), rw (add-one torn) (torn-shape Z pages marks 0 torn T))
+          (reads-as (Torn false torn) (rw (add-zero (torn * (m + 1))) (sym (reads-forward-torn Z pages marks torn legal T))), rw (add-one torn) (torn-shape Z pages marks 0 torn T))
       torn-tells true e at t f =
           let T = torn-is 2 e at (λ h. t refl) in
-          (reads-as (Torn true torn) (sym (reads-backward-torn Z pages marks torn legal T)), rw (add-one torn) (torn-shape Z pages marks 2 torn T))
+          (reads-as (Torn true torn) (rw (add-zero ((2 * n - torn) * (m + 1))) (sym (reads-backward-torn Z pages marks torn legal T))), rw (add-one torn) (torn-shape Z pages marks 2 torn T))
 
       -- the answer to what was gathered is the reading
       pub tells : (isBackward : Bool) → (isBackward ≡ true → upper ≡ letter Z 2) → (isBackward ≡ false → upper ≢ letter Z 2) → Tells (momentOf n isBackward count torn change)

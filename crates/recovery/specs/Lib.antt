@@ -1,4 +1,3 @@
 -- What the contracts of this crate say.
 pub mod MarksRead
-pub mod Answered
 pub mod inner

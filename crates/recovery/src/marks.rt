@@ -37,18 +37,16 @@ fn pages_known(marks: &[u8], m: usize, block: usize, letter: u8) -> usize
     requires { ⌜ block * m + m ≤ length (now marks) ⌝ }
     ensures { λ r. ⌜ r ≡ pagesKnown m (now (marks .entry)) block letter ⌝ }
 {
-    if letter < LETTERS {
-        if is_full(marks, m, block, letter) {
-            return m;
-        }
+    if letter < LETTERS && is_full(marks, m, block, letter) {
+        return m;
     }
     0
 }
 
 // What the search has gathered tells: rules 5.3 to 5.6.
-fn moment(n: usize, backward: bool, unfinished: usize, torn: usize, change: usize) -> MarksRead
-    requires { ⌜ (n ≤ 64) × (torn ≤ n) ⌝ }
-    ensures { λ r. ⌜ r ≡ momentOf n backward unfinished torn change ⌝ }
+fn moment(n: usize, backward: bool, unfinished: usize, block: usize, change: usize) -> MarksRead
+    requires { ⌜ (n ≤ 64) × (block ≤ n) ⌝ }
+    ensures { λ r. ⌜ r ≡ momentOf n backward unfinished block change ⌝ }
 {
     if unfinished == 0 {
         if (change == 0) | (n < change) {
@@ -56,13 +54,10 @@ fn moment(n: usize, backward: bool, unfinished: usize, torn: usize, change: usiz
         }
         return MarksRead::Full { backward, change };
     }
-    if (unfinished == 2) | (torn + 1 != change) {
+    if (unfinished == 2) | (block + 1 != change) {
         return MarksRead::NoMoment;
     }
-    MarksRead::Torn {
-        backward,
-        block: torn,
-    }
+    MarksRead::Torn { backward, block }
 }
 
 // Reads the marks. Blocks that are full bear s + 1 below block `change`, and one other letter, `upper`, from there on. The search

@@ -1,7 +1,7 @@
 -- `mover_run` meets its contract: it hands on what the call returned for the entries decoded.
 use Rattle.flash.proofs.Kit.{sym, arith, needs, length-take-le}
 use Rattle.c_api.proofs.BytesLaws.{count-fits, front-is}
-use Rattle.c_api.proofs.RunLaws.{exported}
+use Rattle.c_api.proofs.ExportLaws.{run-exported}
 use Rattle.c_api.proofs.run.mover_run.Statement.{statement}
 use Rattle.c_api.proofs.run.mover_run.Tie as tie
 
@@ -11,11 +11,14 @@ slice-aggregate-decode c = search needs
 decode-requires : tie.Need-decode-requires
 decode-requires c κs = search needs
 
+sizes-of-requires : tie.Need-sizes-of-requires
+sizes-of-requires c κs = search needs
+
 array-share-prefix-entries : tie.Need-array-share-prefix-entries
-array-share-prefix-entries c = omega (arith, count-fits _ _ _ (c .before .decode .ensures .0))
+array-share-prefix-entries c = omega (arith, count-fits _ _ _ (c .before .before .decode .ensures .0))
 
 slice-aggregate-run : tie.Need-slice-aggregate-run
-slice-aggregate-run c = let d = c .before .before .decode in sym (length-take-le _ (d .last .1 .0) (omega (arith, count-fits _ _ _ (d .ensures .0), d .kept .1 .0)))
+slice-aggregate-run c = let d = c .before .before .before .decode in sym (length-take-le _ (d .last .1 .0) (omega (arith, count-fits _ _ _ (d .ensures .0), d .kept .1 .0)))
 
 run-requires : tie.Need-run-requires
 run-requires c κs = search needs
@@ -31,8 +34,10 @@ same-length-3 c = search needs
 
 returns : tie.Need-returns
 returns c =
-    let d = c .before .before .before .before .before .before .before .before .before .before .before .before .decode .ensures in
-    exported _ _ _ _ _ _ _ _ _ (front-is _ _ _ _ (d .0) (d .1)) (c .before .before .before .before .before .before .run .ensures)
+    let done = c .before .before .before .before .before .before in
+    let z = done .before .before .before .before .before in
+    let d = z .before .before .decode .ensures in
+    rw (z .sizes-of .ensures) at (run-exported _ _ _ _ (front-is _ _ _ _ (d .0) (d .1)) _ _ _ _ _ (done .run .ensures))
 
 pub mover-run-spec : {M : Type 1} → statement M
 mover-run-spec =
@@ -40,6 +45,7 @@ mover-run-spec =
     (tie.spec
     slice-aggregate-decode
     decode-requires
+    sizes-of-requires
     array-share-prefix-entries
     slice-aggregate-run
     run-requires

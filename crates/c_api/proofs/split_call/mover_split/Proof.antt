@@ -1,7 +1,7 @@
 -- `mover_split` meets its contract: it hands on what the call returned for the entries decoded.
 use Rattle.flash.proofs.Kit.{sym, arith, needs, length-take-le}
 use Rattle.c_api.proofs.BytesLaws.{count-fits, front-is}
-use Rattle.c_api.proofs.SplitLaws.{exported}
+use Rattle.c_api.proofs.ExportLaws.{split-exported}
 use Rattle.c_api.proofs.split_call.mover_split.Statement.{statement}
 use Rattle.c_api.proofs.split_call.mover_split.Tie as tie
 
@@ -11,11 +11,14 @@ slice-aggregate-decode c = search needs
 decode-requires : tie.Need-decode-requires
 decode-requires c κs = search needs
 
+sizes-of-requires : tie.Need-sizes-of-requires
+sizes-of-requires c κs = search needs
+
 array-share-prefix-entries : tie.Need-array-share-prefix-entries
-array-share-prefix-entries c = omega (arith, count-fits _ _ _ (c .before .decode .ensures .0))
+array-share-prefix-entries c = omega (arith, count-fits _ _ _ (c .before .before .decode .ensures .0))
 
 slice-aggregate-split : tie.Need-slice-aggregate-split
-slice-aggregate-split c = let d = c .before .before .decode in sym (length-take-le _ (d .last .1 .0) (omega (arith, count-fits _ _ _ (d .ensures .0), d .kept .1 .0)))
+slice-aggregate-split c = let d = c .before .before .before .decode in sym (length-take-le _ (d .last .1 .0) (omega (arith, count-fits _ _ _ (d .ensures .0), d .kept .1 .0)))
 
 split-requires : tie.Need-split-requires
 split-requires c κs = search needs
@@ -25,17 +28,12 @@ same-length c = search needs
 
 returns : tie.Need-returns
 returns c =
-    let d = c .before .before .before .before .before .before .decode .ensures in
-    exported _ _ _ _ _ (front-is _ _ _ _ (d .0) (d .1)) (c .before .before .split .ensures)
+    let done = c .before .before in
+    let z = done .before .before .before in
+    let d = z .before .before .decode .ensures in
+    rw (z .sizes-of .ensures) at (split-exported _ _ _ _ (front-is _ _ _ _ (d .0) (d .1)) _ (done .split .ensures))
 
 pub mover-split-spec : {M : Type 1} → statement M
 mover-split-spec =
     tie.close
-    (tie.spec
-    slice-aggregate-decode
-    decode-requires
-    array-share-prefix-entries
-    slice-aggregate-split
-    split-requires
-    same-length
-    returns)
+    (tie.spec slice-aggregate-decode decode-requires sizes-of-requires array-share-prefix-entries slice-aggregate-split split-requires same-length returns)
