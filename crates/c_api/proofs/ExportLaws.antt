@@ -25,16 +25,20 @@ module _ (Z : Sizes) (list sets entries : List ℕ) (decoded : entries ≡ entri
 
   pub split-exported : (r : SplitAnswer) → r ≡ splitAnswer (requestOf Z entries sets) → r ≡ splitOfBytes Z list sets
   unfolding splitOfBytes
-  split-exported r = on-bytes Z (λ number. record { number = number; sets = sets }) (λ list. splitAnswer (requestOf Z list sets)) split-refuses-list list entries r decoded
+  split-exported r =
+      on-bytes Z (λ number. record { number = number; sets = sets }) (λ list. splitAnswer (requestOf Z list sets))
+      split-refuses-list list entries r decoded
 
   module _ (chip : Chip) (work : List ℕ) where
-    pub run-exported : (place budget : ℕ) (r : RunAnswer) → r ≡ runAnswer (requestOf Z entries sets) chip work place budget → r ≡ runOfBytes Z list sets chip work place budget
+    pub run-exported : (place budget : ℕ) (r : RunAnswer) → r ≡ runAnswer (requestOf Z entries sets) chip work place budget
+        → r ≡ runOfBytes Z list sets chip work place budget
     unfolding runOfBytes
     run-exported place budget r =
         on-bytes Z (λ number. runRefused number chip work) (λ list. runAnswer (requestOf Z list sets) chip work place budget)
         (λ list differs. run-refuses-list (requestOf Z list sets) chip work differs place budget) list entries r decoded
 
-    pub read-exported : (original : ℕ) (r : ReadAnswer) → r ≡ readAnswer (requestOf Z entries sets) chip work original → r ≡ readOfBytes Z list sets chip work original
+    pub read-exported : (original : ℕ) (r : ReadAnswer) → r ≡ readAnswer (requestOf Z entries sets) chip work original
+        → r ≡ readOfBytes Z list sets chip work original
     unfolding readOfBytes
     read-exported original r =
         on-bytes Z (λ number. record { number = number; count = 0; work = work }) (λ list. readAnswer (requestOf Z list sets) chip work original)

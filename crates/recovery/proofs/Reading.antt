@@ -1,7 +1,7 @@
 -- What `reading` gives: the answer of any line that fits, or none where marks of that kind cannot be.
-use Rattle.flash.proofs.Kit.{_≡_, refl, ap, _∙_, _⊎_, inl, inr, ⊎-elim, _≢_, true, false, List, [], _∷_, _++_, map, List·Memᴰ, List·Memᴰ·head}
-use Rattle.flash.proofs.Kit.{List·Memᴰ·tail, List·Memᴰ·not-nil, List·Memᴰ·cases-cons, Memᴰ·append-left, Memᴰ·append-right, none, some, ℕ, zero, suc}
-use Rattle.flash.proofs.Kit.{_+_, _-_, _≤_, _<_, arith, eqb, ltb, length, getD, eqb-true, eqb-false, ltb-true, ltb-false}
+use Rattle.flash.proofs.Kit.{_≡_, refl, sym, ap, _∙_, ⊎-elim, _≢_, Bool, true, false, cond, _&&_, List, [], _∷_, map, List·Memᴰ, List·Memᴰ·head}
+use Rattle.flash.proofs.Kit.{List·Memᴰ·tail, List·Memᴰ·not-nil, List·Memᴰ·cases-cons, Memᴰ·append-left, Memᴰ·append-right, Option, none, some, ℕ, zero, suc}
+use Rattle.flash.proofs.Kit.{_+_, _-_, _*_, _%_, add-zero, _≤_, _<_, arith, eqb, length, getD, eqb-true, eqb-false}
 use Rattle.flash.specs.Geometry.{letter}
 use Rattle.flash.specs.Lists.{range}
 use Rattle.flash.specs.Tables.{Row, firstFit}
@@ -10,38 +10,26 @@ use Rattle.flash.specs.Chip.{isMark, isFull, isUnfinished}
 use Rattle.flash.proofs.Bools.{bool-cases, never-both}
 use Rattle.flash.proofs.Searches.{all-fails}
 use Rattle.flash.proofs.Ranges.{all-is}
-use Rattle.flash.proofs.Blocks.{full-same, full-finished}
+use Rattle.flash.proofs.Blocks.{full-same}
+use Rattle.flash.proofs.Comparisons.{lt-cases}
 use Rattle.method.specs.Mend.{Reading, fullFrom, forwardTorn, backwardTorn, forwardFull, backwardFull, lines, legalMarks, reading}
+use Rattle.method.specs.inner.Shape.{Shape}
+use Rattle.method.proofs.recovery.FittingMarks.{first-fit, torn-shape, filled-shape}
 use Rattle.method.proofs.recovery.LinesAgree.{full, Torn, Filled, Fit, torn-forth, torn-back, full-forth, full-back, finished, fit, agree}
+use Rattle.recovery.specs.MarksRead.{placeInTurn}
 
--- the row that decides a table
-record Hit (rows : List (Row Reading)) : Type 0 where
-  row : Row Reading
-  member : List·Memᴰ row rows
-  fits : row .fits ≡ true
-  first : firstFit rows ≡ some (row .gives)
-
-record Miss (rows : List (Row Reading)) : Type 0 where
-  first : firstFit rows ≡ none
-  fails : (row : Row Reading) → List·Memᴰ row rows → row .fits ≡ false
-
-first-fit : (rows : List (Row Reading)) → Hit rows ⊎ Miss rows
+-- where a row fits, one is found
+none-fits : (rows : List (Row Reading)) (row : Row Reading) → List·Memᴰ row rows → row .fits ≡ true → firstFit rows ≡ none → ⊥
 unfolding firstFit
-first-fit [] = inr (record { first = refl; fails = λ row h. absurd (List·Memᴰ·not-nil h) })
-first-fit (top ∷ rows) =
+none-fits [] row member e f = List·Memᴰ·not-nil member
+none-fits (top ∷ rows) row member e f =
     ⊎-elim
-    (λ (e : top .fits ≡ true). inl (record { row = top; member = List·Memᴰ·head refl; fits = e; first = rw e }))
-    (λ (e : top .fits ≡ false).
+    (λ (g : top .fits ≡ true). (let q : some (top .gives) ≡ none = rw g at f in let z : _≡_ {A = ℕ} 0 1 = cc in omega arith))
+    (λ (g : top .fits ≡ false).
     ⊎-elim
-    (λ (h : Hit rows). inl (record { row = h .row; member = List·Memᴰ·tail (h .member); fits = h .fits; first = rw e (h .first) }))
-    (λ (h : Miss rows). inr (record {
-      first = rw e (h .first);
-      fails = λ row k. ⊎-elim
-          (λ (q : row ≡ top). ap (λ (r : Row Reading). r .fits) q ∙ e)
-          (λ (q : List·Memᴰ row rows). h .fails row q)
-          (List·Memᴰ·cases-cons k);
-    }))
-    (first-fit rows))
+    (λ (q : row ≡ top). never-both e (ap (λ (r : Row Reading). r .fits) q ∙ g))
+    (λ (t : List·Memᴰ row rows). none-fits rows row t e (rw g at f))
+    (List·Memᴰ·cases-cons member))
     (bool-cases (top .fits))
 
 -- a map over a range has in it what comes from each number of the range
@@ -56,26 +44,39 @@ mem-map f start (suc count) x h k =
     List·Memᴰ·tail (mem-map f (suc start) count x (omega arith) (omega arith)))
     (bool-cases (eqb x start))
 
+-- a block is full of a letter other than s + 1
+abbrev pub FullOfOther : Sizes → (marks : List ℕ) → (block letter : ℕ) → Type 0
+FullOfOther Z marks block x = (isFull (Z .m) marks block x ≡ true) × (x < 3) × (x ≢ letter Z 1)
+
 module _ (Z : Sizes) (pages : 0 < Z .m) (marks : List ℕ) where
   open Sizes Z using (n, m)
 
   -- ---- a line that fits
   hit : (row : Row Reading) → List·Memᴰ row (lines Z marks) → row .fits ≡ true → legalMarks Z marks ≡ true → reading Z marks ≡ some (row .gives)
   unfolding reading
-  hit row mem e legal =
-      rw legal
-      (⊎-elim
-      (λ (h : Hit (lines Z marks)).
-      h .first
-      ∙ ap some (agree Z pages marks (h .row) row (fit Z pages marks (h .row) (h .member) (h .fits)) (fit Z pages marks row mem e)))
-      (λ (h : Miss (lines Z marks)). absurd (never-both e (h .fails row mem)))
-      (first-fit (lines Z marks)))
+  hit row member e legal = rw legal (told (firstFit (lines Z marks)) refl)
+    where
+      told : (found : Option Reading) → firstFit (lines Z marks) ≡ found → found ≡ some (row .gives)
+      told none f = absurd (none-fits (lines Z marks) row member e f)
+      told (some found) f =
+          let r = first-fit (lines Z marks) found f in
+          ap some (sym (r .3) ∙ agree Z pages marks (r .0) row (fit Z pages marks (r .0) (r .1) (r .2)) (fit Z pages marks row member e))
 
   all-full : (i start count : ℕ) → ((j : ℕ) → start ≤ j → j < start + count → full Z pages marks i j ≡ true) → fullFrom Z marks i start count ≡ true
   unfolding fullFrom
   all-full i start count f = all-is (full Z pages marks i) start count f
 
-  -- the lines in their four groups
+  torn-test : (i b : ℕ) → Torn Z pages marks i b → (isUnfinished m marks b && fullFrom Z marks 1 0 b && fullFrom Z marks i (b + 1) (n - b)) ≡ true
+  torn-test i b T = rw (
+    T .open-block,
+    all-full 1 0 b (λ j h k. T .under j (omega arith)),
+    all-full i (b + 1) (n - b) (λ j h k. T .over j (omega arith) (omega arith)),
+  )
+
+  full-test : (i b : ℕ) → Filled Z pages marks i b → (fullFrom Z marks 1 0 b && fullFrom Z marks i b (n + 1 - b)) ≡ true
+  full-test i b F = rw (all-full 1 0 b (λ j h k. F .under j (omega arith)), all-full i b (n + 1 - b) (λ j h k. F .over j h (omega arith)))
+
+  -- the lines in their groups, but for the last
   abbrev line1 : List (Row Reading)
   line1 = map (forwardTorn Z marks) (range 0 (n + 1))
 
@@ -85,130 +86,88 @@ module _ (Z : Sizes) (pages : 0 < Z .m) (marks : List ℕ) where
   abbrev line3 : List (Row Reading)
   line3 = map (forwardFull Z marks) (range 1 n)
 
-  abbrev line4 : List (Row Reading)
-  line4 = map (backwardFull Z marks) (range 1 n)
+  module _ (legal : legalMarks Z marks ≡ true) (b : ℕ) where
+    pub reads-torn : (isBackward : Bool) → Torn Z pages marks (cond isBackward 2 0) b
+        → reading Z marks ≡ some (record { place = placeInTurn Z isBackward b 0; toErase = some b })
+    unfolding lines forwardTorn backwardTorn placeInTurn
+    reads-torn false T =
+        rw (add-zero (b * (m + 1)))
+        (hit (forwardTorn Z marks b)
+        (Memᴰ·append-left _ (mem-map (forwardTorn Z marks) 0 (n + 1) b (omega arith) (omega (arith, T .low)))) (torn-test 0 b T) legal)
+    reads-torn true T =
+        rw (add-zero ((2 * n - b) * (m + 1)))
+        (hit (backwardTorn Z marks b)
+        (Memᴰ·append-right line1 (Memᴰ·append-left _ (mem-map (backwardTorn Z marks) 0 (n + 1) b (omega arith) (omega (arith, T .low))))) (torn-test 2 b T) legal)
 
-  pub reads-forward-torn : (b : ℕ) → legalMarks Z marks ≡ true → Torn Z pages marks 0 b → reading Z marks ≡ some (forwardTorn Z marks b .gives)
-  unfolding lines forwardTorn
-  reads-forward-torn b legal T =
-      let under = all-full 1 0 b (λ j h k. T .under j (omega arith)) in
-      let over = all-full 0 (b + 1) (n - b) (λ j h k. T .over j (omega arith) (omega arith)) in
-      hit (forwardTorn Z marks b) (Memᴰ·append-left (line2 ++ (line3 ++ line4)) (mem-map (forwardTorn Z marks) 0 (n + 1) b (omega arith) (omega (arith, T .low)))) (rw (T .open-block, under, over)) legal
-
-  pub reads-backward-torn : (b : ℕ) → legalMarks Z marks ≡ true → Torn Z pages marks 2 b → reading Z marks ≡ some (backwardTorn Z marks b .gives)
-  unfolding lines backwardTorn
-  reads-backward-torn b legal T =
-      let under = all-full 1 0 b (λ j h k. T .under j (omega arith)) in
-      let over = all-full 2 (b + 1) (n - b) (λ j h k. T .over j (omega arith) (omega arith)) in
-      hit (backwardTorn Z marks b) (Memᴰ·append-right line1 (Memᴰ·append-left (line3 ++ line4) (mem-map (backwardTorn Z marks) 0 (n + 1) b (omega arith) (omega (arith, T .low))))) (rw (T .open-block, under, over)) legal
-
-  pub reads-forward-full : (b : ℕ) → legalMarks Z marks ≡ true → Filled Z pages marks 0 b → reading Z marks ≡ some (forwardFull Z marks b .gives)
-  unfolding lines forwardFull
-  reads-forward-full b legal F =
-      let under = all-full 1 0 b (λ j h k. F .under j (omega arith)) in
-      let over = all-full 0 b (n + 1 - b) (λ j h k. F .over j (omega arith) (omega arith)) in
-      hit (forwardFull Z marks b) (Memᴰ·append-right line1 (Memᴰ·append-right line2 (Memᴰ·append-left line4 (mem-map (forwardFull Z marks) 1 n b (F .low) (omega (arith, F .high)))))) (rw (under, over)) legal
-
-  pub reads-backward-full : (b : ℕ) → legalMarks Z marks ≡ true → Filled Z pages marks 2 b → reading Z marks ≡ some (backwardFull Z marks b .gives)
-  unfolding lines backwardFull
-  reads-backward-full b legal F =
-      let under = all-full 1 0 b (λ j h k. F .under j (omega arith)) in
-      let over = all-full 2 b (n + 1 - b) (λ j h k. F .over j (omega arith) (omega arith)) in
-      hit (backwardFull Z marks b) (Memᴰ·append-right line1 (Memᴰ·append-right line2 (Memᴰ·append-right line3 (mem-map (backwardFull Z marks) 1 n b (F .low) (omega (arith, F .high)))))) (rw (under, over)) legal
+    pub reads-full : (isBackward : Bool) → Filled Z pages marks (cond isBackward 2 0) b
+        → reading Z marks ≡ some (record { place = placeInTurn Z isBackward (cond isBackward b (b - 1)) m; toErase = none })
+    unfolding lines forwardFull backwardFull placeInTurn
+    reads-full false F =
+        hit (forwardFull Z marks b)
+        (Memᴰ·append-right line1 (Memᴰ·append-right line2 (Memᴰ·append-left _ (mem-map (forwardFull Z marks) 1 n b (F .low) (omega (arith, F .high))))))
+        (full-test 0 b F) legal
+    reads-full true F =
+        hit (backwardFull Z marks b)
+        (Memᴰ·append-right line1 (Memᴰ·append-right line2 (Memᴰ·append-right line3 (mem-map (backwardFull Z marks) 1 n b (F .low) (omega (arith, F .high))))))
+        (full-test 2 b F) legal
 
   -- ---- no line fits
   pub reads-illegal : (t : ℕ) → t < length marks → isMark (getD marks t 0) ≡ false → reading Z marks ≡ none
   unfolding reading legalMarks
   reads-illegal t h e = rw (all-fails isMark marks t 0 h e)
 
-  -- What the four lines have in common: full of s + 1 below `low`, full of s + i from `high` on, unfinished between.
+  -- What the four lines have in common: the shape, with another letter above than below, and a block below if none is unfinished.
   pub record Fitting (i low high : ℕ) : Type 0 where
-    pub below : (j : ℕ) → j < low → full Z pages marks 1 j ≡ true
-    pub between : (j : ℕ) → low ≤ j → j < high → isUnfinished m marks j ≡ true
-    pub above : (j : ℕ) → high ≤ j → j ≤ n → full Z pages marks i j ≡ true
+    pub shape : Shape Z marks low high i
     pub other : letter Z i ≢ letter Z 1
-    pub order : low ≤ high
-    pub near : high ≤ low + 1
-    pub inside : low ≤ n
     pub begun : low ≡ high → 1 ≤ low
-
-  torn-fitting : (i b : ℕ) → letter Z i ≢ letter Z 1 → Torn Z pages marks i b → Fitting i b (b + 1)
-  torn-fitting i b ne T = record {
-    below = T .under;
-    between = λ j h k. let e : b ≡ j = omega arith in rw e at (T .open-block);
-    above = λ j h k. T .over j (omega arith) k;
-    other = ne;
-    order = omega arith;
-    near = omega arith;
-    inside = T .low;
-    begun = λ e. absurd (omega arith);
-  }
-
-  filled-fitting : (i b : ℕ) → letter Z i ≢ letter Z 1 → Filled Z pages marks i b → Fitting i b b
-  filled-fitting i b ne F = record {
-    below = F .under;
-    between = λ j h k. absurd (omega arith);
-    above = F .over;
-    other = ne;
-    order = omega arith;
-    near = omega arith;
-    inside = F .high;
-    begun = λ e. F .low;
-  }
 
   pub reads-none : ((i low high : ℕ) → Fitting i low high → ⊥) → reading Z marks ≡ none
   unfolding reading letter
   reads-none refute =
       ⊎-elim
-      (λ (l : legalMarks Z marks ≡ true).
-      rw l
-      (⊎-elim
-      (λ (h : Hit (lines Z marks)). absurd (refuted (h .row) (fit Z pages marks (h .row) (h .member) (h .fits))))
-      (λ (h : Miss (lines Z marks)). h .first)
-      (first-fit (lines Z marks))))
+      (λ (l : legalMarks Z marks ≡ true). rw l (told (firstFit (lines Z marks)) refl))
       (λ (l : legalMarks Z marks ≡ false). rw l)
       (bool-cases (legalMarks Z marks))
     where
+      torn : (i b : ℕ) → letter Z i ≢ letter Z 1 → Torn Z pages marks i b → ⊥
+      torn i b ne T = refute i b (suc b) (record { shape = torn-shape Z pages marks i b T; other = ne; begun = λ e. absurd (omega arith) })
+
+      filled : (i b : ℕ) → letter Z i ≢ letter Z 1 → Filled Z pages marks i b → ⊥
+      filled i b ne F = refute i b b (record { shape = filled-shape Z pages marks i b F; other = ne; begun = λ e. F .low })
+
       refuted : (row : Row Reading) → Fit Z pages marks row → ⊥
-      refuted row (torn-forth b T e) = refute 0 b (b + 1) (torn-fitting 0 b (omega arith) T)
-      refuted row (torn-back b T e) = refute 2 b (b + 1) (torn-fitting 2 b (omega arith) T)
-      refuted row (full-forth b F e) = refute 0 b b (filled-fitting 0 b (omega arith) F)
-      refuted row (full-back b F e) = refute 2 b b (filled-fitting 2 b (omega arith) F)
+      refuted row (torn-forth b T e) = torn 0 b (omega arith) T
+      refuted row (torn-back b T e) = torn 2 b (omega arith) T
+      refuted row (full-forth b F e) = filled 0 b (omega arith) F
+      refuted row (full-back b F e) = filled 2 b (omega arith) F
+
+      told : (found : Option Reading) → firstFit (lines Z marks) ≡ found → found ≡ none
+      told none f = refl
+      told (some found) f = let r = first-fit (lines Z marks) found f in absurd (refuted (r .0) (fit Z pages marks (r .0) (r .1) (r .2)))
 
   -- where a block lies is told by what it holds
   module _ (i low high : ℕ) (F : Fitting i low high) (j : ℕ) (h : j ≤ n) where
     pub torn-between : isUnfinished m marks j ≡ true → (low ≤ j) × (j < high)
     torn-between u =
-        let not-below : j < low → ⊥ = λ k. finished Z pages marks 1 j (F .below j k) u in
-        let not-above : high ≤ j → ⊥ = λ k. finished Z pages marks i j (F .above j k h) u in
+        let not-below : j < low → ⊥ = λ k. finished Z pages marks 1 j (F .shape .below j k) u in
+        let not-above : high ≤ j → ⊥ = λ k. finished Z pages marks i j (F .shape .above j k h) u in
         omega arith
 
     pub under-below : full Z pages marks 1 j ≡ true → j < low
-    under-below e =
-        let not-between : low ≤ j → j < high → ⊥ = λ k l. finished Z pages marks 1 j e (F .between j k l) in
-        let not-above : high ≤ j → ⊥ = λ k. F .other (full-same m marks j (letter Z i) (letter Z 1) pages (F .above j k h) e) in
-        ⊎-elim
-        (λ (q : ltb j low ≡ true). ltb-true j low q)
-        (λ (q : ltb j low ≡ false).
-        let k = ltb-false j low q in
-        ⊎-elim
-        (λ (r : ltb j high ≡ true). absurd (not-between k (ltb-true j high r)))
-        (λ (r : ltb j high ≡ false). absurd (not-above (ltb-false j high r)))
-        (bool-cases (ltb j high)))
-        (bool-cases (ltb j low))
+    under-below e = ⊎-elim
+        (λ (k : j < high). (let not-between : low ≤ j → ⊥ = λ l. never-both e (F .shape .between j l k 1) in omega arith))
+        (λ (k : high ≤ j). absurd (F .other (full-same m marks j (letter Z i) (letter Z 1) pages (F .shape .above j k h) e)))
+        (lt-cases j high)
 
-    pub other-above : (x : ℕ) → x < 3 → x ≢ letter Z 1 → isFull m marks j x ≡ true → (high ≤ j) × (letter Z i ≡ x)
-    other-above x l ne e =
-        let not-below : j < low → ⊥ = λ k. ne (full-same m marks j x (letter Z 1) pages e (F .below j k)) in
-        let not-between : low ≤ j → j < high → ⊥ = λ k r. never-both (F .between j k r) (full-finished m marks j x l e) in
-        let at : high ≤ j =
-        ⊎-elim
-        (λ (q : ltb j high ≡ true).
-        let r = ltb-true j high q in
-        ⊎-elim
-        (λ (k : ltb j low ≡ true). absurd (not-below (ltb-true j low k)))
-        (λ (k : ltb j low ≡ false). absurd (not-between (ltb-false j low k) r))
-        (bool-cases (ltb j low)))
-        (λ (q : ltb j high ≡ false). ltb-false j high q)
-        (bool-cases (ltb j high)) in
-        (at, full-same m marks j (letter Z i) x pages (F .above j at h) e)
+    pub other-above : (x : ℕ) → FullOfOther Z marks j x → (high ≤ j) × (letter Z i ≡ x)
+    unfolding letter
+    other-above x (e, l, ne) =
+        let not-below : j < low → ⊥ = λ k. ne (full-same m marks j x (letter Z 1) pages e (F .shape .below j k)) in
+        let at : high ≤ j = ⊎-elim
+        (λ (k : j < high).
+        let known : (Z .s + (x + 2 * Z .s)) % 3 ≡ x = omega arith in
+        absurd (never-both e (rw known at (F .shape .between j (omega arith) k (x + 2 * Z .s)))))
+        (λ (k : high ≤ j). k)
+        (lt-cases j high) in
+        (at, full-same m marks j (letter Z i) x pages (F .shape .above j at h) e)

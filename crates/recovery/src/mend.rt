@@ -51,8 +51,8 @@ pub fn mend(sizes: Sizes, store: &mut [u8], marks: &mut [u8]) -> MendResult
     }
     match read_marks(sizes, marks) {
         MarksRead::NoMoment => mended.number = 6,
-        // its erase is due
         MarksRead::Full { backward, change } => {
+            // all pages of this block are written, and the erase of its turn is due
             let filled = if backward { change } else { change - 1 };
             mended.place = place_in_turn(sizes, backward, filled, sizes.m);
         }

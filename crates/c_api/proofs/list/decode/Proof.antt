@@ -46,7 +46,8 @@ shared-slice-read-high : tie.Need-shared-slice-read-high Inv-loop μ-loop
 shared-slice-read-high c = let r = within _ _ (room (c .before .before .before .before)) in omega arith
 
 -- each byte is below 256
-high : (c : tie.After-shared-slice-known2 Inv-loop μ-loop) → getD (c .before .before .before .before .before .args .bytes .now) (2 * c .before .before .before .loop .i + 1) 0 < 256
+high : (c : tie.After-shared-slice-known2 Inv-loop μ-loop)
+    → getD (c .before .before .before .before .before .args .bytes .now) (2 * c .before .before .before .loop .i + 1) 0 < 256
 high c = omega (arith, c .shared-slice-known2 .given (2 * c .before .before .before .loop .i + 1))
 
 cast-high : tie.Need-cast-high Inv-loop μ-loop

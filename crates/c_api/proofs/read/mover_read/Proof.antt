@@ -18,7 +18,9 @@ array-share-prefix-entries : tie.Need-array-share-prefix-entries
 array-share-prefix-entries c = omega (arith, count-fits _ _ _ (c .before .before .decode .ensures .0))
 
 slice-aggregate-read : tie.Need-slice-aggregate-read
-slice-aggregate-read c = let d = c .before .before .before .decode in sym (length-take-le _ (d .last .1 .0) (omega (arith, count-fits _ _ _ (d .ensures .0), d .kept .1 .0)))
+slice-aggregate-read c =
+    let d = c .before .before .before .decode in
+    sym (length-take-le _ (d .last .1 .0) (omega (arith, count-fits _ _ _ (d .ensures .0), d .kept .1 .0)))
 
 read-requires : tie.Need-read-requires
 read-requires c κs = search needs

@@ -18,7 +18,9 @@ array-share-prefix-entries : tie.Need-array-share-prefix-entries
 array-share-prefix-entries c = omega (arith, count-fits _ _ _ (c .before .before .decode .ensures .0))
 
 slice-aggregate-split : tie.Need-slice-aggregate-split
-slice-aggregate-split c = let d = c .before .before .before .decode in sym (length-take-le _ (d .last .1 .0) (omega (arith, count-fits _ _ _ (d .ensures .0), d .kept .1 .0)))
+slice-aggregate-split c =
+    let d = c .before .before .before .decode in
+    sym (length-take-le _ (d .last .1 .0) (omega (arith, count-fits _ _ _ (d .ensures .0), d .kept .1 .0)))
 
 split-requires : tie.Need-split-requires
 split-requires c κs = search needs

@@ -38,7 +38,9 @@ told-of : (c : tie.After-operation) → (let a = c .before .before .before .befo
 told-of c = let a = c .before .before .before .before .before .before .args in c .operation .ensures ∙ ap (λ (p : ℕ). opOf (a .sizes) (operationAt (a .sizes) p)) (number-is _ _ _ (c .before .new .ensures))
 
 -- no refusal: the answer is the step
-answer : (c : tie.After-operation) → (let a = c .before .before .before .before .before .before .args in operationAnswer (a .sizes) (a .place) ≡ toldOf (a .sizes) (operationAt (a .sizes) (a .place)))
+answer : (c : tie.After-operation)
+    → (let a = c .before .before .before .before .before .before .args in
+    operationAnswer (a .sizes) (a .place) ≡ toldOf (a .sizes) (operationAt (a .sizes) (a .place)))
 answer c = let e = c .before .before in told _ _ (in-ranges (e .before .before)) (le-ltb _ _ (rw (e .before .last-place .ensures) at (e .if2 .left)))
 
 enum-known-block : tie.Need-enum-known-block
@@ -49,10 +51,14 @@ writes : (c : tie.After-block) → (let a = c .before .before .before .before .b
 writes c = is-write _ _ _ _ _ _ (sym (c .block .given .1) ∙ told-of (c .before .before))
 
 cast-told : tie.Need-cast-told
-cast-told c = record { fits = omega (arith, writes (c .before) .block-in, in-range _ (in-ranges (c .before .before .before .before .before .before .before)) .n-high) }
+cast-told c =
+    let w = c .before in
+    record { fits = omega (arith, writes w .block-in, in-range _ (in-ranges (w .before .before .before .before .before .before)) .n-high) }
 
 cast-told-2 : tie.Need-cast-told-2
-cast-told-2 c = record { fits = omega (arith, writes (c .before) .page-in, in-range _ (in-ranges (c .before .before .before .before .before .before .before)) .m-high) }
+cast-told-2 c =
+    let w = c .before in
+    record { fits = omega (arith, writes w .page-in, in-range _ (in-ranges (w .before .before .before .before .before .before)) .m-high) }
 
 cast-told-3 : tie.Need-cast-told-3
 cast-told-3 c = search needs
@@ -65,7 +71,9 @@ erases : (c : tie.After-block2) → (let a = c .before .before .before .before .
 erases c = is-erase _ _ _ (sym (c .block2 .given .1) ∙ told-of (c .before .before))
 
 cast-told-4 : tie.Need-cast-told-4
-cast-told-4 c = record { fits = omega (arith, erases (c .before) .block-in, in-range _ (in-ranges (c .before .before .before .before .before .before .before)) .n-high) }
+cast-told-4 c =
+    let e = c .before in
+    record { fits = omega (arith, erases e .block-in, in-range _ (in-ranges (e .before .before .before .before .before .before)) .n-high) }
 
 enum-told : tie.Need-enum-told
 enum-told c = search needs

@@ -25,7 +25,8 @@ returns : tie.Need-returns Inv-loop μ-loop
 returns c =
     let start = c .before .before .before .before .before in
     let a = start .args in
-    c .is-full .ensures ∙ rw (c .before .letter-after .ensures) (below-stands (a .sizes) (a .place) (start .pre .1) (a .block) (a .marks .now) (c .before .before .if1 .taken))
+    c .is-full .ensures
+    ∙ rw (c .before .letter-after .ensures) (below-stands (a .sizes) (a .place) (start .pre .1) (a .block) (a .marks .now) (c .before .before .if1 .taken))
 
 letter-after-requires-2 : tie.Need-letter-after-requires-2 Inv-loop μ-loop
 letter-after-requires-2 c κs = ⊎-elim (λ w. omega arith) (λ w. omega arith) (c .if3 .came)
@@ -34,7 +35,9 @@ is-full-requires-2 : tie.Need-is-full-requires-2 Inv-loop μ-loop
 is-full-requires-2 c κs = search needs
 
 -- the letter above the block that is being filled
-above-letter : (c : tie.After-letter-after2 Inv-loop μ-loop) → (let a = c .before .before .before .before .before .before .before .args in c .letter-after2 .result ≡ heldMark (a .sizes) (above (passOf (a .place .backward))))
+above-letter : (c : tie.After-letter-after2 Inv-loop μ-loop)
+    → (let a = c .before .before .before .before .before .before .before .args in
+    c .letter-after2 .result ≡ heldMark (a .sizes) (above (passOf (a .place .backward))))
 unfolding heldMark above
 above-letter c = c .letter-after2 .ensures ∙ ⊎-elim (λ w. rw (w .1, w .0 .taken)) (λ w. rw (w .1, w .0 .left)) (c .before .if3 .came)
 
@@ -42,13 +45,16 @@ returns-2 : tie.Need-returns-2 Inv-loop μ-loop
 returns-2 c =
     let start = c .before .before .before .before .before .before .before .before in
     let a = start .args in
-    c .is-full2 .ensures ∙ rw (above-letter (c .before)) (above-stands (a .sizes) (a .place) (start .pre .1) (a .block) (a .marks .now) (c .before .before .before .if2 .taken))
+    c .is-full2 .ensures
+    ∙ rw (above-letter (c .before)) (above-stands (a .sizes) (a .place) (start .pre .1) (a .block) (a .marks .now) (c .before .before .before .if2 .taken))
 
 letter-after-requires-3 : tie.Need-letter-after-requires-3 Inv-loop μ-loop
 letter-after-requires-3 c κs = ⊎-elim (λ w. omega arith) (λ w. omega arith) (c .if4 .came)
 
 -- the letter in it
-own-letter : (c : tie.After-letter-after3 Inv-loop μ-loop) → (let a = c .before .before .before .before .before .before .before .args in c .letter-after3 .result ≡ heldMark (a .sizes) (written (passOf (a .place .backward))))
+own-letter : (c : tie.After-letter-after3 Inv-loop μ-loop)
+    → (let a = c .before .before .before .before .before .before .before .args in
+    c .letter-after3 .result ≡ heldMark (a .sizes) (written (passOf (a .place .backward))))
 unfolding heldMark written
 own-letter c = c .letter-after3 .ensures ∙ ⊎-elim (λ w. rw (w .1, w .0 .taken)) (λ w. rw (w .1, w .0 .left)) (c .before .if4 .came)
 
@@ -65,7 +71,9 @@ shared-slice-read-if6 : tie.Need-shared-slice-read-if6 Inv-loop μ-loop
 shared-slice-read-if6 c = omega arith
 
 -- the mark that the page has at the place
-mark-due : (c : tie.Joined5 Inv-loop μ-loop) → (let l = c .before .before in c .if5 .mark ≡ cond (ltb (l .loop .page) (l .before .before .before .before .before .before .before .before .args .place .page)) (l .before .letter-after3 .result) erased)
+mark-due : (c : tie.Joined5 Inv-loop μ-loop)
+    → (let l = c .before .before in let place = l .before .before .before .before .before .before .before .before .args .place in
+    c .if5 .mark ≡ cond (ltb (l .loop .page) (place .page)) (l .before .letter-after3 .result) erased)
 mark-due c = ⊎-elim (λ w. w .1 ∙ rw (lt-ltb _ _ (w .0 .taken))) (λ w. w .1 ∙ rw (le-ltb _ _ (w .0 .left))) (c .if5 .came)
 
 returns-3 : tie.Need-returns-3 Inv-loop μ-loop
@@ -76,7 +84,8 @@ returns-3 c =
     let start = e .before .before .before .before .before in
     let a = start .args in
     stands-not (a .sizes) (a .place) (start .pre .1) (a .block) (a .marks .now) (e .before .before .if1 .left) (e .if2 .left) (l .loop .page) (omega arith)
-    (λ same. c .if6 .taken (sym (mark-is (a .marks .now) (a .block * a .sizes .m + l .loop .page) (omega arith)) ∙ same ∙ sym (rw (own-letter (l .before)) at (mark-due j))))
+    (λ same. c .if6 .taken (sym (mark-is (a .marks .now) (a .block * a .sizes .m + l .loop .page) (omega arith))
+    ∙ same ∙ sym (rw (own-letter (l .before)) at (mark-due j))))
 
 add-page : tie.Need-add-page Inv-loop μ-loop
 add-page c = search needs

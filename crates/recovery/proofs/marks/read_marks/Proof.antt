@@ -1,6 +1,5 @@
 -- `read_marks` meets its contract: the search knows what it has met, and what that tells at its end.
-use Rattle.flash.proofs.Kit.{needs, _≡_, sym, _∙_, ⊎-elim, true, false, _+_, _-_, _*_, _≤_, _<_, arith, eqb, length, getD, eqb-true, eqb-false}
-use Rattle.flash.proofs.Kit.{not-true, not-false}
+use Rattle.flash.proofs.Kit.{needs, _≡_, sym, _∙_, ⊎-elim, true, false, _+_, _-_, _*_, _≤_, _<_, arith, length, getD, not-true, not-false}
 use Rattle.flash.specs.Geometry.{letter}
 use Rattle.flash.specs.Chip.{isMark}
 use Rattle.flash.proofs.Bounds.{block-in-marks}
@@ -93,7 +92,7 @@ add-unfinished c =
     let a = b .before .before .before .before .args in
     let sizes = a .sizes in
     let pages : 0 < a .sizes .m = omega arith in
-    let e = page-opens sizes pages (a .marks .now) (o .block) (l .page) _ _ _ _ (l .whole) (room b) (p .loop-test .taken) (l .inv .1) (c .if2 .taken) in
+    let e = page-opens sizes pages (a .marks .now) (o .block) (l .page) _ _ (room b) (p .loop-test .taken) (l .inv .1) (c .if2 .taken) in
     omega (arith, o .inv .2 .few)
 
 add-page : tie.Need-add-page Inv-loop μ-loop Inv-search μ-search
@@ -114,8 +113,18 @@ loop-again c =
     let legal : isMark (getD (a .marks .now) (o .block * a .sizes .m + l .page) 0) ≡ true = sym (c .before .before .is-mark .ensures) ∙ not-false _ (c .before .if1 .left) in
     let more = legal-more sizes (a .marks .now) (o .block * a .sizes .m) (l .page) (l .inv .2) legal in
     ⊎-elim
-    (λ w. (omega arith, rw (w .2, w .3, w .4) (page-first sizes pages (a .marks .now) (o .block) (l .page) _ _ _ _ (l .whole) (room b) (p .loop-test .taken) (l .inv .1) (o .inv .2 .few) (w .1 .left) (w .0 .taken)), more))
-    (λ w. (omega arith, rw (w .1, w .2, w .3) (page-same sizes pages (a .marks .now) (o .block) (l .page) _ _ _ _ (l .whole) (room b) (p .loop-test .taken) (l .inv .1) legal (w .0 .left)), more))
+    (λ w. (
+      omega arith,
+      rw (w .2, w .3, w .4) (page-first sizes pages (a .marks .now) (o .block) (l .page) _ _ (room b) (p .loop-test .taken)
+          (l .inv .1) (o .inv .2 .few) (w .1 .left) (w .0 .taken)),
+      more,
+    ))
+    (λ w. (
+      omega arith,
+      rw (w .1, w .2, w .3) (page-same sizes pages (a .marks .now) (o .block) (l .page) _ _ (room b) (p .loop-test .taken)
+          (l .inv .1) legal (w .0 .left)),
+      more,
+    ))
     (c .if2 .came)
 
 returns-2 : tie.Need-returns-2 Inv-loop μ-loop Inv-search μ-search
@@ -128,7 +137,8 @@ returns-2 c =
     let sizes = a .sizes in
     let pages : 0 < a .sizes .m = omega arith in
     tells-none sizes pages (a .marks .now)
-    (block-astray sizes pages (a .marks .now) (o .block) (l .page) _ _ _ _ _ _ _ (l .whole) (omega arith) (e .loop-test .left) (o .inv .2) (l .inv .1) (omega arith) (c .before .if4 .taken))
+    (block-astray sizes pages (a .marks .now) (o .block) (l .page) _ _ _ _ _ (omega arith) (e .loop-test .left)
+    (o .inv .2) (l .inv .1) (omega arith) (c .before .if4 .taken))
 
 add-block : tie.Need-add-block Inv-loop μ-loop Inv-search μ-search
 add-block c = search needs
@@ -146,11 +156,23 @@ search-again c =
     let sizes = a .sizes in
     let pages : 0 < a .sizes .m = omega arith in
     let h : o .block ≤ a .sizes .n = omega arith in
-    let torn = torn-in sizes (a .marks .now) (o .block) (l .page) _ _ _ _ _ (l .whole) (l .inv .1) h (o .inv .1) in
+    let torn = torn-in sizes (a .marks .now) (l .inv .1) h (o .inv .1) in
     let legal : LegalBelow sizes (a .marks .now) ((o .block + 1) * a .sizes .m) = λ i k. l .inv .2 i (omega arith) in
     ⊎-elim
-    (λ w. (omega arith, torn, rw (w .2, w .3) (block-changes sizes pages (a .marks .now) (o .block) (l .page) _ _ _ _ _ _ _ (l .whole) h (e .loop-test .left) (o .inv .2) (l .inv .1) (omega arith) (w .0 .taken)), legal))
-    (λ w. (omega arith, torn, rw (w .1, w .2) (block-kept sizes pages (a .marks .now) (o .block) (l .page) _ _ _ _ _ _ _ (l .whole) h (e .loop-test .left) (o .inv .2) (l .inv .1) (w .0 .left)), legal))
+    (λ w. (
+      omega arith,
+      torn,
+      rw (w .2, w .3) (block-changes sizes pages (a .marks .now) (o .block) (l .page) _ _ _ _ _ h (e .loop-test .left)
+          (o .inv .2) (l .inv .1) (omega arith) (w .0 .taken)),
+      legal,
+    ))
+    (λ w. (
+      omega arith,
+      torn,
+      rw (w .1, w .2) (block-kept sizes pages (a .marks .now) (o .block) (l .page) _ _ _ _ _ h (e .loop-test .left)
+          (o .inv .2) (l .inv .1) (w .0 .left)),
+      legal,
+    ))
     (c .if4 .came)
 
 letter-after-requires-2 : tie.Need-letter-after-requires-2 Inv-loop μ-loop Inv-search μ-search
@@ -174,12 +196,13 @@ returns-3 c =
     let U : Upto sizes (a .marks .now) (a .sizes .n + 1) (o .unfinished) (o .torn) (o .upper) (o .change) = rw end at (o .inv .2) in
     let legal = legal-all sizes (a .marks .now) (rw (c .before .before .before .before .before .before .pre .1, ← end) (o .inv .3)) in
     rw (w .1, w .2, final)
-    (tells sizes pages (a .marks .now) _ _ _ _ U legal (eqb (o .upper) (letter sizes 2)) (λ e. eqb-true _ _ e) (λ e. eqb-false _ _ e)))
+    (tells sizes pages (a .marks .now) _ _ _ _ U legal))
     (λ w.
     let l = w .3 in
     rw (w .10, w .9 .taken)
     (tells-second sizes pages (a .marks .now) _ _ _
-    (page-second sizes pages (a .marks .now) (o .block) (l .page) _ _ _ _ (l .whole) (room (record { before = t; search-test = w .0 })) (w .4 .taken) (l .inv .1) _ _ (o .inv .2) (omega arith) (w .9 .taken) (w .8 .taken))))
+    (page-second sizes pages (a .marks .now) (o .block) (l .page) _ _ (room (record { before = t; search-test = w .0 })) (w .4 .taken)
+    (l .inv .1) (o .inv .2) (omega arith) (w .9 .taken) (w .8 .taken))))
     (c .before .before .search-test .came))
 
 pub read-marks-spec : {M : Type 1} → statement M

@@ -59,7 +59,9 @@ enum-known-backward : tie.Need-enum-known-backward
 enum-known-backward c = search needs
 
 -- the change lies within the blocks
-change-in : (c : tie.After-backward) → (let change = c .backward .given .0 .1 .0 in (1 ≤ change) × (change ≤ c .before .before .before .before .before .before .before .before .before .before .before .args .sizes .n))
+change-in : (c : tie.After-backward)
+    → (let change = c .backward .given .0 .1 .0 in
+    (1 ≤ change) × (change ≤ c .before .before .before .before .before .before .before .before .before .before .before .args .sizes .n))
 change-in c = let S = rw (c .backward .given .1) at (c .before .before .read-marks .ensures .1) in (S .0, S .1 .inside)
 
 sub-filled : tie.Need-sub-filled
@@ -76,7 +78,8 @@ enum-known-backward-2 : tie.Need-enum-known-backward-2
 enum-known-backward-2 c = search needs
 
 -- the unfinished block is one of the store's
-inside : (c : tie.After-backward2) → c .backward2 .given .0 .1 .0 ≤ c .before .before .before .before .before .before .before .before .before .before .before .args .sizes .n
+inside : (c : tie.After-backward2)
+    → c .backward2 .given .0 .1 .0 ≤ c .before .before .before .before .before .before .before .before .before .before .before .args .sizes .n
 inside c = (rw (c .backward2 .given .1) at (c .before .before .read-marks .ensures .1)) .inside
 
 erase-block-requires : tie.Need-erase-block-requires

@@ -16,7 +16,9 @@ returns c =
     next-page (start .args .sizes) (start .args .self) (start .pre .1) (start .pre .2) (c .before .if1 .taken)
 
 sub-self : tie.Need-sub-self
-sub-self c = let start = c .before .before .before .before .before .before in low (start .args .sizes) (start .args .self) (start .pre .1) (start .pre .2) (c .before .if2 .taken)
+sub-self c =
+    let start = c .before .before .before .before .before .before in
+    low (start .args .sizes) (start .args .self) (start .pre .1) (start .pre .2) (c .before .if2 .taken)
 
 returns-2 : tie.Need-returns-2
 returns-2 c =
@@ -24,12 +26,15 @@ returns-2 c =
     next-back (start .args .sizes) (start .args .self) (start .pre .1) (start .pre .2) (c .before .before .if1 .left) (c .before .if2 .taken)
 
 add-self-3 : tie.Need-add-self-3
-add-self-3 c = let start = c .before .before .before .before .before .before in record { fits = omega (arith, high (start .args .sizes) (start .args .self) (start .pre .1) (c .before .if2 .left)) }
+add-self-3 c =
+    let start = c .before .before .before .before .before .before in
+    record { fits = omega (arith, high (start .args .sizes) (start .args .self) (start .pre .1) (c .before .if2 .left)) }
 
 returns-3 : tie.Need-returns-3
 returns-3 c =
     let start = c .before .before .before .before .before .before .before .before in
-    next-forth (start .args .sizes) (start .args .self) (start .pre .1) (start .pre .2) (c .before .before .before .before .if1 .left) (c .before .before .before .if2 .left)
+    next-forth (start .args .sizes) (start .args .self) (start .pre .1) (start .pre .2)
+    (c .before .before .before .before .if1 .left) (c .before .before .before .if2 .left)
 
 pub next-spec : {M : Type 1} → statement M
 next-spec = tie.close (tie.spec add-self add-self-2 returns sub-self returns-2 add-self-3 returns-3)
