@@ -2,4 +2,3 @@
 pub mod PlaceLaws
 pub mod StepTold
 pub mod MarkLaws
-pub mod ToldLaws

@@ -16,7 +16,6 @@ use Rattle.places.specs.declared.place.Place.{Place}
 use Rattle.places.specs.inner.Place.{passOf, placeOf}
 use Rattle.places.proofs.PlaceLaws.{pass-is, block-is, page-is}
 use Rattle.places.specs.inner.BlockMarks.{blockStands}
-use Rattle.flash.proofs.Ranges.{none-full}
 
 -- ---- a block stands where each of its marks does
 module _ (Z : Sizes) (here : Place) (is : here ≡ placeOf Z (here .at)) (block : ℕ) (marks : List ℕ) where
@@ -97,9 +96,6 @@ module _ (Z : Sizes) (marks : List ℕ) (place : ℕ) where
 module _ (P : ℕ) (chip : Chip) where
   abbrev torn : ℕ → Bool
   torn t = eqb (markAt (chip .marks) t) erased && not (isBlank P chip t)
-
-  pub torn-more : (t : ℕ) → any torn (range 0 t) ≡ false → torn t ≡ false → any torn (range 0 (t + 1)) ≡ false
-  torn-more t none this = none-full torn t none this
 
   pub not-marked : (t : ℕ) → (markAt (chip .marks) t ≡ erased → ⊥) → torn t ≡ false
   not-marked t ne = rw (ne-eqb _ _ ne) refl

@@ -12,7 +12,7 @@ use Rattle.places.specs.declared.place.Place.{Place}
 use Rattle.places.specs.declared.place.Op.the-variants.{Write, Erase, Done}
 use Rattle.places.specs.inner.Place.{isBackward, passOf, placeOf, opOf}
 
-pass-told : (pass : Pass) (t : Bool) → t ≡ isBackward pass → pass ≡ passOf t
+pub pass-told : (pass : Pass) (t : Bool) → t ≡ isBackward pass → pass ≡ passOf t
 pass-told forward t e = rw e
 pass-told backward t e = rw e
 

@@ -1,5 +1,5 @@
 -- What the answer of `Place::operation` tells of the step at a place.
-use Rattle.flash.proofs.Kit.{_≡_, refl, _∙_, ⊎-elim, Bool, true, false, ℕ, _+_, _≤_, _<_, arith}
+use Rattle.flash.proofs.Kit.{_≡_, refl, ap, _∙_, ⊎-elim, Bool, true, false, ℕ, _+_, _≤_, _<_, arith}
 use Rattle.flash.specs.declared.sizes.Sizes.{Sizes}
 use Rattle.flash.proofs.Comparisons.{lt-cases}
 use Rattle.method.specs.Place.{Pass, forward, backward, Operation, write, erase, done, markOf, lastPlace, operationAt, passAt, filling, filled}
@@ -7,7 +7,8 @@ use Rattle.method.proofs.basics.Indexes.{clash}
 use Rattle.method.proofs.places.StepsAtPlaces.{nextBlock, backward-low, forward-high, operation-done}
 use Rattle.method.proofs.places.PagesHeld.{Change, by-write, by-erase, change}
 use Rattle.places.specs.declared.place.Op.the-variants.{Write, Erase, Done}
-use Rattle.places.specs.inner.Place.{opOf, passOf}
+use Rattle.places.specs.inner.Place.{isBackward, opOf, passOf}
+use Rattle.places.proofs.PlaceLaws.{pass-told}
 
 module _ (Z : Sizes) where
   open Sizes Z using (n, m)
@@ -25,18 +26,12 @@ module _ (Z : Sizes) where
     pub block-in : block ≤ n
 
   told-write : (op : Operation) (t : Bool) (b q mark : ℕ) → Write t b q mark ≡ opOf Z op → (op ≡ write (passOf t) b q) × (mark ≡ markOf Z (passOf t))
-  told-write (write forward block page) t b q mark e =
-      let f : t ≡ false = cc in
+  told-write (write pass block page) t b q mark e =
+      let f : t ≡ isBackward pass = cc in
       let g : b ≡ block = cc in
       let h : q ≡ page = cc in
-      let i : mark ≡ markOf Z forward = cc in
-      rw (f, g, h) (refl, i)
-  told-write (write backward block page) t b q mark e =
-      let f : t ≡ true = cc in
-      let g : b ≡ block = cc in
-      let h : q ≡ page = cc in
-      let i : mark ≡ markOf Z backward = cc in
-      rw (f, g, h) (refl, i)
+      let i : mark ≡ markOf Z pass = cc in
+      rw (← pass-told pass t f, g, h) (refl, i)
   told-write (erase block) t b q mark e = let z : _≡_ {A = ℕ} 0 1 = cc in absurd (clash z)
   told-write done t b q mark e = let z : _≡_ {A = ℕ} 0 1 = cc in absurd (clash z)
 
@@ -70,12 +65,6 @@ module _ (Z : Sizes) where
         by-change (by-write k f W) = let z : _≡_ {A = ℕ} 0 1 = cc in absurd (clash z)
         by-change (by-erase k f E) = let x : nextBlock (passAt Z at) (filling Z at) ≡ b = cc in rw (← x) (E .block-in)
 
-    pass-back : (t : Bool) → t ≡ true → passOf t ≡ backward
-    pass-back t e = rw e
-
-    pass-on : (t : Bool) → t ≡ false → passOf t ≡ forward
-    pass-on t e = rw e
-
     pub is-write : (t : Bool) (b q mark : ℕ) → Write t b q mark ≡ opOf Z (operationAt Z at) → IsWrite at t b q mark
     is-write t b q mark e =
         let w = told-write (operationAt Z at) t b q mark e in
@@ -85,8 +74,8 @@ module _ (Z : Sizes) where
           mark-is = w .1;
           page-in = in-bounds .0;
           block-in = in-bounds .1;
-          low = λ i. in-bounds .2 (pass-back t i);
-          high = λ i. in-bounds .3 (pass-on t i);
+          low = λ i. in-bounds .2 (ap passOf i);
+          high = λ i. in-bounds .3 (ap passOf i);
         }
 
     pub is-erase : (b : ℕ) → Erase b ≡ opOf Z (operationAt Z at) → IsErase at b

@@ -7,7 +7,6 @@ use Rattle.places.specs.inner.Place.{opOf}
 use Rattle.places.specs.Operation.{toldOf, operationAnswer}
 use Rattle.places.proofs.PlaceLaws.{number-is, is-place}
 use Rattle.places.proofs.StepTold.{IsWrite, is-write, IsErase, is-erase, told-done}
-use Rattle.places.proofs.ToldLaws.{refused-1, refused-5, told}
 use Rattle.places.proofs.operation.operation.Statement.{statement}
 use Rattle.places.proofs.operation.operation.Tie as tie
 
@@ -15,7 +14,8 @@ in-range-requires : tie.Need-in-range-requires
 in-range-requires c κs = search needs
 
 returns : tie.Need-returns
-returns c = sym (refused-1 _ _ (sym (c .before .in-range .ensures) ∙ not-true _ (c .if1 .taken)))
+unfolding operationAnswer
+returns c = rw (sym (c .before .in-range .ensures) ∙ not-true _ (c .if1 .taken))
 
 -- the sizes are in range
 in-ranges : (c : tie.Else1) → inRange (c .before .before .args .sizes) ≡ true
@@ -25,7 +25,8 @@ last-place-requires : tie.Need-last-place-requires
 last-place-requires c κs = let B = in-range _ (in-ranges c) in (B .n-high, B .m-high)
 
 returns-2 : tie.Need-returns-2
-returns-2 c = sym (refused-5 _ _ (in-ranges (c .before .before)) (lt-ltb _ _ (rw (c .before .last-place .ensures) at (c .if2 .taken))))
+unfolding operationAnswer
+returns-2 c = rw (in-ranges (c .before .before), lt-ltb _ _ (rw (c .before .last-place .ensures) at (c .if2 .taken)))
 
 new-requires : tie.Need-new-requires
 new-requires c κs = (in-range _ (in-ranges (c .before .before)), omega (arith, c .before .last-place .ensures, c .if2 .left))
@@ -41,7 +42,8 @@ told-of c = let a = c .before .before .before .before .before .before .args in c
 answer : (c : tie.After-operation)
     → (let a = c .before .before .before .before .before .before .args in
     operationAnswer (a .sizes) (a .place) ≡ toldOf (a .sizes) (operationAt (a .sizes) (a .place)))
-answer c = let e = c .before .before in told _ _ (in-ranges (e .before .before)) (le-ltb _ _ (rw (e .before .last-place .ensures) at (e .if2 .left)))
+unfolding operationAnswer
+answer c = let e = c .before .before in rw (in-ranges (e .before .before), le-ltb _ _ (rw (e .before .last-place .ensures) at (e .if2 .left)))
 
 enum-known-block : tie.Need-enum-known-block
 enum-known-block c = search needs

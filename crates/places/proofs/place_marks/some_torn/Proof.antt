@@ -4,8 +4,8 @@ use Rattle.flash.specs.Lists.{range, any}
 use Rattle.flash.specs.Chip.{Chip, erased, markAt, isBlank}
 use Rattle.flash.proofs.Blocks.{mark-is}
 use Rattle.flash.proofs.Parts.{part-fits}
-use Rattle.flash.proofs.Ranges.{any-is}
-use Rattle.places.proofs.MarkLaws.{torn-more, not-marked, is-torn}
+use Rattle.flash.proofs.Ranges.{any-is, none-full}
+use Rattle.places.proofs.MarkLaws.{not-marked, is-torn}
 use Rattle.places.proofs.place_marks.some_torn.Statement.{statement}
 use Rattle.places.proofs.place_marks.some_torn.Tie as tie
 
@@ -50,7 +50,7 @@ loop-again c =
     let chip : Chip = record { store = a .store .now; marks = a .marks .now } in
     let mark = mark-is (a .marks .now) (l .t) (omega arith) in (
       omega arith,
-      torn-more (a .p) chip (l .t) (l .inv .1)
+      none-full _ (l .t) (l .inv .1)
           (⊎-elim
           (λ w. is-torn (a .p) chip (l .t) (w .1 .result) (w .1 .ensures) (mark ∙ w .0 .taken) ∙ w .2 .left)
           (λ w. not-marked (a .p) chip (l .t) (λ e. w .left (sym mark ∙ e)))
