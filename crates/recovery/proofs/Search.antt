@@ -4,12 +4,11 @@ use Rattle.flash.proofs.Kit.{_<_, arith, below-more, eqb, ltb, length, getD, eq
 use Rattle.flash.specs.declared.sizes.Sizes.{Sizes}
 use Rattle.flash.specs.Geometry.{isLetter, slot, letter}
 use Rattle.flash.specs.Chip.{erased, isMark, markAt, isFull, isUnfinished}
-use Rattle.flash.proofs.Bools.{bool-cases, never-both, both, or-cases, or-false-left, or-false-right}
+use Rattle.flash.proofs.Bools.{never-both, or-cases, or-false-left, or-false-right}
 use Rattle.flash.proofs.Comparisons.{lt-cases}
 use Rattle.flash.proofs.Searches.{all-of}
 use Rattle.flash.proofs.Blocks.{mark-is, first-mark, full-at, full-same, full-of, not-full, unfinished-first}
 use Rattle.method.specs.Mend.{legalMarks, reading}
-use Rattle.recovery.specs.inner.Gathered.{pagesKnown}
 use Rattle.recovery.proofs.Reading.{FullOfOther, reads-none, torn-between, other-above}
 
 module _ (Z : Sizes) (marks : List ℕ) where
@@ -123,39 +122,34 @@ module _ (Z : Sizes) (pages : 0 < Z .m) (marks : List ℕ) where
         ne (full-same m marks b x (letter Z i) pages e up ∙ one .1))
 
   -- ---- the pages of a block
-  -- the pages that are known at once
-  known-cases : (b x : ℕ) → ((pagesKnown m marks b x ≡ m) × (x < 3) × (isFull m marks b x ≡ true)) ⊎ (pagesKnown m marks b x ≡ 0)
-  unfolding pagesKnown isLetter
-  known-cases b x =
-      ⊎-elim
-      (λ (q : (ltb x 3 && isFull m marks b x) ≡ true). let w = both (ltb x 3) (isFull m marks b x) q in inl (rw q, ltb-true x 3 (w .0), w .1))
-      (λ (q : (ltb x 3 && isFull m marks b x) ≡ false). inr (rw q))
-      (bool-cases (ltb x 3 && isFull m marks b x))
+  -- how many pages of a block are known at once to bear the letter `x`: all, or none
+  abbrev pub Known : (b x known : ℕ) → Type 0
+  Known b x known = ((x < 3) × (isFull m marks b x ≡ true) × (known ≡ m)) ⊎ (known ≡ 0)
 
-  pub known-in : (b x : ℕ) → pagesKnown m marks b x ≤ m
-  known-in b x = ⊎-elim (λ w. omega (arith, w .0)) (λ w. omega (arith, w)) (known-cases b x)
+  pub known-in : (b x known : ℕ) → Known b x known → known ≤ m
+  known-in b x known K = ⊎-elim (λ w. omega (arith, w .2)) (λ w. omega (arith, w)) K
 
-  pub block-known : (b x count torn : ℕ) → Block Z marks b (pagesKnown m marks b x) x count torn count torn true
-  block-known b x count torn =
+  pub block-known : (b x known count torn : ℕ) → Known b x known → Block Z marks b known x count torn count torn true
+  block-known b x known count torn K =
       ⊎-elim
-      (λ w. unbroken (λ q h. full-at m marks b x q (w .2) (omega (arith, w .0))) (λ h. w .1))
+      (λ w. unbroken (λ q h. full-at m marks b x q (w .1) (omega (arith, w .2))) (λ h. w .0))
       (λ w. unbroken (λ q h. absurd (omega (arith, w))) (λ h. absurd (omega (arith, w))))
-      (known-cases b x)
+      K
 
-  pub legal-known : (b x : ℕ) → b * m + m ≤ length marks → LegalBelow Z marks (b * m) → LegalBelow Z marks (b * m + pagesKnown m marks b x)
+  pub legal-known : (b x known : ℕ) → Known b x known → b * m + m ≤ length marks → LegalBelow Z marks (b * m) → LegalBelow Z marks (b * m + known)
   unfolding isMark isLetter
-  legal-known b x fits L i h =
+  legal-known b x known K fits L i h =
       ⊎-elim
       (λ (q : i < b * m). L i q)
       (λ (q : b * m ≤ i).
       ⊎-elim
       (λ w.
       let at : b * m + (i - b * m) ≡ i = omega arith in
-      let f = full-at m marks b x (i - b * m) (w .2) (omega (arith, w .0)) in
-      let e : getD marks i 0 ≡ x = sym (mark-is marks i (omega (arith, w .0))) ∙ (rw at at f) in
-      rw (e, lt-ltb x 3 (w .1)))
+      let f = full-at m marks b x (i - b * m) (w .1) (omega (arith, w .2)) in
+      let e : getD marks i 0 ≡ x = sym (mark-is marks i (omega (arith, w .2))) ∙ (rw at at f) in
+      rw (e, lt-ltb x 3 (w .0)))
       (λ w. absurd (omega (arith, w)))
-      (known-cases b x))
+      K)
       (lt-cases i (b * m))
 
   -- the test of a page: it shows that the block is unfinished

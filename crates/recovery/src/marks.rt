@@ -1,14 +1,14 @@
 // What the marks tell, for mend, the recovery after a cut, and for read.
 
 ghost use mathlib.Core.Path.{_≡_};
-ghost use Prim.Native.Nat.{_+_, _*_, _≤_, _<_};
+ghost use Prim.Native.Nat.{_≤_, _<_};
 ghost use lib.ListN.{length};
 ghost use Rattle.flash.specs.Geometry.{slotCount};
 ghost use Rattle.flash.specs.Chip.{isMark};
 ghost use Rattle.method.specs.Mend.{reading};
 ghost use Rattle.method.specs.Answers.{marksAnswer};
 ghost use Rattle.recovery.specs.MarksRead.{answerOf};
-ghost use Rattle.recovery.specs.inner.Gathered.{pagesKnown, momentOf, Shown};
+ghost use Rattle.recovery.specs.inner.Gathered.{momentOf, Shown};
 use flash::ERASED;
 use flash::LETTERS;
 use flash::block::is_full;
@@ -30,17 +30,6 @@ pub fn is_mark(mark: u8) -> bool
     ensures { λ r. ⌜ r ≡ isMark mark ⌝ }
 {
     (mark < LETTERS) | (mark == ERASED)
-}
-
-// How many pages of a block need not be looked at one by one: all, if it is full of this letter.
-fn pages_known(marks: &[u8], m: usize, block: usize, letter: u8) -> usize
-    requires { ⌜ block * m + m ≤ length (now marks) ⌝ }
-    ensures { λ r. ⌜ r ≡ pagesKnown m (now (marks .entry)) block letter ⌝ }
-{
-    if letter < LETTERS && is_full(marks, m, block, letter) {
-        return m;
-    }
-    0
 }
 
 // What the search has gathered tells: rules 5.3 to 5.6.
@@ -78,7 +67,12 @@ pub fn read_marks(sizes: Sizes, marks: &[u8]) -> MarksRead
     'search: for block in 0..blocks {
         let first = block * m;
         let letter = marks[first];
-        let known = pages_known(marks, m, block, letter);
+        // the pages of a block that is full of a letter need not be looked at one by one
+        let known = if letter < LETTERS && is_full(marks, m, block, letter) {
+            m
+        } else {
+            0
+        };
         let mut whole = true;
         for page in known..m {
             let mark = marks[first + page];

@@ -1,18 +1,12 @@
 -- What the search of the marks gathers, and what it tells of that.
-use mathlib.Core.Bool.{Bool, cond, _&&_, _||_, not}
+use mathlib.Core.Bool.{Bool, cond, _||_, not}
 use mathlib.Core.List.{List}
 use Prim.Native.Nat.{ℕ, _+_, _≤_}
 use lib.Dec.{eqb, ltb}
 use Rattle.flash.specs.declared.sizes.Sizes.{Sizes}
-use Rattle.flash.specs.Geometry.{isLetter}
-use Rattle.flash.specs.Chip.{isFull}
 use Rattle.method.specs.inner.Shape.{Shape}
 use Rattle.recovery.specs.declared.marks.MarksRead.{MarksRead}
 use Rattle.recovery.specs.declared.marks.MarksRead.the-variants.{NoMoment, Full, Torn}
-
--- how many pages of a block are known at once to bear a letter: all, if it is full of this letter
-unfoldable pub pagesKnown : (m : ℕ) → (marks : List ℕ) → (block letter : ℕ) → ℕ
-pagesKnown m marks block letter = cond (isLetter letter && isFull m marks block letter) m 0
 
 -- what `moment` makes of the gathered numbers: rules 5.3 to 5.6
 unfoldable pub momentOf : (n : ℕ) (isBackward : Bool) (unfinished torn change : ℕ) → MarksRead

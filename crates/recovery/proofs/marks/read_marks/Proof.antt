@@ -1,10 +1,11 @@
 -- `read_marks` meets its contract: the search knows what it has met, and what that tells at its end.
-use Rattle.flash.proofs.Kit.{needs, _≡_, sym, _∙_, ⊎-elim, true, false, _+_, _-_, _*_, _≤_, _<_, arith, length, getD, not-true, not-false}
+use Rattle.flash.proofs.Kit.{needs, _≡_, sym, _∙_, inl, inr, ⊎-elim, true, false, _+_, _-_, _*_, _≤_, _<_, arith, length, getD, not-true, not-false}
 use Rattle.flash.specs.Geometry.{letter}
 use Rattle.flash.specs.Chip.{isMark}
 use Rattle.flash.proofs.Bounds.{block-in-marks}
 use Rattle.recovery.proofs.Reading.{reads-illegal}
-use Rattle.recovery.proofs.Search.{Upto, Block, LegalBelow, legal-more, legal-all, torn-in, upto-none, known-in, block-known, legal-known, page-same, page-opens, page-first, page-second, block-changes, block-astray, block-kept}
+use Rattle.recovery.proofs.Search.{Upto, Block, LegalBelow, legal-more, legal-all, torn-in, upto-none, Known, known-in, block-known, legal-known}
+use Rattle.recovery.proofs.Search.{page-same, page-opens, page-first, page-second, block-changes, block-astray, block-kept}
 use Rattle.recovery.proofs.Tells.{tells-none, tells-second, tells}
 use Rattle.recovery.proofs.marks.read_marks.Statement.{statement}
 use Rattle.recovery.proofs.marks.read_marks.Tie as tie
@@ -49,8 +50,14 @@ mul-first c = omega (arith, room c)
 shared-slice-read-letter : tie.Need-shared-slice-read-letter Inv-loop μ-loop Inv-search μ-search
 shared-slice-read-letter c = omega (arith, room (c .before))
 
-pages-known-requires : tie.Need-pages-known-requires Inv-loop μ-loop Inv-search μ-search
-pages-known-requires c κs = omega (arith, room (c .before))
+is-full-requires : tie.Need-is-full-requires Inv-loop μ-loop Inv-search μ-search
+is-full-requires c κs = omega (arith, room (c .before .before))
+
+-- what is known of the block at once
+known : (c : tie.Joined1-2 Inv-loop μ-loop Inv-search μ-search)
+    → (let b = c .before .before in let a = b .before .before .before .before .args in let first = b .before .search .block * a .sizes .m in
+    (pages : 0 < a .sizes .m) → Known (a .sizes) pages (a .marks .now) (b .before .search .block) (getD (a .marks .now) first 0) (c .if1 .known))
+known c pages = ⊎-elim (λ w. inl (w .0 .taken, sym (w .1 .ensures) ∙ w .2 .taken, w .3)) (λ w. inr (w .1)) (c .if1 .came)
 
 loop-holds : tie.Need-loop-holds Inv-loop μ-loop Inv-search μ-search
 loop-holds c =
@@ -59,32 +66,23 @@ loop-holds c =
     let a = b .before .before .before .before .args in
     let sizes = a .sizes in
     let pages : 0 < a .sizes .m = omega arith in
-    rw (c .pages-known .ensures)
-    (known-in sizes pages (a .marks .now) (o .block) _, block-known sizes pages (a .marks .now) (o .block) _ _ _, legal-known sizes pages (a .marks .now) (o .block) _ (room b) (o .inv .3))
+    let K = known c pages in (
+      known-in sizes pages (a .marks .now) (o .block) _ _ K,
+      block-known sizes pages (a .marks .now) (o .block) _ _ _ _ K,
+      legal-known sizes pages (a .marks .now) (o .block) _ _ K (room b) (o .inv .3),
+    )
 
 add-mark : tie.Need-add-mark Inv-loop μ-loop Inv-search μ-search
-add-mark c = omega (arith, room (c .before .before .before .before))
+add-mark c = omega (arith, room (c .before .before .before .before .before))
 
 shared-slice-read-mark : tie.Need-shared-slice-read-mark Inv-loop μ-loop Inv-search μ-search
-shared-slice-read-mark c = omega (arith, room (c .before .before .before .before .before))
+shared-slice-read-mark c = omega (arith, room (c .before .before .before .before .before .before))
 
 is-mark-requires : tie.Need-is-mark-requires Inv-loop μ-loop Inv-search μ-search
 is-mark-requires c κs = search needs
 
 returns : tie.Need-returns Inv-loop μ-loop Inv-search μ-search
 returns c =
-    let p = c .before .before .before in
-    let l = p .before .loop in
-    let b = p .before .before .before .before in
-    let o = b .before .search in
-    let a = b .before .before .before .before .args in
-    let sizes = a .sizes in
-    let pages : 0 < a .sizes .m = omega arith in
-    let illegal : isMark (getD (a .marks .now) (o .block * a .sizes .m + l .page) 0) ≡ false = sym (c .before .is-mark .ensures) ∙ not-true _ (c .if1 .taken) in
-    tells-none sizes pages (a .marks .now) (reads-illegal sizes pages (a .marks .now) (o .block * a .sizes .m + l .page) (omega (arith, room b)) illegal)
-
-add-unfinished : tie.Need-add-unfinished Inv-loop μ-loop Inv-search μ-search
-add-unfinished c =
     let p = c .before .before .before .before in
     let l = p .before .loop in
     let b = p .before .before .before .before in
@@ -92,7 +90,19 @@ add-unfinished c =
     let a = b .before .before .before .before .args in
     let sizes = a .sizes in
     let pages : 0 < a .sizes .m = omega arith in
-    let e = page-opens sizes pages (a .marks .now) (o .block) (l .page) _ _ (room b) (p .loop-test .taken) (l .inv .1) (c .if2 .taken) in
+    let illegal : isMark (getD (a .marks .now) (o .block * a .sizes .m + l .page) 0) ≡ false = sym (c .before .is-mark .ensures) ∙ not-true _ (c .if3 .taken) in
+    tells-none sizes pages (a .marks .now) (reads-illegal sizes pages (a .marks .now) (o .block * a .sizes .m + l .page) (omega (arith, room b)) illegal)
+
+add-unfinished : tie.Need-add-unfinished Inv-loop μ-loop Inv-search μ-search
+add-unfinished c =
+    let p = c .before .before .before .before .before in
+    let l = p .before .loop in
+    let b = p .before .before .before .before in
+    let o = b .before .search in
+    let a = b .before .before .before .before .args in
+    let sizes = a .sizes in
+    let pages : 0 < a .sizes .m = omega arith in
+    let e = page-opens sizes pages (a .marks .now) (o .block) (l .page) _ _ (room b) (p .loop-test .taken) (l .inv .1) (c .if4 .taken) in
     omega (arith, o .inv .2 .few)
 
 add-page : tie.Need-add-page Inv-loop μ-loop Inv-search μ-search
@@ -103,14 +113,15 @@ loop-less c = search needs
 
 loop-again : tie.Need-loop-again Inv-loop μ-loop Inv-search μ-search
 loop-again c =
-    let p = c .before .before .before .before in
+    let p = c .before .before .before .before .before in
     let l = p .before .loop in
     let b = p .before .before .before .before in
     let o = b .before .search in
     let a = b .before .before .before .before .args in
     let sizes = a .sizes in
     let pages : 0 < a .sizes .m = omega arith in
-    let legal : isMark (getD (a .marks .now) (o .block * a .sizes .m + l .page) 0) ≡ true = sym (c .before .before .is-mark .ensures) ∙ not-false _ (c .before .if1 .left) in
+    let legal : isMark (getD (a .marks .now) (o .block * a .sizes .m + l .page) 0) ≡ true =
+    sym (c .before .before .is-mark .ensures) ∙ not-false _ (c .before .if3 .left) in
     let more = legal-more sizes (a .marks .now) (o .block * a .sizes .m) (l .page) (l .inv .2) legal in
     ⊎-elim
     (λ w. (
@@ -125,7 +136,7 @@ loop-again c =
           (l .inv .1) legal (w .0 .left)),
       more,
     ))
-    (c .if2 .came)
+    (c .if4 .came)
 
 returns-2 : tie.Need-returns-2 Inv-loop μ-loop Inv-search μ-search
 returns-2 c =
@@ -138,7 +149,7 @@ returns-2 c =
     let pages : 0 < a .sizes .m = omega arith in
     tells-none sizes pages (a .marks .now)
     (block-astray sizes pages (a .marks .now) (o .block) (l .page) _ _ _ _ _ (omega arith) (e .loop-test .left)
-    (o .inv .2) (l .inv .1) (omega arith) (c .before .if4 .taken))
+    (o .inv .2) (l .inv .1) (omega arith) (c .before .if6 .taken))
 
 add-block : tie.Need-add-block Inv-loop μ-loop Inv-search μ-search
 add-block c = search needs
@@ -173,7 +184,7 @@ search-again c =
           (o .inv .2) (l .inv .1) (w .0 .left)),
       legal,
     ))
-    (c .if4 .came)
+    (c .if6 .came)
 
 letter-after-requires-2 : tie.Need-letter-after-requires-2 Inv-loop μ-loop Inv-search μ-search
 letter-after-requires-2 c κs = search needs
@@ -199,10 +210,10 @@ returns-3 c =
     (tells sizes pages (a .marks .now) _ _ _ _ U legal))
     (λ w.
     let l = w .3 in
-    rw (w .10, w .9 .taken)
+    rw (w .11, w .10 .taken)
     (tells-second sizes pages (a .marks .now) _ _ _
     (page-second sizes pages (a .marks .now) (o .block) (l .page) _ _ (room (record { before = t; search-test = w .0 })) (w .4 .taken)
-    (l .inv .1) (o .inv .2) (omega arith) (w .9 .taken) (w .8 .taken))))
+    (l .inv .1) (o .inv .2) (omega arith) (w .10 .taken) (w .9 .taken))))
     (c .before .before .search-test .came))
 
 pub read-marks-spec : {M : Type 1} → statement M
@@ -218,7 +229,7 @@ read-marks-spec =
     search-holds
     mul-first
     shared-slice-read-letter
-    pages-known-requires
+    is-full-requires
     loop-holds
     add-mark
     shared-slice-read-mark
