@@ -1,5 +1,5 @@
 -- The listing step by step: what is shown after one step more.
-use Rattle.flash.proofs.Kit.{_≡_, refl, sym, ap, _∙_, subst, List, _++_, append-assoc, append-nil, ℕ, zero, suc, _+_, _≤_, zero-add, suc-add}
+use Rattle.flash.proofs.Kit.{_≡_, refl, sym, ap, _∙_, subst, List, _++_, append-assoc, append-nil, ℕ, zero, suc, _+_, _*_, _≤_, zero-add, suc-add}
 use Rattle.flash.proofs.Kit.{add-zero, arith, take, take-length}
 use Rattle.split.specs.Request.{Request}
 use Rattle.method.specs.declared.tally.Tally.{Tally}
@@ -17,7 +17,16 @@ use Rattle.listing.specs.Lines.{Printed, endLine}
 use Rattle.listing.proofs.PrintLaws.{over-printed}
 use Rattle.steplist.specs.declared.listed.Shown.{Shown}
 use Rattle.steplist.specs.Output.{stepLine, stepLines, moveLines}
-use Rattle.steplist.specs.inner.Listing.{Listable, Stepped, Shows}
+use Rattle.steplist.specs.inner.Listing.{Listable, Stepped, mostLine}
+use Rattle.steplist.proofs.LengthLaws.{few-steps}
+
+-- the steps before a place were taken, and their lines were written over the front of what the output was before
+pub record Shows (M : Move) (start : Running) (place at writes erases : ℕ) (before out store marks work : List ℕ) : Type 0 where
+  pub left : runningOf store marks work ≡ steps M place 0 start
+  pub lines-are : Written (stepLines M place 0 start) before out at
+  pub at-high : at ≤ mostLine * place
+  pub writes-is : writes ≡ tallyOf (operationsFrom (M .sizes) 0 place) .writes
+  pub erases-is : erases ≡ tallyOf (operationsFrom (M .sizes) 0 place) .erases
 
 -- the lines of some steps, and then of more
 lines-add : (M : Move) (a b place : ℕ) (run : Running) → stepLines M (a + b) place run ≡ stepLines M a place run ++ stepLines M b (place + a) (steps M a place run)
@@ -53,9 +62,11 @@ module _ (M : Move) (start : Running) where
   step-more place = steps-add M place 1 0 start ∙ rw (zero-add place)
 
   -- no more is counted than steps were taken
-  pub few-counted : (place at writes erases : ℕ) (before out store marks work : List ℕ) → place ≤ lastPlace (M .sizes) → Shows M start place at writes erases before out store marks work → (writes ≤ place) × (erases ≤ place)
-  few-counted place at writes erases before out store marks work h S =
+  pub few-counted : (place at writes erases : ℕ) (before out store marks work : List ℕ) → M .sizes .n ≤ 8 → M .sizes .m ≤ 8 → place ≤ lastPlace (M .sizes)
+      → Shows M start place at writes erases before out store marks work → (writes ≤ 144) × (erases ≤ 144)
+  few-counted place at writes erases before out store marks work few-blocks few-pages h S =
       let few = few-tallied (M .sizes) place 0 (omega arith) in
+      let last = few-steps (M .sizes) few-blocks few-pages in
       (omega (arith, S .writes-is), omega (arith, S .erases-is))
 
   pub shows-none : (out : List ℕ) → Shows M start 0 0 0 0 out out (start .chip .store) (start .chip .marks) (start .work)

@@ -1,6 +1,6 @@
 -- A list whose front is filled.
 use Rattle.flash.proofs.Kit.{_≡_, sym, ap, _∙_, List, _++_, append-nil, ℕ, _+_, _-_, _≤_, arith, length, take, drop, replicate, length-replicate}
-use Rattle.flash.proofs.Kit.{replicate-append-replicate, length-drop, drop-of-length-le, length-take-le, take-at, drop-at}
+use Rattle.flash.proofs.Kit.{replicate-append-replicate, length-append, length-drop, drop-of-length-le, length-take-le, take-at, drop-at}
 
 drop-replicate : (m n v : ℕ) → m ≤ n → drop m (replicate n v) ≡ replicate (n - m) v
 drop-replicate m n v h =
@@ -23,7 +23,21 @@ zeros-taken count most h = front-same count most 0 h
 pub zeros-length : (count most : ℕ) → count ≤ most → length (take count (replicate {A = ℕ} most 0)) ≡ count
 zeros-length count most h = ap length (zeros-taken count most h) ∙ length-replicate {A = ℕ} count 0
 
-pub front-filled : (m v : ℕ) (old front : List ℕ) → m ≤ length old → front ≡ replicate (length (take m old)) v → front ++ drop m old ≡ replicate m v ++ drop m old
+-- an array of zeros whose front came back from a call, to be lent once more
+abbrev pub whole : (count most : ℕ) → (front : List ℕ) → List ℕ
+whole count most front = front ++ drop count (replicate most 0)
+
+module _ (count most : ℕ) (front : List ℕ) (size : length front ≡ count) where
+  pub room-again : count ≤ length (whole count most front)
+  room-again = omega (arith, length-append front (drop count (replicate most 0)))
+
+  pub front-again : take count (whole count most front) ≡ front
+  front-again = take-at front (drop count (replicate most 0)) count size
+
+  pub length-again : count ≡ length (take count (whole count most front))
+  length-again = sym (ap length front-again ∙ size)
+
+front-filled : (m v : ℕ) (old front : List ℕ) → m ≤ length old → front ≡ replicate (length (take m old)) v → front ++ drop m old ≡ replicate m v ++ drop m old
 front-filled m v old front h e = rw (e, length-take-le m old h)
 
 pub marks-filled : (m n v s : ℕ) (old front : List ℕ) → m ≤ n → old ≡ replicate n s → front ≡ replicate (length (take m old)) v → front ++ drop m old ≡ replicate m v ++ replicate (n - m) s

@@ -16,11 +16,13 @@ use Rattle.split.proofs.RuleLaws.{rule-split, rule-length}
 use Rattle.split.specs.Request.{Request, requestOf}
 use Rattle.method.specs.Move.{move, AcceptedMove}
 use Rattle.method.specs.State.{isAtRest, atRest}
-use Rattle.method.specs.Step.{runningOf}
+use Rattle.method.specs.Step.{Running, runningOf}
 use Rattle.method.proofs.basics.AcceptedCalls.{taken-run}
 use Rattle.method.proofs.states.AtRest.{rest-stands}
+use Rattle.listing.specs.Area.{Written}
 use Rattle.listing.specs.Input.{isAllowed}
 use Rattle.listing.proofs.InputLaws.{Bounded, bounded}
+use Rattle.steplist.specs.Output.{listed, moveLines}
 use Rattle.steplist.specs.inner.Listing.{Listable}
 use Rattle.steplist.specs.inner.Given.{AcceptedInput}
 
@@ -111,23 +113,32 @@ module _ (Z : Sizes) (list sets bytes : List ℕ) where
           split = rw (A .sets-is) (rule-split n m list (A .readable .list-length) one-to-one);
         }
 
-    pub listable : (work : List ℕ) → length work ≡ P → Listable R (record { chip = atRest Z bytes; work = work }) 0
-    listable work e =
+    -- a run from rest, with a work page of zeros
+    abbrev pub start : Running
+    start = record { chip = atRest Z bytes; work = replicate P 0 }
+
+    pub listable : (run : Running) → run ≡ start → Listable R run 0
+    listable run e =
         let l = limits in
-        record {
+        let store-is = store-size Z bytes (A .readable .bytes-length) in
+        rw e (record {
           few-blocks = l .few-blocks;
           few-pages = l .few-pages;
           short-pages = l .short-pages;
-          taken = taken-run R (atRest Z bytes) work 0 (record {
+          taken = taken-run R (atRest Z bytes) (replicate P 0) 0 (record {
             accepted = accepted;
-            lent = record { store-length = store-size Z bytes (A .readable .bytes-length); marks-length = marks-size Z bytes; work-length = e };
-            stands = rest-stands (move R) accepted (atRest Z bytes) (store-size Z bytes (A .readable .bytes-length)) (marks-size Z bytes) (is-at-rest Z bytes);
+            lent = record { store-length = store-is; marks-length = marks-size Z bytes; work-length = length-replicate {A = ℕ} P 0 };
+            stands = rest-stands (move R) accepted (atRest Z bytes) store-is (marks-size Z bytes) (is-at-rest Z bytes);
           });
-        }
+        })
+
+    pub is-listed : (run : Running) (before after : List ℕ) (count : ℕ) → run ≡ start → Written (moveLines (move R) run) before after count → Written (listed Z list bytes) before after count
+    unfolding listed
+    is-listed run before after count e w = rw (e, A .sets-is) at w
 
     -- what was filled is the store at rest
     pub filled : (store marks work old : List ℕ) → store ≡ replicate (m * P) 255 ++ bytes → marks ≡ replicate m 255 ++ replicate (length old - m) s → length old ≡ marksLength Z
-        → work ≡ replicate P 0 → runningOf store marks work ≡ record { chip = atRest Z bytes; work = replicate P 0 }
+        → work ≡ replicate P 0 → runningOf store marks work ≡ start
     unfolding atRest
     filled store marks work old e f size w =
         let count : length old - m ≡ n * m = omega (arith, add-mul n 1 m) in

@@ -3,15 +3,12 @@ ghost use mathlib.Core.Path.{_≡_};
 ghost use Prim.Native.Nat.{_≤_};
 ghost use lib.ListN.{length};
 ghost use Rattle.flash.specs.Geometry.{originalCount};
-ghost use Rattle.method.specs.Move.{moveOf};
-ghost use Rattle.method.specs.State.{atRest};
-ghost use Rattle.method.specs.Step.{runningOf};
 ghost use Rattle.listing.specs.Area.{over, Written};
 ghost use Rattle.listing.specs.Input.{request, withinLimit};
 ghost use Rattle.listing.specs.ReaderAnswers.{requestIn};
 ghost use Rattle.steplist.specs.Output.{listed, answered, output, Counts};
-ghost use Rattle.steplist.specs.inner.Listing.{moved, mostOutput};
-ghost use Rattle.steplist.specs.inner.Given.{Asked, Readable, AcceptedInput, judgedList, judgedSets, Empty};
+ghost use Rattle.steplist.specs.inner.Listing.{mostOutput};
+ghost use Rattle.steplist.specs.inner.Given.{Asked, Readable, AcceptedInput, judgedList, judgedSets};
 use crate::listed::put_listing;
 use crate::rest::put_marks;
 use crate::rest::put_store;
@@ -46,33 +43,7 @@ const MOST_PAGE: usize = 64;
 
 const MOST_STORE: usize = 4608;
 
-// Fills the store and the marks as they are at rest, and lists the move.
-fn put_from_rest(
-    out: &mut [u8],
-    sizes: Sizes,
-    list: &[u16],
-    sets: &[u8],
-    originals: &[u32],
-    store: &mut [u8],
-    marks: &mut [u8],
-    work: &mut [u8],
-) -> usize
-    requires { ⌜ AcceptedInput sizes (now list) (now sets) (now originals) × Empty sizes (now store) (now marks) (now work)
-        × (mostOutput ≤ length (now out)) ⌝ }
-    ensures { λ r. ⌜ Written (listed sizes (now (list .entry)) (now (originals .entry))) (now (out .entry)) (now (out .exit)) r ⌝ }
-    ensures { λ _. ⌜ runningOf (now (store .exit)) (now (marks .exit)) (now (work .exit))
-        ≡ moved (moveOf sizes (now (list .entry)) (now (sets .entry)))
-        (record { chip = atRest sizes (now (originals .entry)); work = now (work .entry) }) ⌝ }
-{
-    let m = sizes.m;
-    let p = sizes.p;
-    let s = sizes.s;
-    put_store(originals, m * p, store);
-    put_marks(m, s as u8, marks);
-    put_listing(out, sizes, list, sets, store, marks, work)
-}
-
-// Lists the move of an accepted request.
+// Fills a store and its marks as they are at rest, and lists the move of an accepted request.
 fn put_accepted(out: &mut [u8], sizes: Sizes, list: &[u16], sets: &[u8], originals: &[u32]) -> usize
     requires { ⌜ AcceptedInput sizes (now list) (now sets) (now originals) × (mostOutput ≤ length (now out)) ⌝ }
     ensures { λ r. ⌜ Written (listed sizes (now (list .entry)) (now (originals .entry))) (now (out .entry)) (now (out .exit)) r ⌝ }
@@ -82,16 +53,19 @@ fn put_accepted(out: &mut [u8], sizes: Sizes, list: &[u16], sets: &[u8], origina
     let mut work = [0u8; MOST_PAGE];
     let size = store_length(sizes);
     let slots = slot_count(sizes);
-    let page = sizes.p;
-    put_from_rest(
+    let m = sizes.m;
+    let p = sizes.p;
+    let s = sizes.s;
+    put_store(originals, m * p, &mut store[..size]);
+    put_marks(m, s as u8, &mut marks[..slots]);
+    put_listing(
         out,
         sizes,
         list,
         sets,
-        originals,
         &mut store[..size],
         &mut marks[..slots],
-        &mut work[..page],
+        &mut work[..p],
     )
 }
 
@@ -122,10 +96,11 @@ fn put_judged(
 }
 
 // Answers a request whose numbers were read.
-fn put_move(out: &mut [u8], sizes: Sizes, numbers: &[u32]) -> usize
-    requires { ⌜ Asked sizes (now numbers) × (4160 ≤ length (now numbers)) × (mostOutput ≤ length (now out)) ⌝ }
+fn put_move(out: &mut [u8], sizes: Sizes, numbers: &[u32; MOST_NUMBERS]) -> usize
+    requires { ⌜ Asked sizes (now numbers) × (mostOutput ≤ length (now out)) ⌝ }
     ensures { λ r. ⌜ Written (answered (requestIn (now (numbers .entry)) sizes)) (now (out .entry)) (now (out .exit)) r ⌝ }
 {
+    let area: &[u32] = numbers;
     let mut list = [0u16; MOST_ORIGINALS];
     let mut sets = [0u8; MOST_ORIGINALS];
     let count = original_count(sizes);
@@ -133,19 +108,11 @@ fn put_move(out: &mut [u8], sizes: Sizes, numbers: &[u32]) -> usize
     put_judged(
         out,
         sizes,
-        &numbers[..count],
-        &numbers[count..due],
+        &area[..count],
+        &area[count..due],
         &mut list[..count],
         &mut sets[..count],
     )
-}
-
-// The same, in an area and with room of fixed sizes.
-fn put_request(out: &mut [u8; MOST_OUTPUT], sizes: Sizes, numbers: &[u32; MOST_NUMBERS]) -> usize
-    requires { ⌜ Asked sizes (now numbers) ⌝ }
-    ensures { λ r. ⌜ Written (answered (requestIn (now (numbers .entry)) sizes)) (now (out .entry)) (now (out .exit)) r ⌝ }
-{
-    put_move(out, sizes, numbers)
 }
 
 // Answers an input: the answer is written over the front of `out`, and its length is returned. The input's byte behind the limit, if it
@@ -160,6 +127,6 @@ pub fn answer(input: &mut [u8], out: &mut [u8; MOST_OUTPUT]) -> usize
     match read(&input[..end], &mut numbers) {
         InputRead::Unreadable => put_unreadable(out, 0),
         InputRead::Refused => put_refused(out, 0, 1),
-        InputRead::Move { sizes } => put_request(out, sizes, &numbers),
+        InputRead::Move { sizes } => put_move(out, sizes, &numbers),
     }
 }

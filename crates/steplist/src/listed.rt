@@ -8,7 +8,7 @@ ghost use Rattle.method.specs.Place.{lastPlace};
 ghost use Rattle.method.specs.Step.{runningOf};
 ghost use Rattle.listing.specs.Area.{Written};
 ghost use Rattle.steplist.specs.Output.{moveLines};
-ghost use Rattle.steplist.specs.inner.Listing.{Listable, moved, mostLine, mostOutput, Stepped, Shows};
+ghost use Rattle.steplist.specs.inner.Listing.{Listable, moved, mostLine, mostOutput, Stepped};
 use crate::line::put_line;
 use flash::casts::word;
 use flash::sizes::Sizes;
@@ -50,37 +50,6 @@ fn put_step(
     }
 }
 
-// Takes all steps and prints their lines.
-fn put_steps(
-    out: &mut [u8],
-    sizes: Sizes,
-    list: &[u16],
-    sets: &[u8],
-    store: &mut [u8],
-    marks: &mut [u8],
-    work: &mut [u8],
-) -> Shown
-    requires { ⌜ Listable (requestOf sizes (now list) (now sets)) (runningOf (now store) (now marks) (now work)) 0
-        × (mostOutput ≤ length (now out)) ⌝ }
-    ensures { λ r. ⌜ Shows (moveOf sizes (now (list .entry)) (now (sets .entry)))
-        (runningOf (now (store .entry)) (now (marks .entry)) (now (work .entry))) (lastPlace sizes) (r .at) (r .writes) (r .erases)
-        (now (out .entry)) (now (out .exit)) (now (store .exit)) (now (marks .exit)) (now (work .exit)) ⌝ }
-{
-    let last = last_place(sizes);
-    let mut at = 0;
-    let mut writes = 0;
-    let mut erases = 0;
-    let mut place = 0;
-    while place < last {
-        let step = put_step(out, at, sizes, list, sets, store, marks, work, place);
-        at = step.at;
-        writes += step.writes;
-        erases += step.erases;
-        place += 1;
-    }
-    Shown { at, writes, erases }
-}
-
 // Moves a store at rest step by step, and prints the lines of the steps and the end line. Answers how many bytes were printed.
 pub fn put_listing(
     out: &mut [u8],
@@ -99,6 +68,17 @@ pub fn put_listing(
         ≡ moved (moveOf sizes (now (list .entry)) (now (sets .entry)))
         (runningOf (now (store .entry)) (now (marks .entry)) (now (work .entry))) ⌝ }
 {
-    let shown = put_steps(out, sizes, list, sets, store, marks, work);
-    put_end(out, shown.at, shown.writes, shown.erases)
+    let last = last_place(sizes);
+    let mut at = 0;
+    let mut writes = 0;
+    let mut erases = 0;
+    let mut place = 0;
+    while place < last {
+        let step = put_step(out, at, sizes, list, sets, store, marks, work, place);
+        at = step.at;
+        writes += step.writes;
+        erases += step.erases;
+        place += 1;
+    }
+    put_end(out, at, writes, erases)
 }

@@ -4,10 +4,10 @@ use mathlib.Core.Bool.{true, false, cond}
 use mathlib.Core.List.{List}
 use Prim.Native.Nat.{ℕ, _*_}
 use lib.Dec.{leb}
-use lib.ListN.{length, take, drop, replicate}
+use lib.ListN.{length, take, drop}
 use Rattle.flash.specs.Lists.{all}
 use Rattle.flash.specs.declared.sizes.Sizes.{Sizes}
-use Rattle.flash.specs.Geometry.{originalCount, storeLength, marksLength}
+use Rattle.flash.specs.Geometry.{originalCount}
 use Rattle.split.specs.OneToOne.{badList}
 use Rattle.split.specs.Rule.{splitByRule}
 use Rattle.split.specs.Request.{requestOf}
@@ -38,9 +38,3 @@ judgedList entries list = cond (all (λ number. leb number 65535) entries) entri
 
 abbrev pub judgedSets : Sizes → (entries sets : List ℕ) → List ℕ
 judgedSets Z entries sets = cond (all (λ number. leb number 65535) entries) (splitAnswer (requestOf Z entries sets) .sets) sets
-
--- the parts that are lent for it: those that are filled first, and the work page
-pub record Empty (Z : Sizes) (store marks work : List ℕ) : Type 0 where
-  pub store-length : length store ≡ storeLength Z
-  pub marks-length : length marks ≡ marksLength Z
-  pub work-is : work ≡ replicate (Z .p) 0

@@ -1,7 +1,7 @@
 -- What the loop over the steps is given, and how far it has come.
 use mathlib.Core.Path.{_≡_}
 use mathlib.Core.List.{List}
-use Prim.Native.Nat.{ℕ, _*_, _≤_}
+use Prim.Native.Nat.{ℕ, _≤_}
 use lib.ListN.{length}
 use Rattle.flash.specs.Tables.{refusal}
 use Rattle.split.specs.Request.{Request}
@@ -9,10 +9,9 @@ use Rattle.method.specs.Move.{Move}
 use Rattle.method.specs.Place.{operationAt, lastPlace}
 use Rattle.method.specs.Step.{Running, runningOf, step, steps, tallyOf, operationsFrom}
 use Rattle.method.specs.Answers.{runRows}
-use Rattle.listing.specs.Area.{Written}
 use Rattle.listing.specs.Lines.{Printed}
 use Rattle.steplist.specs.declared.listed.Shown.{Shown}
-use Rattle.steplist.specs.Output.{stepLine, stepLines}
+use Rattle.steplist.specs.Output.{stepLine}
 
 -- what all steps leave
 abbrev pub moved : Move → Running → Running
@@ -40,11 +39,3 @@ pub record Stepped (M : Move) (place : ℕ) (run : Running) (before : List ℕ) 
   pub short : length (stepLine place (operationAt (M .sizes) place) work) ≤ mostLine
   pub writes-is : shown .writes ≡ tallyOf (operationsFrom (M .sizes) place 1) .writes
   pub erases-is : shown .erases ≡ tallyOf (operationsFrom (M .sizes) place 1) .erases
-
--- the steps before a place were taken, and their lines were written over the front of what the output was before
-pub record Shows (M : Move) (start : Running) (place at writes erases : ℕ) (before out store marks work : List ℕ) : Type 0 where
-  pub left : runningOf store marks work ≡ steps M place 0 start
-  pub lines-are : Written (stepLines M place 0 start) before out at
-  pub at-high : at ≤ mostLine * place
-  pub writes-is : writes ≡ tallyOf (operationsFrom (M .sizes) 0 place) .writes
-  pub erases-is : erases ≡ tallyOf (operationsFrom (M .sizes) 0 place) .erases

@@ -52,8 +52,11 @@ put-refused-requires c κs = omega (arith, refused-short 1 (omega arith))
 enum-known-sizes : tie.Need-enum-known-sizes
 enum-known-sizes c = search needs
 
-put-request-requires : tie.Need-put-request-requires
-put-request-requires c κs = asked _ (withinLimit (c .before .before .before .before .before .before .before .before .before .before .before .before .before .args .input .now)) (c .before .before .before .before .before .read .last .1 .0) (ap (askedAs (c .before .before .before .before .before .read .last .1 .0)) (sym (c .before .before .before .sizes .given .1)) ∙ told (c .before .before .before .before .before))
+put-move-requires : tie.Need-put-move-requires
+put-move-requires c κs =
+    let r = c .before .before .before .before .before in
+    let input = r .before .before .before .before .before .before .before .before .args .input .now in
+    (asked _ (withinLimit input) (r .read .last .1 .0) (ap (askedAs (r .read .last .1 .0)) (sym (c .before .before .before .sizes .given .1)) ∙ told r), omega arith)
 
 same-length : tie.Need-same-length
 same-length c = search needs
@@ -84,8 +87,8 @@ returns-3 : tie.Need-returns-3
 returns-3 c =
     let r = c .before .before .before .before .before .before in
     let a = r .before .before .before .before .before .before .before .before .args in
-    let done = answers (a .input .now) (r .read .last .1 .0) (a .out .now) _ _ (r .read .result) _ (told r) (c .before .before .before .before .sizes .given .1) (c .put-request .ensures) in
+    let done = answers (a .input .now) (r .read .last .1 .0) (a .out .now) _ _ (r .read .result) _ (told r) (c .before .before .before .before .sizes .given .1) (c .put-move .ensures) in
     (done .0, (done .1, r .before .before .before .before .before .limit .ensures .1))
 
 pub answer-spec : {M : Type 1} → statement M
-answer-spec = tie.close (tie.spec limit-requires slice-reshare-prefix-read slice-aggregate-read read-requires enum-told put-unreadable-requires enum-told-2 put-refused-requires enum-known-sizes put-request-requires same-length returns same-length-2 returns-2 same-length-3 returns-3)
+answer-spec = tie.close (tie.spec limit-requires slice-reshare-prefix-read slice-aggregate-read read-requires enum-told put-unreadable-requires enum-told-2 put-refused-requires enum-known-sizes put-move-requires same-length returns same-length-2 returns-2 same-length-3 returns-3)

@@ -6,7 +6,7 @@ use Rattle.steplist.proofs.AskedLaws.{room, readable, same-request}
 use Rattle.steplist.proofs.answer.put_move.Statement.{statement}
 use Rattle.steplist.proofs.answer.put_move.Tie as tie
 
-limits : (c : tie.Start) → (let a = c .args in Bounded (a .sizes))
+limits : (c : tie.Start) → Bounded (c .args .sizes)
 limits c = bounded (c .args .sizes) (c .pre .0 .allowed)
 
 few : (c : tie.After-original-count) → c .original-count .result ≤ 64
@@ -24,7 +24,7 @@ numbers-due-requires c κs = omega (arith, limits (c .before .before .before), f
 slice-aggregate-put-judged : tie.Need-slice-aggregate-put-judged
 slice-aggregate-put-judged c =
     let a = c .before .before .before .before .before .before .args in
-    sym (length-take-le (c .before .before .before .original-count .result) (a .numbers .now) (omega (arith, room (a .sizes) (c .before .before .before .original-count .result) (c .before .before .numbers-due .result) (a .numbers .now) (c .before .before .before .original-count .ensures) (c .before .before .numbers-due .ensures .0) (c .before .before .before .before .before .before .pre .0) (c .before .before .before .before .before .before .pre .1), c .before .before .numbers-due .ensures)))
+    sym (length-take-le (c .before .before .before .original-count .result) (a .numbers .now) (omega (arith, room (a .sizes) (c .before .before .before .original-count .result) (c .before .before .numbers-due .result) (a .numbers .now) (c .before .before .before .original-count .ensures) (c .before .before .numbers-due .ensures .0) (c .before .before .before .before .before .before .pre .0) (omega arith), c .before .before .numbers-due .ensures)))
 
 mul-put-judged : tie.Need-mul-put-judged
 mul-put-judged c = search needs
@@ -36,9 +36,7 @@ part-put-judged-start : tie.Need-part-put-judged-start
 part-put-judged-start c = search needs
 
 part-put-judged-end : tie.Need-part-put-judged-end
-part-put-judged-end c =
-    let a = c .before .before .before .before .before .before .args in
-    omega (arith, room (a .sizes) (c .before .before .before .original-count .result) (c .before .before .numbers-due .result) (a .numbers .now) (c .before .before .before .original-count .ensures) (c .before .before .numbers-due .ensures .0) (c .before .before .before .before .before .before .pre .0) (c .before .before .before .before .before .before .pre .1))
+part-put-judged-end c = search needs
 
 array-borrow-prefix-list : tie.Need-array-borrow-prefix-list
 array-borrow-prefix-list c = few (c .before .before .before .before)
@@ -56,7 +54,7 @@ put-judged-requires : tie.Need-put-judged-requires
 put-judged-requires c κs =
     let a = c .before .before .before .before .before .before .before .before .before .args in
     let size = zeros-length (c .before .before .before .before .before .before .original-count .result) 64 (few (c .before .before .before .before .before .before)) ∙ c .before .before .before .before .before .before .original-count .ensures in
-    (readable (a .sizes) (c .before .before .before .before .before .before .original-count .result) (c .before .before .before .before .before .numbers-due .result) (a .numbers .now) (c .before .before .before .before .before .before .original-count .ensures) (c .before .before .before .before .before .numbers-due .ensures .0) (c .before .before .before .before .before .before .before .before .before .pre .0) (c .before .before .before .before .before .before .before .before .before .pre .1), size, size, omega arith)
+    (readable (a .sizes) (c .before .before .before .before .before .before .original-count .result) (c .before .before .before .before .before .numbers-due .result) (a .numbers .now) (c .before .before .before .before .before .before .original-count .ensures) (c .before .before .before .before .before .numbers-due .ensures .0) (c .before .before .before .before .before .before .before .before .before .pre .0) (omega arith), size, size, omega arith)
 
 same-length : tie.Need-same-length
 same-length c = search needs
@@ -65,7 +63,7 @@ returns : tie.Need-returns
 returns c =
     let a = c .before .before .before .before .before .before .before .before .before .before .before .before .before .before .args in
     let answer = c .before .before .before .before .put-judged .ensures .0 in
-    rw (same-request (a .sizes) (c .before .before .before .before .before .before .before .before .before .before .before .original-count .result) (c .before .before .before .before .before .before .before .before .before .before .numbers-due .result) (a .numbers .now) (c .before .before .before .before .before .before .before .before .before .before .before .original-count .ensures) (c .before .before .before .before .before .before .before .before .before .before .numbers-due .ensures .0) (c .before .before .before .before .before .before .before .before .before .before .before .before .before .before .pre .0) (c .before .before .before .before .before .before .before .before .before .before .before .before .before .before .pre .1)) at answer
+    rw (same-request (a .sizes) (c .before .before .before .before .before .before .before .before .before .before .before .original-count .result) (c .before .before .before .before .before .before .before .before .before .before .numbers-due .result) (a .numbers .now) (c .before .before .before .before .before .before .before .before .before .before .before .original-count .ensures) (c .before .before .before .before .before .before .before .before .before .before .numbers-due .ensures .0) (c .before .before .before .before .before .before .before .before .before .before .before .before .before .before .pre .0) (omega arith)) at answer
 
 pub put-move-spec : {M : Type 1} → statement M
 put-move-spec = tie.close (tie.spec original-count-requires numbers-due-requires slice-aggregate-put-judged mul-put-judged sub-put-judged part-put-judged-start part-put-judged-end array-borrow-prefix-list slice-aggregate-put-judged-2 array-borrow-prefix-sets slice-aggregate-put-judged-3 put-judged-requires same-length returns)
