@@ -4,12 +4,11 @@ use Rattle.flash.proofs.Kit.{some, ℕ, _+_, _-_, _*_, _≤_, _<_, mul-le-mul, 
 use Rattle.flash.proofs.Kit.{take-append-drop, length-take-le, drop-append-le, drop-length, take-at, set-split, leb-true, ltb-true, le-leb, lt-leb}
 use Rattle.flash.specs.Lists.{all}
 use Rattle.flash.specs.declared.sizes.Sizes.{Sizes}
-use Rattle.flash.specs.Geometry.{isLetter}
+use Rattle.flash.specs.Geometry.{originalCount, isLetter}
 use Rattle.flash.proofs.Bools.{and-left, and-right}
-use Rattle.listing.specs.declared.input.SizesRead.the-variants.{Sizes as SizesAre, Unreadable as NoSizes}
 use Rattle.listing.specs.Numbers.{numbersIn, Taken, taken, numbersMet}
-use Rattle.listing.specs.Input.{unreadable, refused, isAllowed, exactly, requested, afterSizes, inputOf, metAfter, numbersPut, withinLimit}
-use Rattle.listing.specs.ReaderAnswers.{sizesAs, requestIn}
+use Rattle.listing.specs.Input.{unreadable, refused, isAllowed, sizesFrom, numbersDue, exactly, requested, afterSizes, inputOf, metAfter, numbersPut, withinLimit}
+use Rattle.listing.specs.ReaderAnswers.{requestIn}
 use Rattle.listing.specs.Area.{over}
 use Rattle.listing.proofs.TakeLaws.{met-short}
 
@@ -102,34 +101,23 @@ limit-cut input h =
     let n : length (take 4096 input ++ (0 ∷ [])) ≡ 4097 = length-append (take 4096 input) (0 ∷ []) ∙ rw size in
     rw (lt-leb (length input) 4096 h) (sym n, rw n (set-split input 4096 0 h ∙ sym (append-assoc (take 4096 input) (0 ∷ []) (drop 4097 input))))
 
-module _ (text : List ℕ) where
-  pub no-sizes : sizesAs text NoSizes ≡ taken [] 4 (numbersIn text) → unreadable ≡ inputOf text
-  unfolding inputOf afterSizes
-  no-sizes e = ap afterSizes e
+-- What `read` answers, and what it leaves in the area. There are no four sizes:
+pub no-sizes : (text area : List ℕ) → none ≡ taken [] 4 (numbersIn text) → (unreadable ≡ inputOf text) × (area ≡ over (numbersPut text) area)
+unfolding inputOf afterSizes numbersPut metAfter
+no-sizes text area e = rw (← e) (refl, refl)
 
-  pub none-put : (numbers : List ℕ) → sizesAs text NoSizes ≡ taken [] 4 (numbersIn text) → numbers ≡ over (numbersPut text) numbers
-  unfolding numbersPut metAfter
-  none-put numbers e = rw (← e)
+-- or there are:
+module _ (text four area : List ℕ) (next : ℕ) (sizes : some (record { values = four; rest = numbersIn (drop next text) }) ≡ taken [] 4 (numbersIn text)) where
+  abbrev Z : Sizes
+  Z = sizesFrom four
 
-  module _ (n m P s next : ℕ) (sizes : sizesAs text (SizesAre n m P s next) ≡ taken [] 4 (numbersIn text)) where
-    pub not-allowed : isAllowed (record { n = n; m = m; p = P; s = s }) ≡ false → refused ≡ inputOf text
-    unfolding inputOf afterSizes
-    not-allowed e = sym (ap afterSizes (sym sizes) ∙ rw e)
+  pub not-allowed : isAllowed Z ≡ false → (refused ≡ inputOf text) × (area ≡ over (numbersPut text) area)
+  unfolding inputOf afterSizes numbersPut metAfter
+  not-allowed e = rw (← sizes, e) (refl, refl)
 
-    pub none-put-refused : (numbers : List ℕ) → isAllowed (record { n = n; m = m; p = P; s = s }) ≡ false → numbers ≡ over (numbersPut text) numbers
-    unfolding numbersPut metAfter
-    none-put-refused numbers e = rw (← sizes, e)
-
-    pub all-put : (count : ℕ) (numbers exit : List ℕ) → isAllowed (record { n = n; m = m; p = P; s = s }) ≡ true → count ≡ n * m
-        → exit ≡ over (numbersMet (count + count * P) (numbersIn (drop next text))) numbers → exit ≡ over (numbersPut text) numbers
-    unfolding numbersPut metAfter
-    all-put count numbers exit e k f = f ∙ rw (k, ← sizes, e)
-
-    pub as-asked : (count : ℕ) (right : Bool) (exit : List ℕ) → isAllowed (record { n = n; m = m; p = P; s = s }) ≡ true → count ≡ n * m → cond right (some (take (count + count * P) exit)) none ≡ exactly count (taken [] (count + count * P) (numbersIn (drop next text))) → cond right (requestIn exit (record { n = n; m = m; p = P; s = s })) unreadable ≡ inputOf text
-    unfolding inputOf afterSizes requested
-    as-asked count true exit e k f =
-        let g = rw k at f in
-        sym (ap afterSizes (sym sizes) ∙ rw (e, ← g))
-    as-asked count false exit e k f =
-        let g = rw k at f in
-        sym (ap afterSizes (sym sizes) ∙ rw (e, ← g))
+  pub as-asked : (right : Bool) (exit : List ℕ) → isAllowed Z ≡ true
+      → cond right (some (take (numbersDue Z) exit)) none ≡ exactly (originalCount Z) (taken [] (numbersDue Z) (numbersIn (drop next text)))
+      → exit ≡ over (numbersMet (numbersDue Z) (numbersIn (drop next text))) area → (cond right (requestIn exit Z) unreadable ≡ inputOf text) × (exit ≡ over (numbersPut text) area)
+  unfolding inputOf afterSizes requested numbersPut metAfter
+  as-asked true exit e f g = rw (← sizes, e, ← f) (refl, g)
+  as-asked false exit e f g = rw (← sizes, e, ← f) (refl, g)

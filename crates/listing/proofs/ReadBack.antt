@@ -5,7 +5,7 @@ use Rattle.flash.specs.Lists.{all}
 use Rattle.flash.proofs.Bools.{bool-cases}
 use Rattle.flash.proofs.Searches.{all-append}
 use Rattle.listing.specs.Numbers.{isDigit, spelled}
-use Rattle.listing.specs.Digits.{digitOf, digits, placesUpTo, places, decimal}
+use Rattle.listing.specs.Digits.{digitOf, digits, placesUpTo, decimal}
 use Rattle.listing.specs.Examples.{PrintedIsRead}
 use Rattle.listing.proofs.DigitLaws.{length-digits, one-place}
 use Rattle.listing.proofs.WordLaws.{spelled-more, number-of}
@@ -48,7 +48,7 @@ places-hold (suc most) n h =
     rw (e, pow-suc 10 (placesUpTo most (n / 10))) (omega arith))
     (bool-cases (ltb n 10))
 
-places-few : (k most n : ℕ) → n < 10 ^ suc k → placesUpTo most n ≤ suc k
+pub places-few : (k most n : ℕ) → n < 10 ^ suc k → placesUpTo most n ≤ suc k
 unfolding placesUpTo
 places-few k zero n h = omega arith
 places-few zero (suc most) n h = omega (arith, one-place (suc most) n h)
@@ -67,7 +67,7 @@ places-some (suc most) n =
     ⊎-elim (λ (e : ltb n 10 ≡ true). rw e (omega arith)) (λ (e : ltb n 10 ≡ false). rw e (omega arith)) (bool-cases (ltb n 10))
 
 pub printed-is-read : PrintedIsRead
-unfolding PrintedIsRead decimal places
+unfolding PrintedIsRead decimal
 printed-is-read n h =
     let k : ℕ = placesUpTo n n in
     let size = length-digits 10 k n in

@@ -76,12 +76,3 @@ unfolding next
 none-left [] = refl
 none-left (none ∷ words) = ne-eqb (suc (length words)) 0 (λ e. omega arith)
 none-left (some value ∷ words) = ne-eqb (suc (length words)) 0 (λ e. omega arith)
-
--- a list of four numbers
-pub four-are : (area : List ℕ) → length area ≡ 4 → getD area 0 0 ∷ getD area 1 0 ∷ getD area 2 0 ∷ getD area 3 0 ∷ [] ≡ area
-four-are [] e = absurd (omega arith)
-four-are (n ∷ []) e = absurd (omega arith)
-four-are (n ∷ m ∷ []) e = absurd (omega arith)
-four-are (n ∷ m ∷ P ∷ []) e = absurd (omega arith)
-four-are (n ∷ m ∷ P ∷ s ∷ []) e = refl
-four-are (n ∷ m ∷ P ∷ s ∷ x ∷ area) e = absurd (omega arith)

@@ -18,13 +18,9 @@ unfoldable pub placesUpTo : (most n : ℕ) → ℕ
 placesUpTo zero n = 1
 placesUpTo (suc most) n = cond (ltb n 10) 1 (suc (placesUpTo most (n / 10)))
 
--- n has no more than n + 1 digits
-unfoldable pub places : (n : ℕ) → ℕ
-places n = placesUpTo n n
-
--- without leading zeros
+-- without leading zeros: n has no more than n + 1 digits
 unfoldable pub decimal : (n : ℕ) → List ℕ
-decimal n = digits 10 (places n) n
+decimal n = digits 10 (placesUpTo n n) n
 
 unfoldable pub hex : (byte : ℕ) → List ℕ
 hex byte = digits 16 2 byte

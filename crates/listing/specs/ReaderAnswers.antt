@@ -1,5 +1,5 @@
 -- What the code's answers say, in the words of the definitions.
-use mathlib.Core.List.{List, [], _∷_}
+use mathlib.Core.List.{List}
 use mathlib.Core.Option.{Option, none, some}
 use Prim.Native.Nat.{ℕ}
 use lib.ListN.{take, drop}
@@ -9,8 +9,6 @@ use Rattle.listing.specs.declared.number.Word.{Word}
 use Rattle.listing.specs.declared.number.Word.the-variants.{Number, Malformed, End}
 use Rattle.listing.specs.declared.input.Filled.{Filled}
 use Rattle.listing.specs.declared.input.Filled.the-variants.{Full, Short}
-use Rattle.listing.specs.declared.input.SizesRead.{SizesRead}
-use Rattle.listing.specs.declared.input.SizesRead.the-variants.{Sizes as SizesAre, Unreadable as NoSizes}
 use Rattle.listing.specs.declared.input.InputRead.{InputRead}
 use Rattle.listing.specs.declared.input.InputRead.the-variants.{Unreadable, Refused, Move}
 use Rattle.listing.specs.Numbers.{numbersIn, Next, number, malformed, end, Taken}
@@ -25,10 +23,6 @@ toldAs text End = end
 abbrev pub filledAs : (text area : List ℕ) → Filled → Option Taken
 filledAs text area (Full next) = some (record { values = area; rest = numbersIn (drop next text) })
 filledAs text area Short = none
-
-abbrev pub sizesAs : (text : List ℕ) → SizesRead → Option Taken
-sizesAs text (SizesAre n m P s next) = some (record { values = n ∷ m ∷ P ∷ s ∷ []; rest = numbersIn (drop next text) })
-sizesAs text NoSizes = none
 
 -- the request whose numbers stand at the front of an area
 abbrev pub requestIn : (area : List ℕ) → Sizes → Input

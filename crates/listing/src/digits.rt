@@ -4,7 +4,7 @@ ghost use mathlib.Core.List.{_++_};
 ghost use Prim.Native.Nat.{_+_, _≤_, _<_};
 ghost use lib.ListN.{length};
 ghost use Rattle.flash.specs.Lists.{concatMap};
-ghost use Rattle.listing.specs.Digits.{digitOf, digits, places, decimal, hex};
+ghost use Rattle.listing.specs.Digits.{digitOf, digits, placesUpTo, decimal, hex};
 ghost use Rattle.listing.specs.Lines.{Printed};
 use flash::casts::wide;
 
@@ -17,7 +17,7 @@ fn digit_of(d: usize) -> u8
 
 // How many decimal digits n has.
 fn count_places(n: usize) -> usize
-    ensures { λ r. ⌜ r ≡ places n ⌝ }
+    ensures { λ r. ⌜ r ≡ placesUpTo n n ⌝ }
 {
     let mut count = 1;
     let mut rest = n;

@@ -8,7 +8,7 @@ ghost use lib.Dec.{eqb};
 ghost use lib.ListN.{length, take, drop};
 ghost use Rattle.listing.specs.Area.{over};
 ghost use Rattle.listing.specs.Numbers.{numbersIn, taken, numbersMet};
-ghost use Rattle.listing.specs.ReaderAnswers.{filledAs, sizesAs, askedAs};
+ghost use Rattle.listing.specs.ReaderAnswers.{filledAs, askedAs};
 ghost use Rattle.listing.specs.Input.{isAllowed, exactly, inputOf, numbersPut, withinLimit};
 use crate::fit::fit;
 use crate::number::Word;
@@ -48,34 +48,6 @@ fn fill(text: &[u8], from: usize, area: &mut [u32]) -> Filled
         i += 1;
     }
     Filled::Full { next: at }
-}
-
-// The four sizes, and the position behind them.
-pub enum SizesRead {
-    Sizes {
-        n: usize,
-        m: usize,
-        p: usize,
-        s: usize,
-        next: usize,
-    },
-    Unreadable,
-}
-
-fn read_sizes(text: &[u8]) -> SizesRead
-    ensures { λ r. ⌜ sizesAs (now (text .entry)) r ≡ taken [] 4 (numbersIn (now (text .entry))) ⌝ }
-{
-    let mut four = [0u32; 4];
-    let Filled::Full { next } = fill(text, 0, &mut four) else {
-        return SizesRead::Unreadable;
-    };
-    SizesRead::Sizes {
-        n: word(four[0]),
-        m: word(four[1]),
-        p: word(four[2]),
-        s: word(four[3]),
-        next,
-    }
 }
 
 // The program's own limits.
@@ -137,19 +109,25 @@ pub enum InputRead {
     Move { sizes: Sizes },
 }
 
-// Reads the input.
+// Reads the input: the four sizes, and the numbers due behind them.
 pub fn read(text: &[u8], numbers: &mut [u32; MOST_NUMBERS]) -> InputRead
     ensures { λ r. ⌜ askedAs (now (numbers .exit)) r ≡ inputOf (now (text .entry)) ⌝ }
     ensures { λ _. ⌜ now (numbers .exit) ≡ over (numbersPut (now (text .entry))) (now (numbers .entry)) ⌝ }
 {
-    let SizesRead::Sizes { n, m, p, s, next } = read_sizes(text) else {
+    let mut four = [0u32; 4];
+    let Filled::Full { next } = fill(text, 0, &mut four) else {
         return InputRead::Unreadable;
     };
-    let sizes = Sizes { n, m, p, s };
+    let sizes = Sizes {
+        n: word(four[0]),
+        m: word(four[1]),
+        p: word(four[2]),
+        s: word(four[3]),
+    };
     if !is_allowed(sizes) {
         return InputRead::Refused;
     }
-    if read_numbers(text, next, original_count(sizes), p, numbers) {
+    if read_numbers(text, next, original_count(sizes), sizes.p, numbers) {
         InputRead::Move { sizes }
     } else {
         InputRead::Unreadable

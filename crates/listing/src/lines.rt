@@ -1,32 +1,11 @@
 // The lines that the program writes, each printed into a lent part from a position on. Each function answers the next position.
-ghost use mathlib.Core.List.{_∷_, _++_};
 ghost use Prim.Native.Nat.{_+_, _≤_};
 ghost use lib.ListN.{length};
-ghost use Rattle.flash.specs.Lists.{concatMap};
-ghost use Rattle.listing.specs.Digits.{decimal, hex};
 ghost use Rattle.listing.specs.Lines.{Printed, writeLine, eraseLine, endLine, refusedLine, unreadableLine};
 use crate::digits::put_decimal;
 use crate::digits::put_field;
 use crate::digits::put_hex;
 use crate::digits::put_text;
-
-// The step, its letter and the block.
-fn put_start(out: &mut [u8], at: usize, step: usize, letter: &[u8], block: usize) -> usize
-    requires { ⌜ at + length (decimal step ++ (now letter ++ decimal block)) ≤ length (now out) ⌝ }
-    ensures { λ r. ⌜ Printed (decimal step ++ (now (letter .entry) ++ decimal block)) (now (out .entry)) at (now (out .exit)) r ⌝ }
-{
-    let next = put_decimal(out, at, step);
-    put_field(out, next, letter, block)
-}
-
-// A space and the bytes.
-fn put_bytes(out: &mut [u8], at: usize, bytes: &[u8]) -> usize
-    requires { ⌜ at + length (32 ∷ concatMap hex (now bytes)) ≤ length (now out) ⌝ }
-    ensures { λ r. ⌜ Printed (32 ∷ concatMap hex (now (bytes .entry))) (now (out .entry)) at (now (out .exit)) r ⌝ }
-{
-    let next = put_text(out, at, b" ");
-    put_hex(out, next, bytes)
-}
 
 pub fn put_write(
     out: &mut [u8],
@@ -39,9 +18,11 @@ pub fn put_write(
     requires { ⌜ at + length (writeLine step block page (now bytes)) ≤ length (now out) ⌝ }
     ensures { λ r. ⌜ Printed (writeLine step block page (now (bytes .entry))) (now (out .entry)) at (now (out .exit)) r ⌝ }
 {
-    let past_block = put_start(out, at, step, b" W ", block);
+    let past_step = put_decimal(out, at, step);
+    let past_block = put_field(out, past_step, b" W ", block);
     let past_page = put_field(out, past_block, b" ", page);
-    let past_bytes = put_bytes(out, past_page, bytes);
+    let past_space = put_text(out, past_page, b" ");
+    let past_bytes = put_hex(out, past_space, bytes);
     put_text(out, past_bytes, b"\n")
 }
 
@@ -49,7 +30,8 @@ pub fn put_erase(out: &mut [u8], at: usize, step: usize, block: usize) -> usize
     requires { ⌜ at + length (eraseLine step block) ≤ length (now out) ⌝ }
     ensures { λ r. ⌜ Printed (eraseLine step block) (now (out .entry)) at (now (out .exit)) r ⌝ }
 {
-    let past_block = put_start(out, at, step, b" E ", block);
+    let past_step = put_decimal(out, at, step);
+    let past_block = put_field(out, past_step, b" E ", block);
     put_text(out, past_block, b"\n")
 }
 

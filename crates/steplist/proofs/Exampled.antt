@@ -3,12 +3,12 @@ use Rattle.flash.proofs.Kit.{refl}
 use Rattle.method.proofs.basics.Open.{all-open}
 use Rattle.listing.specs.Numbers.{isSeparator, isDigit, ended, wordsFrom, spelled, numberOf, numbersIn, taken}
 use Rattle.listing.specs.Input.{isAllowed, exactly, requested, afterSizes, inputOf, withinLimit}
-use Rattle.listing.specs.Digits.{digitOf, digits, placesUpTo, places, decimal, hex}
+use Rattle.listing.specs.Digits.{digitOf, digits, placesUpTo, decimal, hex}
 use Rattle.listing.specs.Lines.{writeLine, eraseLine, endLine, refusedLine, unreadableLine}
 use Rattle.listing.specs.Examples.{parted}
 use Rattle.steplist.specs.Output.{stepLine, stepLines, moveLines, listed, answered, output}
 use Rattle.steplist.specs.Example.{Examples}
 
 pub examples : Examples
-unfolding all-open isSeparator isDigit ended wordsFrom spelled numberOf numbersIn taken isAllowed exactly requested afterSizes inputOf withinLimit digitOf digits placesUpTo places decimal hex writeLine eraseLine endLine refusedLine unreadableLine parted stepLine stepLines moveLines listed answered output
+unfolding all-open isSeparator isDigit ended wordsFrom spelled numberOf numbersIn taken isAllowed exactly requested afterSizes inputOf withinLimit digitOf digits placesUpTo decimal hex writeLine eraseLine endLine refusedLine unreadableLine parted stepLine stepLines moveLines listed answered output
 examples = record { example = refl; missing-byte = refl; no-byte = refl; bad-list = refl; large-entry = refl; nine-blocks = refl }

@@ -1,33 +1,18 @@
 -- How long a line can be.
-use Rattle.flash.proofs.Kit.{_≡_, ⊎-elim, true, false, List, ℕ, zero, suc, _+_, _*_, _/_, _≤_, _<_, arith, mul-le-mul, ltb, length, length-append}
+use Rattle.flash.proofs.Kit.{_≡_, ⊎-elim, List, ℕ, _+_, _*_, _≤_, _<_, arith, mul-le-mul, length, length-append}
 use Rattle.flash.specs.declared.sizes.Sizes.{Sizes}
-use Rattle.flash.proofs.Bools.{bool-cases}
 use Rattle.method.specs.Place.{Pass, forward, backward, operationAt, passAt, filling, filled, lastPlace}
 use Rattle.method.proofs.places.StepsAtPlaces.{nextBlock, page-cases, filling-in, operation-writes, operation-erases}
-use Rattle.listing.specs.Digits.{placesUpTo, places, decimal}
+use Rattle.listing.specs.Digits.{placesUpTo, decimal}
 use Rattle.listing.specs.Lines.{writeLine, eraseLine, endLine, refusedLine}
-use Rattle.listing.proofs.DigitLaws.{length-digits, one-place}
+use Rattle.listing.proofs.DigitLaws.{length-digits}
+use Rattle.listing.proofs.ReadBack.{places-few}
 use Rattle.listing.proofs.PrintLaws.{length-hex}
 use Rattle.steplist.specs.Output.{stepLine}
 
--- ten times the numbers have one digit more
-more-places : (bound k : ℕ) → ((most n : ℕ) → n < bound → placesUpTo most n ≤ k) → (most n : ℕ) → n < bound * 10 → placesUpTo most n ≤ suc k
-unfolding placesUpTo
-more-places bound k few zero n h = omega arith
-more-places bound k few (suc most) n h =
-    ⊎-elim
-    (λ (e : ltb n 10 ≡ true). rw e (omega arith))
-    (λ (e : ltb n 10 ≡ false).
-    let tenth : n / 10 < bound = omega arith in
-    rw e (omega (arith, few most (n / 10) tenth)))
-    (bool-cases (ltb n 10))
-
-three-places : (most n : ℕ) → n < 1000 → placesUpTo most n ≤ 3
-three-places = more-places 100 2 (more-places 10 1 (λ most n h. omega (arith, one-place most n h)))
-
-pub decimal-short : (n : ℕ) → n < 1000 → length (decimal n) ≤ 3
-unfolding decimal places
-decimal-short n h = omega (arith, length-digits 10 (placesUpTo n n) n, three-places n n h)
+decimal-short : (n : ℕ) → n < 1000 → length (decimal n) ≤ 3
+unfolding decimal
+decimal-short n h = omega (arith, length-digits 10 (placesUpTo n n) n, places-few 2 n n h)
 
 write-short : (step block page : ℕ) (bytes : List ℕ) → step < 1000 → block < 1000 → page < 1000 → length bytes ≤ 64 → length (writeLine step block page bytes) ≤ 149
 unfolding writeLine

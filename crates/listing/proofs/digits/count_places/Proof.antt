@@ -1,18 +1,17 @@
 -- `count_places` counts the decimal digits of a number, for the space that a printed number takes.
-use Rattle.listing.specs.Digits.{places, placesUpTo}
+use Rattle.listing.specs.Digits.{placesUpTo}
 use Rattle.listing.proofs.DigitLaws.{one-place, more-places}
 use Rattle.flash.proofs.Kit.{_≡_, _+_, _-_, _≤_, arith, needs}
 use Rattle.listing.proofs.digits.count_places.Statement.{statement}
 use Rattle.listing.proofs.digits.count_places.Tie as tie
 
 abbrev Inv-loop : tie.InvT-loop
-Inv-loop n count₀ rest₀ count rest = (count + rest ≤ n + 1) × (1 ≤ count) × (places n + 1 ≡ count + placesUpTo (n + 1 - count) rest)
+Inv-loop n count₀ rest₀ count rest = (count + rest ≤ n + 1) × (1 ≤ count) × (placesUpTo n n + 1 ≡ count + placesUpTo (n + 1 - count) rest)
 
 abbrev μ-loop : tie.MeasureT-loop
 μ-loop n count₀ rest₀ count rest = rest
 
 loop-holds : tie.Need-loop-holds Inv-loop μ-loop
-unfolding places
 loop-holds c =
     let n = c .args .n in
     let e : n + 1 - 1 ≡ n = omega arith in

@@ -1,36 +1,52 @@
 -- `put_write` prints the line of a write with the page's bytes.
-use Rattle.flash.proofs.Kit.{arith, length-append, needs}
+use Rattle.flash.proofs.Kit.{_∷_, _+_, _≤_, arith, length, length-append, needs}
+use Rattle.flash.specs.Lists.{concatMap}
+use Rattle.listing.specs.Digits.{hex}
 use Rattle.listing.specs.Lines.{writeLine}
 use Rattle.listing.proofs.PrintLaws.{printed-then}
 use Rattle.listing.proofs.lines.put_write.Statement.{statement}
 use Rattle.listing.proofs.lines.put_write.Tie as tie
 
-slice-aggregate-put-start : tie.Need-slice-aggregate-put-start
-slice-aggregate-put-start c = search needs
-
-put-start-requires : tie.Need-put-start-requires
+put-decimal-requires : tie.Need-put-decimal-requires
 unfolding writeLine
-put-start-requires c κs =
-    let room = simp length-append at (c .before .before .before .before .pre) in
-    simp length-append (omega arith)
+put-decimal-requires c κs = omega (arith, simp length-append at (c .before .before .before .pre))
+
+-- the bytes and the end of the line fit behind the page's number
+room : (c : tie.After-put-field2) → (let a = c .before .before .before .before .before .before .before .before .before .before .before .before .before .before .args in c .put-field2 .result + length (32 ∷ concatMap hex (a .bytes .now)) + 1 ≤ length (a .out .now))
+unfolding writeLine
+room c =
+    let block = simp length-append at (c .before .before .before .before .before .put-field .ensures .next-is) in
+    let page = simp length-append at (c .put-field2 .ensures .next-is) in
+    omega (arith, simp length-append at (c .before .before .before .before .before .before .before .before .before .before .before .before .before .before .pre))
 
 slice-aggregate-put-field : tie.Need-slice-aggregate-put-field
 slice-aggregate-put-field c = search needs
 
 put-field-requires : tie.Need-put-field-requires
 unfolding writeLine
-put-field-requires c κs = omega (arith, simp length-append at (c .before .before .before .before .before .before .before .before .before .pre), simp length-append at (c .before .before .before .before .put-start .ensures .next-is))
+put-field-requires c κs = simp length-append (omega (arith, simp length-append at (c .before .before .before .before .before .before .before .before .pre)))
 
-put-bytes-requires : tie.Need-put-bytes-requires
+slice-aggregate-put-field-2 : tie.Need-slice-aggregate-put-field-2
+slice-aggregate-put-field-2 c = search needs
+
+put-field-requires-2 : tie.Need-put-field-requires-2
 unfolding writeLine
-put-bytes-requires c κs = omega (arith, simp length-append at (c .before .before .before .before .before .before .before .before .before .before .before .before .before .pre), simp length-append at (c .before .before .before .before .before .before .before .before .put-start .ensures .next-is))
+put-field-requires-2 c κs = simp length-append (omega (arith, simp length-append at (c .before .before .before .before .before .before .before .before .before .before .before .before .before .pre), simp length-append at (c .before .before .before .before .put-field .ensures .next-is)))
 
 slice-aggregate-put-text : tie.Need-slice-aggregate-put-text
 slice-aggregate-put-text c = search needs
 
 put-text-requires : tie.Need-put-text-requires
-unfolding writeLine
-put-text-requires c κs = omega (arith, simp length-append at (c .before .before .before .before .before .before .before .before .before .before .before .before .before .before .before .before .before .before .pre), simp length-append at (c .before .before .before .before .before .before .before .before .before .before .before .before .before .put-start .ensures .next-is), c .before .before .before .before .before .before .before .before .before .before .before .before .before)
+put-text-requires c κs = omega (arith, room (c .before .before .before .before))
+
+put-hex-requires : tie.Need-put-hex-requires
+put-hex-requires c κs = omega (arith, room (c .before .before .before .before .before .before .before .before))
+
+slice-aggregate-put-text-2 : tie.Need-slice-aggregate-put-text-2
+slice-aggregate-put-text-2 c = search needs
+
+put-text-requires-2 : tie.Need-put-text-requires-2
+put-text-requires-2 c κs = omega (arith, room (c .before .before .before .before .before .before .before .before .before .before .before .before .before), c .before .before .before .before .put-hex .ensures .next-is)
 
 same-length : tie.Need-same-length
 same-length c = search needs
@@ -38,9 +54,11 @@ same-length c = search needs
 returns : tie.Need-returns
 unfolding writeLine
 returns c =
-    printed-then
-    (printed-then (printed-then (c .before .before .before .before .before .before .before .before .before .before .before .before .before .before .before .before .put-start .ensures) (c .before .before .before .before .before .before .before .before .before .before .before .put-field .ensures)) (c .before .before .before .before .before .before .before .put-bytes .ensures))
-    (c .before .before .put-text .ensures)
+    let step = c .before .before .before .before .before .before .before .before .before .before .before .before .before .before .before .before .before .before .before .before .before .before .before .before .before .before .put-decimal .ensures in
+    let block = c .before .before .before .before .before .before .before .before .before .before .before .before .before .before .before .before .before .before .before .before .before .put-field .ensures in
+    let page = c .before .before .before .before .before .before .before .before .before .before .before .before .before .before .before .before .put-field2 .ensures in
+    let bytes = printed-then (c .before .before .before .before .before .before .before .before .before .before .before .put-text .ensures) (c .before .before .before .before .before .before .before .put-hex .ensures) in
+    printed-then (printed-then (printed-then (printed-then step block) page) bytes) (c .before .before .put-text2 .ensures)
 
 pub put-write-spec : {M : Type 1} → statement M
-put-write-spec = tie.close (tie.spec slice-aggregate-put-start put-start-requires slice-aggregate-put-field put-field-requires put-bytes-requires slice-aggregate-put-text put-text-requires same-length returns)
+put-write-spec = tie.close (tie.spec put-decimal-requires slice-aggregate-put-field put-field-requires slice-aggregate-put-field-2 put-field-requires-2 slice-aggregate-put-text put-text-requires put-hex-requires slice-aggregate-put-text-2 put-text-requires-2 same-length returns)
