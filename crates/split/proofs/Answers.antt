@@ -1,5 +1,5 @@
 -- The refusals of the split call, row by row.
-use Rattle.flash.proofs.Kit.{_≡_, _≢_, true, false, not, _||_, List, ℕ, _≤_, arith, eqb, length, eqb-true, eq-eqb, ne-eqb, not-true, not-false}
+use Rattle.flash.proofs.Kit.{_≡_, _≢_, Bool, true, false, not, _||_, List, ℕ, _≤_, arith, eqb, length, eqb-true, eq-eqb, ne-eqb, not-true, not-false}
 use Rattle.flash.specs.Tables.{firstFit, numberOr0, refusal}
 use Rattle.flash.specs.declared.sizes.Sizes.{Sizes}
 use Rattle.flash.specs.Geometry.{inRange, originalCount}
@@ -7,7 +7,7 @@ use Rattle.split.specs.OneToOne.{badList, isOneToOne}
 use Rattle.split.specs.Rule.{splitByRule}
 use Rattle.split.specs.Request.{Request}
 use Rattle.split.specs.Answer.{splitRows, splitAnswer}
-use Rattle.split.specs.inner.Accepted.{Accepted}
+use Rattle.split.specs.inner.Rows.{Accepted}
 use Rattle.flash.proofs.Bools.{or-false-left, or-false-right}
 use Rattle.flash.proofs.Bounds.{in-range, product-le}
 use Rattle.flash.proofs.Tables.{refusal-zero}
@@ -24,37 +24,24 @@ module _ (R : Request) where
   gives-1 e = rw e
 
   module _ (in-range : inRange Z ≡ true) where
-    pub gives-2-list : length list ≢ originalCount Z → refusal (splitRows R) ≡ 2
+    abbrev wrongLengths : Bool
+    wrongLengths = not (eqb (length list) (originalCount Z)) || not (eqb (length sets) (originalCount Z))
+
+    pub gives-2 : wrongLengths ≡ true → refusal (splitRows R) ≡ 2
     unfolding refusal firstFit numberOr0 splitRows
-    gives-2-list ne = rw (in-range, ne-eqb (length list) (originalCount Z) ne)
+    gives-2 e = rw (in-range, e)
 
-    module _ (listed : length list ≡ originalCount Z) where
-      pub gives-2-sets : length sets ≢ originalCount Z → refusal (splitRows R) ≡ 2
-      unfolding refusal firstFit numberOr0 splitRows
-      gives-2-sets ne = rw (in-range, eq-eqb (length list) (originalCount Z) listed, ne-eqb (length sets) (originalCount Z) ne)
+    pub gives-2-list : length list ≢ originalCount Z → refusal (splitRows R) ≡ 2
+    gives-2-list ne = gives-2 (rw (ne-eqb (length list) (originalCount Z) ne))
 
-      module _ (sized : length sets ≡ originalCount Z) where
-        pub gives-3 : isOneToOne (originalCount Z) list ≡ false → refusal (splitRows R) ≡ 3
-        unfolding refusal firstFit numberOr0 splitRows isOneToOne
-        gives-3 e =
-            rw (
-              in-range,
-              eq-eqb (length list) (originalCount Z) listed,
-              eq-eqb (length sets) (originalCount Z) sized,
-              not-false
-                  (badList (originalCount Z) list) e,
-            )
+    module _ (lengths : wrongLengths ≡ false) where
+      pub gives-3 : isOneToOne (originalCount Z) list ≡ false → refusal (splitRows R) ≡ 3
+      unfolding refusal firstFit numberOr0 splitRows isOneToOne
+      gives-3 e = rw (in-range, lengths, not-false (badList (originalCount Z) list) e)
 
-        pub gives-0 : isOneToOne (originalCount Z) list ≡ true → refusal (splitRows R) ≡ 0
-        unfolding refusal firstFit numberOr0 splitRows isOneToOne
-        gives-0 e =
-            rw (
-              in-range,
-              eq-eqb (length list) (originalCount Z) listed,
-              eq-eqb (length sets) (originalCount Z) sized,
-              not-true
-                  (badList (originalCount Z) list) e,
-            )
+      pub gives-0 : isOneToOne (originalCount Z) list ≡ true → refusal (splitRows R) ≡ 0
+      unfolding refusal firstFit numberOr0 splitRows isOneToOne
+      gives-0 e = rw (in-range, lengths, not-true (badList (originalCount Z) list) e)
 
 pub accept : (originals : ℕ) (list : List ℕ) → badList originals list ≡ false → isOneToOne originals list ≡ true
 unfolding isOneToOne

@@ -4,7 +4,7 @@ use Rattle.flash.proofs.Kit.{_≤_, _<_, max, pow-suc, div-eq-of-lt, div-self, 
 use Rattle.flash.proofs.Kit.{replicate, getD-set-same, getD-set-other, trailingZeros, under, pow-pos, pow-lt, pow-add, shr-shr, shl-shr, bitOr}
 use Rattle.flash.proofs.Kit.{or-step, or-shr, bitXor, xor-step, xor-shr, differ, eqb-true, eqb-false}
 use Rattle.flash.specs.Lists.{range, first}
-use Rattle.split.specs.inner.Mask.{bitAt, lowestZero, WithBit, Flipped, FlippedAt, FlippedBoth}
+use Rattle.split.specs.inner.Mask.{bitAt, lowestZero, WithBit, FlippedAt, FlippedBoth}
 use Rattle.flash.proofs.Bools.{bool-cases}
 use Rattle.flash.proofs.Ranges.{First, Missed, first-cases}
 use Rattle.flash.proofs.Comparisons.{lt-cases, eq-cases}
@@ -103,13 +103,21 @@ with-power mask bit = record {
   same = λ other ne. rw (or-bit mask (2 ^ bit) other, power-other bit other ne) (omega arith);
 }
 
-pub flipped-power : (mask bit : ℕ) → Flipped mask bit (bitXor mask (2 ^ bit))
-flipped-power mask bit = record {
-  changed = xor-bit mask (2 ^ bit) bit ∙ ap (differ (bitAt mask bit)) (power-self bit) ∙ differ-one (bitAt mask bit) (bit-lt mask bit);
-  same = λ other ne. xor-bit mask (2 ^ bit) other ∙ ap (differ (bitAt mask other)) (power-other bit other ne)
-      ∙ differ-zero (bitAt mask other);
+-- a mask of a table with one bit changed
+pub flipped-at : (masks : List ℕ) (at bit : ℕ) → at < length masks → FlippedAt masks at bit (set masks at (bitXor (getD masks at 0) (2 ^ bit)))
+flipped-at masks at bit h = record {
+  changed = rw (getD-set-same masks at (bitXor mask (2 ^ bit)) 0 h)
+      (xor-bit mask (2 ^ bit) bit ∙ ap (differ (bitAt mask bit)) (power-self bit) ∙ differ-one (bitAt mask bit) (bit-lt mask bit));
+  same = λ block other ne. ⊎-elim
+      (λ (q : block ≡ at). rw (q, getD-set-same masks at (bitXor mask (2 ^ bit)) 0 h)
+      (kept other (⊎-elim (λ (p : block ≢ at). absurd (p q)) (λ (p : other ≢ bit). p) ne)))
+      (λ (q : block ≢ at). rw (getD-set-other masks at block (bitXor mask (2 ^ bit)) 0 q))
+      (eq-cases block at);
 }
   where
+    mask : ℕ
+    mask = getD masks at 0
+
     differ-one : (x : ℕ) → x < 2 → differ x 1 ≡ 1 - x
     differ-one zero h = refl
     differ-one (suc zero) h = refl
@@ -119,16 +127,8 @@ flipped-power mask bit = record {
     differ-zero zero = refl
     differ-zero (suc x) = refl
 
-pub flipped-at : (masks : List ℕ) (at bit r : ℕ) → at < length masks → Flipped (getD masks at 0) bit r
-    → FlippedAt masks at bit (set masks at r)
-flipped-at masks at bit r h f = record {
-  changed = rw (getD-set-same masks at r 0 h) (f .changed);
-  same = λ block other ne. ⊎-elim
-      (λ (q : block ≡ at). rw (q, getD-set-same masks at r 0 h)
-      (f .same other (⊎-elim (λ (p : block ≢ at). absurd (p q)) (λ (p : other ≢ bit). p) ne)))
-      (λ (q : block ≢ at). rw (getD-set-other masks at block r 0 q))
-      (eq-cases block at);
-}
+    kept : (other : ℕ) → other ≢ bit → bitAt (bitXor mask (2 ^ bit)) other ≡ bitAt mask other
+    kept other ne = xor-bit mask (2 ^ bit) other ∙ ap (differ (bitAt mask other)) (power-other bit other ne) ∙ differ-zero (bitAt mask other)
 
 pub flipped-both : (masks middle after : List ℕ) (at a b : ℕ) → a ≢ b → FlippedAt masks at a middle → FlippedAt middle at b after
     → FlippedBoth masks at a b after

@@ -8,8 +8,7 @@ use Rattle.flash.specs.Geometry.{blockOf}
 use Rattle.split.specs.OneToOne.{isOneToOne}
 use Rattle.split.specs.Split.{sourceBlock, destBlock, setOf, isSplit}
 use Rattle.split.specs.inner.Mask.{bitAt, lowestZero, WithBit}
-use Rattle.split.specs.inner.Accepted.{Accepted}
-use Rattle.split.specs.inner.Rows.{ByDestination, hasEach, rowsHaveEach}
+use Rattle.split.specs.inner.Rows.{Accepted, ByDestination, hasEach, rowsHaveEach}
 use Rattle.flash.proofs.Bools.{fails, bool-eq, and-left, and-right, and-both}
 use Rattle.flash.proofs.Searches.{all-at, all-of, any-of, any-find}
 use Rattle.flash.proofs.Ranges.{all-in, all-is}

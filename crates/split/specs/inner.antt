@@ -1,6 +1,5 @@
 -- How the code works inside: masks, windows, tables and what the loops keep. Nothing here has to be believed.
 pub mod Window
-pub mod Accepted
 pub mod Rows
 pub mod Mask
 pub mod Cells

@@ -17,10 +17,7 @@ fn refusal(sizes: Sizes, list: &[u16], sets: &[u8]) -> u32
         return 1;
     }
     let originals = original_count(sizes);
-    if list.len() != originals {
-        return 2;
-    }
-    if sets.len() != originals {
+    if (list.len() != originals) | (sets.len() != originals) {
         return 2;
     }
     if !check(list, originals) {

@@ -1,6 +1,5 @@
 // A list of destinations and its split into sets. The definitions are in specs/.
 pub mod call;
-mod ends;
 pub mod list;
 mod mask;
 mod path;

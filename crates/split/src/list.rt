@@ -25,10 +25,8 @@ fn differ_within(list: &[u16], originals: usize, window: usize) -> bool
         if originals <= number {
             return false;
         }
-        if number / WINDOW == window {
-            if flip(&mut seen, number / BITS % MASKS, number % BITS) {
-                return false;
-            }
+        if number / WINDOW == window && flip(&mut seen, number / BITS % MASKS, number % BITS) {
+            return false;
         }
         k += 1;
     }

@@ -4,7 +4,7 @@ ghost use mathlib.Core.Logic.{_≢_};
 ghost use Prim.Native.Nat.{_<_};
 ghost use lib.Dec.{eqb};
 ghost use lib.ListN.{length, getD};
-ghost use Rattle.split.specs.inner.Mask.{bitAt, lowestZero, WithBit, Flipped, FlippedAt, FlippedBoth};
+ghost use Rattle.split.specs.inner.Mask.{bitAt, lowestZero, WithBit, FlippedAt, FlippedBoth};
 
 // The lowest set that is not in the mask; 64 if all are.
 pub fn lowest_free(mask: u64) -> usize
@@ -27,13 +27,6 @@ pub fn with_bit(mask: u64, bit: usize) -> u64
     mask | (1u64 << bit)
 }
 
-pub fn flipped(mask: u64, bit: usize) -> u64
-    requires { ⌜ bit < 64 ⌝ }
-    ensures { λ r. ⌜ Flipped mask bit r ⌝ }
-{
-    mask ^ (1u64 << bit)
-}
-
 // Flips a bit of one mask of a table; whether it was set.
 pub fn flip(masks: &mut [u64], at: usize, bit: usize) -> bool
     requires { ⌜ (at < length (now masks)) × (bit < 64) ⌝ }
@@ -41,7 +34,7 @@ pub fn flip(masks: &mut [u64], at: usize, bit: usize) -> bool
     ensures flips { λ r. ⌜ FlippedAt (now (masks .entry)) at bit (now (masks .exit)) ⌝ }
 {
     let mask = masks[at];
-    masks[at] = flipped(mask, bit);
+    masks[at] = mask ^ (1u64 << bit);
     has(mask, bit)
 }
 

@@ -1,9 +1,11 @@
 // The exchange of two sets along an alternating path, whose pages have one and the other in turn.
 ghost use mathlib.Core.Path.{_≡_};
-ghost use Prim.Native.Nat.{_+_};
+ghost use Prim.Native.Nat.{_+_, _≤_, _<_};
+ghost use lib.ListN.{length};
 ghost use Rattle.flash.specs.inner.Reciprocal.{reciprocalOf};
+ghost use Rattle.split.specs.Rule.{destination};
+ghost use Rattle.split.specs.inner.Cells.{rowOf};
 ghost use Rattle.split.specs.inner.Work.{Working, Blocked};
-use crate::ends::target;
 use crate::mask::flip_both;
 use crate::mask::has;
 use crate::tables::BLOCKS;
@@ -11,6 +13,16 @@ use crate::tables::CELLS;
 use crate::tables::noted;
 use crate::tables::page;
 use crate::tables::swap;
+use flash::casts::entry;
+use flash::quotient::quotient;
+
+// The block that original k goes to, counted from 0.
+pub fn target(list: &[u16], m: usize, reciprocal: usize, k: usize) -> usize
+    requires { ⌜ (1 ≤ m) × (m ≤ 64) × (reciprocal ≡ reciprocalOf m) × (k < length (now list)) ⌝ }
+    ensures { λ r. ⌜ r ≡ rowOf m (now (list .entry)) destination k ⌝ }
+{
+    quotient(entry(list[k]), m, reciprocal)
+}
 
 // Page k has set a, and so has another page at its destination. Along the path that starts there, a becomes b at a destination and b
 // becomes a at the next source: each block of the path exchanges its two notes. Only at the last block does a bit change, since each

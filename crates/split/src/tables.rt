@@ -1,7 +1,6 @@
 // The tables of one end: a mask for each block, whose bits are the sets of its pages there, and a byte for each block and set, the note
 // of the page that has them. At a source block the note is the page's number within the block, at a destination block its source block.
 ghost use mathlib.Core.Path.{_≡_};
-ghost use mathlib.Core.List.{List};
 ghost use Prim.Native.Nat.{_+_, _*_, _≤_, _<_};
 ghost use lib.ListN.{getD, set as put};
 ghost use Rattle.split.specs.inner.Cells.{swappedAt};

@@ -19,11 +19,6 @@ pub record WithBit (mask bit r : ℕ) : Type 0 where
   pub now : bitAt r bit ≡ 1
   pub same : (other : ℕ) → other ≢ bit → bitAt r other ≡ bitAt mask other
 
--- r is the mask with one bit changed
-pub record Flipped (mask bit r : ℕ) : Type 0 where
-  pub changed : bitAt r bit ≡ 1 - bitAt mask bit
-  pub same : (other : ℕ) → other ≢ bit → bitAt r other ≡ bitAt mask other
-
 -- `after` is a table of masks, one a block, with one bit of one mask changed
 pub record FlippedAt (masks : List ℕ) (block bit : ℕ) (after : List ℕ) : Type 0 where
   pub changed : bitAt (getD after block 0) bit ≡ 1 - bitAt (getD masks block 0) bit

@@ -2,11 +2,19 @@
 use mathlib.Core.Path.{_≡_}
 use mathlib.Core.Bool.{Bool, true, _&&_}
 use mathlib.Core.List.{List}
-use Prim.Native.Nat.{ℕ, _<_, min}
+use Prim.Native.Nat.{ℕ, _*_, _≤_, _<_, min}
 use lib.Dec.{eqb, ltb}
 use lib.ListN.{length, getD}
 use Rattle.flash.specs.Lists.{range, all, any, part}
 use Rattle.split.specs.OneToOne.{isOneToOne}
+
+-- what the calls know of a list that is not refused as 1, 2 or 3
+pub record Accepted (n m : ℕ) (list : List ℕ) : Type 0 where
+  pub some-pages : 1 ≤ m
+  pub n-fits : n ≤ 64
+  pub m-fits : m ≤ 64
+  pub listed : length list ≡ n * m
+  pub one-to-one : isOneToOne (n * m) list ≡ true
 
 -- The table has at each destination the set byte of the original that goes there, or 64 for a byte that is no set.
 abbrev pub ByDestination : (list sets table : List ℕ) → Type 0

@@ -6,7 +6,7 @@ use Prim.Native.Nat.{ℕ, _+_, _*_, _≤_, _<_}
 use lib.ListN.{length, take, set as put}
 use Rattle.split.specs.Split.{setOf}
 use Rattle.split.specs.Rule.{source, destination, blockAt, isUsed, lowestUnused, setsGiven}
-use Rattle.split.specs.inner.Accepted.{Accepted}
+use Rattle.split.specs.inner.Rows.{Accepted}
 use Rattle.split.specs.inner.Cells.{Exact}
 
 -- The first k pages have the sets of the rule, and the tables of both ends tell them.

@@ -38,5 +38,4 @@ returns c =
     omega arith
 
 pub count-places-spec : {M : Type 1} → statement M
-count-places-spec =
-    tie.close (tie.spec Inv-loop μ-loop loop-holds add-count loop-less loop-again returns)
+count-places-spec = tie.close (tie.spec Inv-loop μ-loop loop-holds add-count loop-less loop-again returns)

@@ -25,5 +25,4 @@ unfolding digitOf
 returns-2 c = simp (le-ltb _ _ (c .if1 .left))
 
 pub digit-of-spec : {M : Type 1} → statement M
-digit-of-spec =
-    tie.close (tie.spec cast-result add-result cast-result-2 add-result-2 returns returns-2)
+digit-of-spec = tie.close (tie.spec cast-result add-result cast-result-2 add-result-2 returns returns-2)

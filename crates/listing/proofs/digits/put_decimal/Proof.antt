@@ -25,5 +25,4 @@ returns c =
     rw (d .before .count-places .ensures) at (d .put-digits .ensures)
 
 pub put-decimal-spec : {M : Type 1} → statement M
-put-decimal-spec =
-    tie.close (tie.spec count-places-requires put-digits-requires same-length returns)
+put-decimal-spec = tie.close (tie.spec count-places-requires put-digits-requires same-length returns)

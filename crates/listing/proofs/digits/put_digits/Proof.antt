@@ -68,19 +68,5 @@ returns c =
     printed (digits (a .base) (a .count) (a .n)) (a .out .now) (l .out) (a .at) (a .at + a .count) (omega (arith, length-digits (a .base) (a .count) (a .n))) (omega arith) text (l .inv .5)
 
 pub put-digits-spec : {M : Type 1} → statement M
-put-digits-spec =
-    tie.close
-    (tie.spec
-    Inv-loop
-    μ-loop
-    add-end
-    loop-holds
-    sub-i
-    rem-digit-of
-    digit-of-requires
-    slice-write-out
-    div-rest
-    loop-less
-    loop-again
-    same-length
-    returns)
+put-digits-spec = tie.close (tie.spec Inv-loop μ-loop add-end loop-holds sub-i rem-digit-of digit-of-requires slice-write-out div-rest loop-less loop-again
+    same-length returns)

@@ -57,17 +57,5 @@ returns c =
     rw (e, take-length) at (l .inv .0)
 
 pub put-hex-spec : {M : Type 1} → statement M
-put-hex-spec =
-    tie.close
-    (tie.spec
-    Inv-loop
-    μ-loop
-    loop-holds
-    shared-slice-read-wide
-    wide-requires
-    put-digits-requires
-    add-i
-    loop-less
-    loop-again
-    same-length
-    returns)
+put-hex-spec = tie.close (tie.spec Inv-loop μ-loop loop-holds shared-slice-read-wide wide-requires put-digits-requires add-i loop-less loop-again
+    same-length returns)

@@ -56,18 +56,5 @@ returns c =
     printed (a .text .now) (a .out .now) (l .out) (a .at) (a .at + l .i) (omega arith) (omega arith) (l .inv .0 ∙ rw (e, take-length)) (l .inv .1)
 
 pub put-text-spec : {M : Type 1} → statement M
-put-text-spec =
-    tie.close
-    (tie.spec
-    Inv-loop
-    μ-loop
-    loop-holds
-    shared-slice-read-out
-    add-out
-    slice-write-out
-    add-i
-    loop-less
-    loop-again
-    add-result
-    same-length
-    returns)
+put-text-spec = tie.close (tie.spec Inv-loop μ-loop loop-holds shared-slice-read-out add-out slice-write-out add-i loop-less loop-again add-result
+    same-length returns)

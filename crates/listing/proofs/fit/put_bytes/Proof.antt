@@ -53,4 +53,5 @@ returns c =
     l .inv .0 ∙ rw (end, drop-length, append-nil, ← c .before .before .pre .0, take-length)
 
 pub put-bytes-spec : {M : Type 1} → statement M
-put-bytes-spec = tie.close (tie.spec Inv-loop μ-loop loop-holds mul-bytes shared-slice-read-bytes cast-bytes slice-write-bytes add-i loop-less loop-again same-length returns)
+put-bytes-spec = tie.close (tie.spec Inv-loop μ-loop loop-holds mul-bytes shared-slice-read-bytes cast-bytes slice-write-bytes add-i loop-less loop-again
+    same-length returns)

@@ -56,4 +56,5 @@ returns c =
     l .inv .0 ∙ rw (end, drop-length, append-nil, ← c .before .before .pre .0, take-length)
 
 pub put-entries-spec : {M : Type 1} → statement M
-put-entries-spec = tie.close (tie.spec Inv-loop μ-loop loop-holds mul-list shared-slice-read-list cast-list mul-list-2 slice-write-list add-i loop-less loop-again same-length returns)
+put-entries-spec = tie.close (tie.spec Inv-loop μ-loop loop-holds mul-list shared-slice-read-list cast-list mul-list-2 slice-write-list add-i loop-less
+    loop-again same-length returns)

@@ -82,4 +82,5 @@ returns-2 c =
     (sym (l .inv .0 ∙ rw (z, end, take-length)), met-all _ (l .area) (a .area .now) (l .i) (omega arith) (rw z at (l .inv .3)) (l .inv .4))
 
 pub fill-spec : {M : Type 1} → statement M
-fill-spec = tie.close (tie.spec Inv-loop μ-loop loop-holds number-requires enum-known-value same-length returns mul-area slice-write-area add-i loop-less loop-again same-length-2 returns-2)
+fill-spec = tie.close (tie.spec Inv-loop μ-loop loop-holds number-requires enum-known-value same-length returns mul-area slice-write-area add-i loop-less
+    loop-again same-length-2 returns-2)

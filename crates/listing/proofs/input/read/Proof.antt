@@ -98,4 +98,6 @@ returns-4 : tie.Need-returns-4
 returns-4 c = told (c .before) false (c .if2 .left)
 
 pub read-spec : {M : Type 1} → statement M
-read-spec = tie.close (tie.spec slice-aggregate-fill fill-requires enum-known-next enum-told returns array-read-word word-requires array-read-word-2 word-requires-2 array-read-word-3 word-requires-3 array-read-word-4 word-requires-4 is-allowed-requires returns-2 original-count-requires read-numbers-requires returns-3 returns-4)
+read-spec = tie.close (tie.spec slice-aggregate-fill fill-requires enum-known-next enum-told returns array-read-word word-requires array-read-word-2
+    word-requires-2 array-read-word-3 word-requires-3 array-read-word-4 word-requires-4 is-allowed-requires returns-2 original-count-requires
+    read-numbers-requires returns-3 returns-4)

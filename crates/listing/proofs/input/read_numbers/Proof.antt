@@ -95,4 +95,5 @@ returns-3 c =
     )
 
 pub read-numbers-spec : {M : Type 1} → statement M
-read-numbers-spec = tie.close (tie.spec numbers-due-requires slice-relend-prefix-fill slice-aggregate-fill fill-requires enum-known-next enum-told same-length returns mul-fit sub-fit part-fit-start part-fit-end fit-requires is-end-requires same-length-2 returns-2 same-length-3 returns-3)
+read-numbers-spec = tie.close (tie.spec numbers-due-requires slice-relend-prefix-fill slice-aggregate-fill fill-requires enum-known-next enum-told
+    same-length returns mul-fit sub-fit part-fit-start part-fit-end fit-requires is-end-requires same-length-2 returns-2 same-length-3 returns-3)

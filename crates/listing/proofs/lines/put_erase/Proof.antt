@@ -31,4 +31,5 @@ unfolding eraseLine
 returns c = printed-then (printed-then (c .before .before .before .before .before .before .before .before .before .before .before .before .put-decimal .ensures) (c .before .before .before .before .before .before .before .put-field .ensures)) (c .before .before .put-text .ensures)
 
 pub put-erase-spec : {M : Type 1} → statement M
-put-erase-spec = tie.close (tie.spec put-decimal-requires slice-aggregate-put-field put-field-requires slice-aggregate-put-text put-text-requires same-length returns)
+put-erase-spec = tie.close (tie.spec put-decimal-requires slice-aggregate-put-field put-field-requires slice-aggregate-put-text put-text-requires
+    same-length returns)

@@ -61,4 +61,5 @@ returns c =
     printed-then (printed-then (printed-then (printed-then step block) page) bytes) (c .before .before .put-text2 .ensures)
 
 pub put-write-spec : {M : Type 1} → statement M
-put-write-spec = tie.close (tie.spec put-decimal-requires slice-aggregate-put-field put-field-requires slice-aggregate-put-field-2 put-field-requires-2 slice-aggregate-put-text put-text-requires put-hex-requires slice-aggregate-put-text-2 put-text-requires-2 same-length returns)
+put-write-spec = tie.close (tie.spec put-decimal-requires slice-aggregate-put-field put-field-requires slice-aggregate-put-field-2 put-field-requires-2
+    slice-aggregate-put-text put-text-requires put-hex-requires slice-aggregate-put-text-2 put-text-requires-2 same-length returns)

@@ -94,4 +94,5 @@ returns-5 c =
     sym (at-end (a .text .now) (a .start) (l .at) (l .value) (l .inv .0) (omega (arith, c .if4 .left, l .inv .0 .begins)) (l .inv .1) (c .before .loop-test .left))
 
 pub spelled-spec : {M : Type 1} → statement M
-spelled-spec = tie.close (tie.spec Inv-loop μ-loop loop-holds shared-slice-read-byte is-separator-requires returns sub-if2 returns-2 is-digit-requires returns-3 mul-value digit-value-requires add-value add-at loop-less loop-again returns-4 returns-5)
+spelled-spec = tie.close (tie.spec Inv-loop μ-loop loop-holds shared-slice-read-byte is-separator-requires returns sub-if2 returns-2 is-digit-requires
+    returns-3 mul-value digit-value-requires add-value add-at loop-less loop-again returns-4 returns-5)

@@ -2,7 +2,7 @@
 use Rattle.flash.proofs.Kit.{_≡_, sym, _∙_, true, not-true, not-false, needs}
 use Rattle.flash.specs.Geometry.{inRange}
 use Rattle.flash.proofs.Bounds.{in-range}
-use Rattle.split.proofs.Answers.{gives-1, gives-2-list, gives-2-sets, gives-3, gives-0}
+use Rattle.split.proofs.Answers.{gives-1, gives-2, gives-3, gives-0}
 use Rattle.split.proofs.call.refusal.Statement.{statement}
 use Rattle.split.proofs.call.refusal.Tie as tie
 
@@ -13,47 +13,29 @@ returns : tie.Need-returns
 returns c = sym (gives-1 _ (sym (c .before .in-range .ensures) ∙ not-true (c .before .in-range .result) (c .if1 .taken)))
 
 -- the sizes are in range
-ranged : (c : tie.Else1)
-    → (let a = c .before .before .before .before .args in inRange (a .sizes) ≡ true)
+ranged : (c : tie.Else1) → inRange (c .before .before .before .before .args .sizes) ≡ true
 ranged c = sym (c .before .in-range .ensures) ∙ not-false (c .before .in-range .result) (c .if1 .left)
 
 original-count-requires : tie.Need-original-count-requires
 original-count-requires c κs = let B = in-range _ (ranged c) in (B .n-high, B .m-high)
 
 returns-2 : tie.Need-returns-2
-returns-2 c = sym (gives-2-list _ (ranged (c .before .before)) (rw (← c .before .original-count .ensures) (c .if2 .taken)))
-
-returns-3 : tie.Need-returns-3
-returns-3 c =
-    let o = c .before .before .original-count .ensures in
-    sym (gives-2-sets _ (ranged (c .before .before .before)) (c .before .if2 .left ∙ o) (rw (← o) (c .if3 .taken)))
+returns-2 c = sym (gives-2 _ (ranged (c .before .before)) (rw (← c .before .original-count .ensures) (c .if2 .taken)))
 
 check-requires : tie.Need-check-requires
 check-requires c κs = search needs
 
+returns-3 : tie.Need-returns-3
+returns-3 c =
+    let e = c .before .before in
+    let o = e .before .original-count .ensures in
+    sym (gives-3 _ (ranged (e .before .before)) (rw (← o) (e .if2 .left)) (rw (← o) (sym (c .before .check .ensures) ∙ not-true (c .before .check .result) (c .if3 .taken))))
+
 returns-4 : tie.Need-returns-4
 returns-4 c =
     let e = c .before .before in
-    let o = e .before .before .original-count .ensures in
-    sym (gives-3 _ (ranged (e .before .before .before)) (e .before .if2 .left ∙ o) (e .if3 .left ∙ o)
-    (rw (← o) (sym (c .before .check .ensures) ∙ not-true (c .before .check .result) (c .if4 .taken))))
-
-returns-5 : tie.Need-returns-5
-returns-5 c =
-    let e = c .before .before in
-    let o = e .before .before .original-count .ensures in
-    sym (gives-0 _ (ranged (e .before .before .before)) (e .before .if2 .left ∙ o) (e .if3 .left ∙ o)
-    (rw (← o) (sym (c .before .check .ensures) ∙ not-false (c .before .check .result) (c .if4 .left))))
+    let o = e .before .original-count .ensures in
+    sym (gives-0 _ (ranged (e .before .before)) (rw (← o) (e .if2 .left)) (rw (← o) (sym (c .before .check .ensures) ∙ not-false (c .before .check .result) (c .if3 .left))))
 
 pub refusal-spec : {M : Type 1} → statement M
-refusal-spec =
-    tie.close
-    (tie.spec
-    in-range-requires
-    returns
-    original-count-requires
-    returns-2
-    returns-3
-    check-requires
-    returns-4
-    returns-5)
+refusal-spec = tie.close (tie.spec in-range-requires returns original-count-requires returns-2 check-requires returns-3 returns-4)

@@ -26,5 +26,4 @@ returns-2 : tie.Need-returns-2
 returns-2 c = answered-refused _ _ (c .before .refusal .ensures) (c .if1 .left)
 
 pub split-spec : {M : Type 1} → statement M
-split-spec =
-    tie.close (tie.spec refusal-requires fill-requires same-length returns same-length-2 returns-2)
+split-spec = tie.close (tie.spec refusal-requires fill-requires same-length returns same-length-2 returns-2)

@@ -58,18 +58,4 @@ returns-3 c =
     (λ k h small. omega (arith, c .before .before .shared-slice-known .given k)))
 
 pub check-spec : {M : Type 1} → statement M
-check-spec =
-    tie.close
-    (tie.spec
-    Inv-loop
-    μ-loop
-    loop-holds
-    differ-within-requires
-    returns
-    add-if2
-    mul-if2
-    returns-2
-    add-window
-    loop-less
-    loop-again
-    returns-3)
+check-spec = tie.close (tie.spec Inv-loop μ-loop loop-holds differ-within-requires returns add-if2 mul-if2 returns-2 add-window loop-less loop-again returns-3)

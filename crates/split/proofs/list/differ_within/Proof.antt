@@ -73,20 +73,5 @@ returns-3 : tie.Need-returns-3 Inv-loop μ-loop
 returns-3 c = sym (all-good _ _ _ _ _ (c .before .loop .inv .0) (c .loop-test .left))
 
 pub differ-within-spec : {M : Type 1} → statement M
-differ-within-spec =
-    tie.close
-    (tie.spec
-    Inv-loop
-    μ-loop
-    loop-holds
-    mul-entry
-    shared-slice-read-entry
-    entry-requires
-    returns
-    slice-aggregate-flip
-    flip-requires
-    returns-2
-    add-k
-    loop-less
-    loop-again
-    returns-3)
+differ-within-spec = tie.close (tie.spec Inv-loop μ-loop loop-holds mul-entry shared-slice-read-entry entry-requires returns slice-aggregate-flip
+    flip-requires returns-2 add-k loop-less loop-again returns-3)

@@ -1,5 +1,5 @@
 -- `flip` changes one bit of one mask of a table, and tells what it was.
-use Rattle.flash.proofs.Kit.{needs, arith}
+use Rattle.flash.proofs.Kit.{needs, arith, one-mul, shl-exact}
 use Rattle.split.proofs.MaskLaws.{flipped-at}
 use Rattle.split.proofs.mask.flip.Statement.{statement}
 use Rattle.split.proofs.mask.flip.Tie as tie
@@ -10,8 +10,8 @@ mul-mask c = search needs
 slice-read-mask : tie.Need-slice-read-mask
 slice-read-mask c = search needs
 
-flipped-requires : tie.Need-flipped-requires
-flipped-requires c κs = search needs
+shl-masks : tie.Need-shl-masks
+shl-masks c = search needs
 
 mul-masks : tie.Need-mul-masks
 mul-masks c = search needs
@@ -27,21 +27,8 @@ same-length c = search needs
 
 returns : tie.Need-returns
 returns c =
-    let a = c .before .before .before .before .args in (
-      c .has .ensures,
-      flipped-at (a .masks .now) (a .at) (a .bit) (c .before .flipped .result) (omega arith)
-          (c .before .flipped .ensures),
-    )
+    let a = c .before .before .before .args in
+    (c .has .ensures, rw (shl-exact {a = 1} 1 (a .bit) 64 (omega arith) (omega arith), one-mul) (flipped-at (a .masks .now) (a .at) (a .bit) (omega arith)))
 
 pub flip-spec : {M : Type 1} → statement M
-flip-spec =
-    tie.close
-    (tie.spec
-    mul-mask
-    slice-read-mask
-    flipped-requires
-    mul-masks
-    slice-write-masks
-    has-requires
-    same-length
-    returns)
+flip-spec = tie.close (tie.spec mul-mask slice-read-mask shl-masks mul-masks slice-write-masks has-requires same-length returns)

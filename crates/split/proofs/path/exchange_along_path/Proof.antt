@@ -206,35 +206,7 @@ returns-2 c =
     rw (w .swap3 .ensures) (path-done _ _ _ _ _ _ _ _ _ _ (start l .pre .0) _ _ _ _ _ (l .loop .inv .1) (W .numbers-sized) (length-swapped (l .loop .homes) _ _ _ ∙ W .homes-sized) (o .0) (W .its-set) (W .at-sources) (o .1))
 
 pub exchange-along-path-spec : {M : Type 1} → statement M
-exchange-along-path-spec =
-    tie.close
-    (tie.spec
-    Inv-loop
-    μ-loop
-    target-requires
-    loop-holds
-    mul-has
-    element-copy-out-has
-    has-requires
-    noted-requires
-    page-requires
-    page-requires-2
-    mul-has-2
-    element-copy-out-has-2
-    has-requires-2
-    swap-requires
-    swap-requires-2
-    cast-sets
-    slice-write-sets
-    flip-both-requires
-    same-length
-    returns
-    cast-sets-2
-    slice-write-sets-2
-    target-requires-2
-    loop-less
-    loop-again
-    swap-requires-3
-    flip-both-requires-2
-    same-length-2
-    returns-2)
+exchange-along-path-spec = tie.close (tie.spec Inv-loop μ-loop target-requires loop-holds mul-has element-copy-out-has has-requires noted-requires
+    page-requires page-requires-2 mul-has-2 element-copy-out-has-2 has-requires-2 swap-requires swap-requires-2 cast-sets slice-write-sets
+    flip-both-requires same-length returns cast-sets-2 slice-write-sets-2 target-requires-2 loop-less loop-again swap-requires-3 flip-both-requires-2
+    same-length-2 returns-2)

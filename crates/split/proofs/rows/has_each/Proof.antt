@@ -44,18 +44,5 @@ returns-2 : tie.Need-returns-2 Inv-loop μ-loop
 returns-2 c = rw (c .lowest-free .ensures) (all-met _ _ _ (c .before .before .loop .inv) (omega arith) (omega arith))
 
 pub has-each-spec : {M : Type 1} → statement M
-has-each-spec =
-    tie.close
-    (tie.spec
-    Inv-loop
-    μ-loop
-    loop-holds
-    shared-slice-read-wide
-    wide-requires
-    returns
-    with-bit-requires
-    add-j
-    loop-less
-    loop-again
-    lowest-free-requires
-    returns-2)
+has-each-spec = tie.close (tie.spec Inv-loop μ-loop loop-holds shared-slice-read-wide wide-requires returns with-bit-requires add-j loop-less loop-again
+    lowest-free-requires returns-2)

@@ -17,5 +17,4 @@ returns c list A T =
     ∙ rows-split (s .args .n) (s .args .m) list (s .args .sets .now) (s .args .table .now) A (s .pre .1) (s .pre .2) T
 
 pub is-split-by-rows-spec : {M : Type 1} → statement M
-is-split-by-rows-spec =
-    tie.close (tie.spec rows-have-each-requires rows-have-each-requires-2 returns)
+is-split-by-rows-spec = tie.close (tie.spec rows-have-each-requires rows-have-each-requires-2 returns)

@@ -64,20 +64,5 @@ unfolding rowsHaveEach
 returns-2 c = sym (all-is _ 0 _ (λ row a h. c .before .loop .inv .1 row (omega arith)))
 
 pub rows-have-each-spec : {M : Type 1} → statement M
-rows-have-each-spec =
-    tie.close
-    (tie.spec
-    Inv-loop
-    μ-loop
-    loop-holds
-    mul-start
-    add-end
-    sub-has-each
-    part-has-each-start
-    part-has-each-end
-    has-each-requires
-    returns
-    add-i
-    loop-less
-    loop-again
-    returns-2)
+rows-have-each-spec = tie.close (tie.spec Inv-loop μ-loop loop-holds mul-start add-end sub-has-each part-has-each-start part-has-each-end has-each-requires
+    returns add-i loop-less loop-again returns-2)

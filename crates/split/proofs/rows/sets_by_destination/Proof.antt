@@ -92,29 +92,6 @@ returns-3 c =
     record { tells = sym (all-entered _ _ _ _ E (omega arith)); by-destination = λ e k h. E .there k (omega arith) }
 
 pub sets-by-destination-spec : {M : Type 1} → statement M
-sets-by-destination-spec =
-    tie.close
-    (tie.spec
-    Inv-loop
-    μ-loop
-    sub-fill
-    part-fill-start
-    part-fill-end
-    fill-requires
-    loop-holds
-    mul-entry
-    shared-slice-read-entry
-    entry-requires
-    same-length
-    returns
-    slice-read-if2
-    same-length-2
-    returns-2
-    shared-slice-read-capped
-    capped-requires
-    slice-write-table
-    add-k
-    loop-less
-    loop-again
-    same-length-3
-    returns-3)
+sets-by-destination-spec = tie.close (tie.spec Inv-loop μ-loop sub-fill part-fill-start part-fill-end fill-requires loop-holds mul-entry
+    shared-slice-read-entry entry-requires same-length returns slice-read-if2 same-length-2 returns-2 shared-slice-read-capped capped-requires
+    slice-write-table add-k loop-less loop-again same-length-3 returns-3)

@@ -42,16 +42,4 @@ returns c =
     work-done (start .args .n) (start .args .m) _ _ _ _ _ _ _ (start .pre .0 .listed) (c .before .loop .inv .0) (c .loop-test .left)
 
 pub fill-spec : {M : Type 1} → statement M
-fill-spec =
-    tie.close
-    (tie.spec
-    Inv-loop
-    μ-loop
-    reciprocal-requires
-    loop-holds
-    give-requires
-    add-k
-    loop-less
-    loop-again
-    same-length
-    returns)
+fill-spec = tie.close (tie.spec Inv-loop μ-loop reciprocal-requires loop-holds give-requires add-k loop-less loop-again same-length returns)

@@ -125,27 +125,6 @@ returns-2 c =
     _ _ _ _ (h .before .note .ensures .0) (h .before .note .ensures .1) (sym (h .has .ensures) ∙ e .if1 .left) (c .note3 .ensures .0) (c .note3 .ensures .1)
 
 pub give-spec : {M : Type 1} → statement M
-give-spec =
-    tie.close
-    (tie.spec
-    quotient-requires
-    target-requires
-    mul-lowest-free
-    element-copy-out-lowest-free
-    lowest-free-requires
-    mul-used
-    element-copy-out-used
-    cast-sets
-    slice-write-sets
-    mul-note
-    sub-note
-    note-requires
-    has-requires
-    lowest-free-requires-2
-    note-requires-2
-    exchange-along-path-requires
-    note-requires-3
-    same-length
-    returns
-    same-length-2
-    returns-2)
+give-spec = tie.close (tie.spec quotient-requires target-requires mul-lowest-free element-copy-out-lowest-free lowest-free-requires mul-used
+    element-copy-out-used cast-sets slice-write-sets mul-note sub-note note-requires has-requires lowest-free-requires-2 note-requires-2
+    exchange-along-path-requires note-requires-3 same-length returns same-length-2 returns-2)

@@ -91,4 +91,5 @@ returns-3 c =
     (done .0, (done .1, r .before .before .before .before .before .limit .ensures .1))
 
 pub answer-spec : {M : Type 1} → statement M
-answer-spec = tie.close (tie.spec limit-requires slice-reshare-prefix-read slice-aggregate-read read-requires enum-told put-unreadable-requires enum-told-2 put-refused-requires enum-known-sizes put-move-requires same-length returns same-length-2 returns-2 same-length-3 returns-3)
+answer-spec = tie.close (tie.spec limit-requires slice-reshare-prefix-read slice-aggregate-read read-requires enum-told put-unreadable-requires enum-told-2
+    put-refused-requires enum-known-sizes put-move-requires same-length returns same-length-2 returns-2 same-length-3 returns-3)

@@ -118,4 +118,7 @@ returns c =
     is-listed (a .sizes) (a .list .now) (a .sets .now) (a .originals .now) (start .pre .0) _ _ _ _ (at-rest (c .before .before .before .before .before .before .before .before .before .before .before)) (c .before .before .before .before .before .put-listing .ensures .0)
 
 pub put-accepted-spec : {M : Type 1} → statement M
-put-accepted-spec = tie.close (tie.spec store-length-requires slot-count-requires mul-put-store array-borrow-prefix-store slice-aggregate-put-store put-store-requires cast-put-marks array-borrow-prefix-marks slice-aggregate-put-marks put-marks-requires array-borrow-prefix-store-2 slice-aggregate-put-listing array-borrow-prefix-marks-2 slice-aggregate-put-listing-2 array-borrow-prefix-work slice-aggregate-put-listing-3 put-listing-requires same-length returns)
+put-accepted-spec = tie.close (tie.spec store-length-requires slot-count-requires mul-put-store array-borrow-prefix-store slice-aggregate-put-store
+    put-store-requires cast-put-marks array-borrow-prefix-marks slice-aggregate-put-marks put-marks-requires array-borrow-prefix-store-2
+    slice-aggregate-put-listing array-borrow-prefix-marks-2 slice-aggregate-put-listing-2 array-borrow-prefix-work slice-aggregate-put-listing-3
+    put-listing-requires same-length returns)

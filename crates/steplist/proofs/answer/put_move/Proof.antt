@@ -66,4 +66,6 @@ returns c =
     rw (same-request (a .sizes) (c .before .before .before .before .before .before .before .before .before .before .before .original-count .result) (c .before .before .before .before .before .before .before .before .before .before .numbers-due .result) (a .numbers .now) (c .before .before .before .before .before .before .before .before .before .before .before .original-count .ensures) (c .before .before .before .before .before .before .before .before .before .before .numbers-due .ensures .0) (c .before .before .before .before .before .before .before .before .before .before .before .before .before .before .pre .0) (omega arith)) at answer
 
 pub put-move-spec : {M : Type 1} → statement M
-put-move-spec = tie.close (tie.spec original-count-requires numbers-due-requires slice-aggregate-put-judged mul-put-judged sub-put-judged part-put-judged-start part-put-judged-end array-borrow-prefix-list slice-aggregate-put-judged-2 array-borrow-prefix-sets slice-aggregate-put-judged-3 put-judged-requires same-length returns)
+put-move-spec = tie.close (tie.spec original-count-requires numbers-due-requires slice-aggregate-put-judged mul-put-judged sub-put-judged
+    part-put-judged-start part-put-judged-end array-borrow-prefix-list slice-aggregate-put-judged-2 array-borrow-prefix-sets slice-aggregate-put-judged-3
+    put-judged-requires same-length returns)

@@ -57,6 +57,5 @@ returns-3 c =
     rw (line (c .before .before) _ (c .enum-told .given .1)) (nothing-printed (start .args .out .now) (start .args .at) (omega (arith, start .pre .1)))
 
 pub put-line-spec : {M : Type 1} → statement M
-put-line-spec =
-    tie.close
-    (tie.spec new-requires operation-requires enum-known-block put-write-requires enum-known-block-2 put-erase-requires enum-told same-length returns same-length-2 returns-2 returns-3)
+put-line-spec = tie.close (tie.spec new-requires operation-requires enum-known-block put-write-requires enum-known-block-2 put-erase-requires enum-told
+    same-length returns same-length-2 returns-2 returns-3)

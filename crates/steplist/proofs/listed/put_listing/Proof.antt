@@ -98,4 +98,5 @@ returns c =
     (all-shown _ _ _ _ _ _ _ _ _ _ _ _ shows (c .before .before .put-end .ensures), shows .left)
 
 pub put-listing-spec : {M : Type 1} → statement M
-put-listing-spec = tie.close (tie.spec Inv-loop μ-loop last-place-requires loop-holds put-step-requires add-writes add-erases add-place loop-less loop-again put-end-requires same-length same-length-2 same-length-3 same-length-4 returns)
+put-listing-spec = tie.close (tie.spec Inv-loop μ-loop last-place-requires loop-holds put-step-requires add-writes add-erases add-place loop-less loop-again
+    put-end-requires same-length same-length-2 same-length-3 same-length-4 returns)

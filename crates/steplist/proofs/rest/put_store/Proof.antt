@@ -38,4 +38,5 @@ returns c =
     store-filled (a .spare) (a .store .now) (put .last .1 .0) (a .originals .now) (c .before .before .before .before .before .before .before .before .before .before .pre .0) (f .last .0) (put .ensures) (f .ensures)
 
 pub put-store-spec : {M : Type 1} → statement M
-put-store-spec = tie.close (tie.spec sub-put-bytes part-put-bytes-start part-put-bytes-end put-bytes-requires slice-relend-prefix-fill slice-aggregate-fill fill-requires same-length returns)
+put-store-spec = tie.close (tie.spec sub-put-bytes part-put-bytes-start part-put-bytes-end put-bytes-requires slice-relend-prefix-fill slice-aggregate-fill
+    fill-requires same-length returns)

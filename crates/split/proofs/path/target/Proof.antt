@@ -2,8 +2,8 @@
 use Rattle.flash.proofs.Kit.{arith, needs, ap, _∙_, ℕ, _/_}
 use Rattle.split.specs.Split.{destBlock}
 use Rattle.split.specs.Rule.{blockAt}
-use Rattle.split.proofs.ends.target.Statement.{statement}
-use Rattle.split.proofs.ends.target.Tie as tie
+use Rattle.split.proofs.path.target.Statement.{statement}
+use Rattle.split.proofs.path.target.Tie as tie
 
 mul-entry : tie.Need-mul-entry
 mul-entry c = search needs
@@ -24,5 +24,4 @@ unfolding blockAt destBlock
 returns c = c .quotient .ensures ∙ ap (λ (x : ℕ). x / c .before .before .before .before .args .m) (c .before .entry .ensures) ∙ omega arith
 
 pub target-spec : {M : Type 1} → statement M
-target-spec =
-    tie.close (tie.spec mul-entry shared-slice-read-entry entry-requires quotient-requires returns)
+target-spec = tie.close (tie.spec mul-entry shared-slice-read-entry entry-requires quotient-requires returns)
