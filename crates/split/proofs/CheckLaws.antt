@@ -1,12 +1,12 @@
 -- The check of a list, window by window: a table of bits tells which entries of a window were met.
-use Rattle.flash.proofs.Kit.{_≡_, refl, sym, ap, _∙_, subst, inl, inr, _≢_, ⊎-elim, true, false, List, ℕ, _+_, _*_, _/_, _%_, _≤_, _<_, arith}
-use Rattle.flash.proofs.Kit.{not-suc-le-zero, eqb, ltb, length, getD, replicate, eq-eqb, ne-eqb, ltb-true, lt-ltb, not-true}
+use Rattle.flash.proofs.Kit.{_≡_, refl, sym, ap, _∙_, inl, inr, _≢_, ⊎-elim, true, false, List, ℕ, _+_, _*_, _/_, _%_, _≤_, _<_, arith}
+use Rattle.flash.proofs.Kit.{not-suc-le-zero, below-more, eqb, ltb, length, getD, replicate, eq-eqb, ne-eqb, ltb-true, lt-ltb, not-true}
 use Rattle.split.specs.OneToOne.{isOneToOne}
 use Rattle.split.specs.inner.Window.{isGood, differWithin}
 use Rattle.split.specs.inner.Mask.{bitAt, FlippedAt}
 use Rattle.flash.proofs.Bools.{never-both, fails, and-left, and-right}
 use Rattle.flash.proofs.Ranges.{all-in, all-is, all-not, none-in, none-is}
-use Rattle.flash.proofs.Comparisons.{lt-cases, eq-cases, ne-lt}
+use Rattle.flash.proofs.Comparisons.{eq-cases, ne-lt}
 use Rattle.split.proofs.MaskLaws.{zeros-at, no-bits, bit-lt}
 use Rattle.split.proofs.OneToOneLaws.{one-to-one-of, entry-lt, entry-same}
 
@@ -71,9 +71,6 @@ module _ (originals window : ℕ) (list seen : List ℕ) (k : ℕ) (S : Seen ori
   unfolding differWithin
   all-good h = all-is (isGood originals window list) 0 (length list) (λ j a l. S .good j (omega arith))
 
-  last : (P : ℕ → Type 0) → ((j : ℕ) → j < k → P j) → P k → (j : ℕ) → j < k + 1 → P j
-  last P f p j h = ⊎-elim (λ (l : j < k). f j l) (λ (l : k ≤ j). let e : k ≡ j = omega arith in subst P e p) (lt-cases j k)
-
   module _ (more : k < length list) where
     bad : isGood originals window list k ≡ false → differWithin originals window list ≡ false
     unfolding differWithin
@@ -90,8 +87,8 @@ module _ (originals window : ℕ) (list seen : List ℕ) (k : ℕ) (S : Seen ori
     pub one-beside : getD list k 0 < originals → getD list k 0 / 4096 ≢ window → Seen originals window list seen (k + 1)
     one-beside small beside = record {
       within = omega arith;
-      good = last (λ j. isGood originals window list j ≡ true) (S .good) (good-of originals window list k small (λ w. absurd (beside w)));
-      marked = last (λ j. getD list j 0 / 4096 ≡ window → bitOf seen (getD list j 0) ≡ 1) (S .marked) (λ w. absurd (beside w));
+      good = below-more (λ j. isGood originals window list j ≡ true) k (S .good) (good-of originals window list k small (λ w. absurd (beside w)));
+      marked = below-more (λ j. getD list j 0 / 4096 ≡ window → bitOf seen (getD list j 0) ≡ 1) k (S .marked) (λ w. absurd (beside w));
       only = λ entry w e. let r = S .only entry w e in (r .0, omega (arith, r .1), r .2);
     }
 
@@ -100,8 +97,8 @@ module _ (originals window : ℕ) (list seen : List ℕ) (k : ℕ) (S : Seen ori
         → FlippedAt seen (getD list k 0 / 64 % 64) (getD list k 0 % 64) after → Seen originals window list after (k + 1)
     one-more after small here fresh flip = record {
       within = omega arith;
-      good = last (λ j. isGood originals window list j ≡ true) (S .good) (good-of originals window list k small (λ w. new));
-      marked = last (λ j. getD list j 0 / 4096 ≡ window → bitOf after (getD list j 0) ≡ 1)
+      good = below-more (λ j. isGood originals window list j ≡ true) k (S .good) (good-of originals window list k small (λ w. new));
+      marked = below-more (λ j. getD list j 0 / 4096 ≡ window → bitOf after (getD list j 0) ≡ 1) k
           (λ j l w. other (getD list j 0) w (new j l) ∙ S .marked j l w) (λ w. set-now);
       only = λ entry w e. ⊎-elim
           (λ (q : entry ≡ getD list k 0). (k, omega arith, sym q))
@@ -132,10 +129,6 @@ module _ (originals : ℕ) (list : List ℕ) where
   -- the first windows are passed
   abbrev pub Passed : ℕ → Type 0
   Passed windows = (w : ℕ) → w < windows → differWithin originals w list ≡ true
-
-  pub one-passed : (window : ℕ) → Passed window → differWithin originals window list ≡ true → Passed (window + 1)
-  one-passed window passed e w h = ⊎-elim (λ (l : w < window). passed w l)
-      (λ (l : window ≤ w). let s : window ≡ w = omega arith in subst (λ (x : ℕ). differWithin originals x list ≡ true) s e) (lt-cases w window)
 
   pub all-differ : (windows : ℕ) → 0 < windows → Passed windows
       → ((k : ℕ) → k < length list → getD list k 0 < originals → getD list k 0 < windows * 4096) → isOneToOne originals list ≡ true

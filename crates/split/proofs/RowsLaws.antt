@@ -1,6 +1,6 @@
 -- The check of set bytes by rows: what the table by destination and the bits of a row tell, and that rows with each set make a split.
-use Rattle.flash.proofs.Kit.{_≡_, refl, sym, ap, _∙_, subst, _⊎_, inl, inr, _≢_, ⊎-elim, true, false, _&&_, List, _++_, ℕ, _+_, _-_, _*_, _/_, _%_}
-use Rattle.flash.proofs.Kit.{_≤_, _<_, min, not-suc-le-zero, div-lt-iff-lt-mul, div-add-mod', mod-lt, arith, eqb, ltb, leb, length, getD, set}
+use Rattle.flash.proofs.Kit.{_≡_, refl, sym, ap, _∙_, _⊎_, inl, inr, _≢_, ⊎-elim, true, false, _&&_, List, _++_, ℕ, _+_, _-_, _*_, _/_, _%_}
+use Rattle.flash.proofs.Kit.{_≤_, _<_, min, not-suc-le-zero, below-more, div-lt-iff-lt-mul, div-add-mod', mod-lt, arith, eqb, ltb, leb, length, getD, set}
 use Rattle.flash.proofs.Kit.{replicate, length-replicate, getD-replicate, List·getD-append, getD-set-same, getD-set-other, eqb-true, eq-eqb, ltb-true}
 use Rattle.flash.proofs.Kit.{lt-ltb, leb-true, le-leb}
 use Rattle.flash.specs.Lists.{all, any, part}
@@ -19,10 +19,6 @@ use Rattle.split.proofs.Pigeon.{once}
 use Rattle.split.proofs.OneToOneLaws.{one-to-one-of, entry-lt, entry-same, entry-onto}
 use Rattle.split.proofs.SplitLaws.{PageOf, Proper, set-lt, page-from, page-to, split-of}
 use Rattle.split.proofs.RuleLaws.{same-place}
-
--- what holds of each number below k, and of k
-last : (P : ℕ → Type 0) (k : ℕ) → ((j : ℕ) → j < k → P j) → P k → (j : ℕ) → j < k + 1 → P j
-last P k f p j h = ⊎-elim (λ (l : j < k). f j l) (λ (l : k ≤ j). let e : k ≡ j = omega arith in subst P e p) (lt-cases j k)
 
 -- ---- one row: the bits tell which numbers are met
 pub record Met (row : List ℕ) (met j : ℕ) : Type 0 where
@@ -43,8 +39,8 @@ module _ (row : List ℕ) (met j : ℕ) (M : Met row met j) where
   pub one-met : (after number : ℕ) → number ≡ getD row j 0 → j < length row → number < length row → WithBit met number after → Met row after (j + 1)
   one-met after number is h small w = record {
     within = omega arith;
-    small = last (λ i. getD row i 0 < length row) j (M .small) (rw (← is) small);
-    marked = last (λ i. bitAt after (getD row i 0) ≡ 1) j (λ i l. kept (getD row i 0) (M .marked i l)) (rw (← is) (w .now));
+    small = below-more (λ i. getD row i 0 < length row) j (M .small) (rw (← is) small);
+    marked = below-more (λ i. bitAt after (getD row i 0) ≡ 1) j (λ i l. kept (getD row i 0) (M .marked i l)) (rw (← is) (w .now));
     only = λ x e. ⊎-elim
         (λ (q : x ≡ number). (j, omega arith, sym (q ∙ is)))
         (λ (q : x ≢ number). (let r = M .only x (sym (w .same x q) ∙ e) in (r .0, omega (arith, r .1), r .2)))
@@ -223,9 +219,9 @@ module _ (list sets table : List ℕ) (k : ℕ) (E : Entering list sets table k)
           → Entering list sets (set table (getD list k 0) v) (k + 1)
       one-entered room clear v is = record {
         within = omega arith;
-        small = last (λ j. getD list j 0 < length list) k (E .small) small;
+        small = below-more (λ j. getD list j 0 < length list) k (E .small) small;
         differ = λ i j h l q. go i j h l q (lt-cases i k) (lt-cases j k);
-        there = last (λ j. getD (set table (getD list k 0) v) (getD list j 0) 0 ≡ min (getD sets j 0) 64) k
+        there = below-more (λ j. getD (set table (getD list k 0) v) (getD list j 0) 0 ≡ min (getD sets j 0) 64) k
             (λ j l. getD-set-other table (getD list k 0) (getD list j 0) v 0 (new j l) ∙ E .there j l)
             (getD-set-same table (getD list k 0) v 0 (omega arith) ∙ is);
         only = λ x h ne. ⊎-elim

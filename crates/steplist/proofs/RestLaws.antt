@@ -1,6 +1,8 @@
 -- A list whose front is filled.
-use Rattle.flash.proofs.Kit.{_≡_, sym, ap, _∙_, List, _++_, append-nil, ℕ, _+_, _-_, _≤_, arith, length, take, drop, replicate, length-replicate}
+use Rattle.flash.proofs.Kit.{_≡_, sym, ap, _∙_, List, _++_, append-nil, ℕ, _+_, _-_, _*_, _≤_, arith, length, take, drop, replicate, length-replicate}
 use Rattle.flash.proofs.Kit.{replicate-append-replicate, length-append, length-drop, drop-of-length-le, length-take-le, take-at, drop-at}
+use Rattle.flash.specs.Lists.{part}
+use Rattle.flash.proofs.Parts.{part-replicate}
 
 drop-replicate : (m n v : ℕ) → m ≤ n → drop m (replicate n v) ≡ replicate (n - m) v
 drop-replicate m n v h =
@@ -9,16 +11,9 @@ drop-replicate m n v h =
     ∙ ap (drop m) (sym (replicate-append-replicate m (n - m) v))
     ∙ drop-at (replicate m v) (replicate (n - m) v) m (length-replicate {A = ℕ} m v)
 
--- the front of a list of one value
-front-same : (count most v : ℕ) → count ≤ most → take count (replicate most v) ≡ replicate count v
-front-same count most v h =
-    let e : count + (most - count) ≡ most = omega arith in
-    ap (λ (k : ℕ). take count (replicate k v)) (sym e)
-    ∙ ap (take count) (sym (replicate-append-replicate count (most - count) v))
-    ∙ take-at (replicate count v) (replicate (most - count) v) count (length-replicate {A = ℕ} count v)
-
 pub zeros-taken : (count most : ℕ) → count ≤ most → take count (replicate {A = ℕ} most 0) ≡ replicate count 0
-zeros-taken count most h = front-same count most 0 h
+unfolding part
+zeros-taken count most h = let z : 0 * count ≡ 0 = omega arith in rw z at (part-replicate count 0 most 0 (omega arith))
 
 pub zeros-length : (count most : ℕ) → count ≤ most → length (take count (replicate {A = ℕ} most 0)) ≡ count
 zeros-length count most h = ap length (zeros-taken count most h) ∙ length-replicate {A = ℕ} count 0

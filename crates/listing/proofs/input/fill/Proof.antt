@@ -3,7 +3,7 @@ use Rattle.flash.proofs.Kit.{arith, _≡_, refl, sym, ap, _∙_, [], _++_, suc,
 use Rattle.flash.proofs.Kit.{take-length, needs}
 use Rattle.listing.specs.Numbers.{numbersIn, taken, numbersMet}
 use Rattle.listing.specs.ReaderAnswers.{toldAs}
-use Rattle.listing.proofs.TakeLaws.{went-on, stopped, taken-more, met-stopped, met-more, met-all}
+use Rattle.listing.proofs.TakeLaws.{went-on, stopped, taken-more, met-more, met-all}
 use Rattle.flash.proofs.Loops.{rest-more}
 use Rattle.listing.proofs.input.fill.Statement.{statement}
 use Rattle.listing.proofs.input.fill.Tie as tie
@@ -34,10 +34,9 @@ returns c =
     let a = c .before .before .before .before .before .before .args in
     let k : length (a .area .now) - l .i ≡ suc (length (a .area .now) - l .i - 1) = omega arith in
     let words = numbersIn (drop (l .at) (a .text .now)) in
-    let none-met : numbersMet (length (a .area .now) - l .i) words ≡ [] = rw k (met-stopped (a .text .now) (c .before .number .result) words (length (a .area .now) - l .i - 1) (c .match .keys2) (c .before .number .ensures)) in (
-      sym (l .inv .0 ∙ rw k (stopped (a .text .now) (c .before .number .result) words (take (l .i) (l .area)) (length (a .area .now) - l .i - 1) (c .match .keys2) (c .before .number .ensures))),
-      met-all _ (l .area) (a .area .now) (l .i) (omega arith) (rw none-met at (l .inv .3)) (l .inv .4),
-    )
+    let none = stopped (a .text .now) (c .before .number .result) words (take (l .i) (l .area)) (length (a .area .now) - l .i - 1) (c .match .keys2) (c .before .number .ensures) in
+    let none-met : numbersMet (length (a .area .now) - l .i) words ≡ [] = rw k (none .1) in
+    (sym (l .inv .0 ∙ rw k (none .0)), met-all _ (l .area) (a .area .now) (l .i) (omega arith) (rw none-met at (l .inv .3)) (l .inv .4))
 
 mul-area : tie.Need-mul-area Inv-loop μ-loop
 mul-area c = search needs
@@ -62,7 +61,7 @@ loop-again c =
     let value = v .0 .0 in
     let rest = numbersIn (drop (v .0 .1 .0) (a .text .now)) in
     let words = went-on (a .text .now) value (v .0 .1 .0) (numbersIn (drop (l .at) (a .text .now))) (ap (toldAs (a .text .now)) (sym (v .1)) ∙ found .ensures) in (
-      l .inv .0 ∙ taken-more (take (l .i) (l .area)) (length (a .area .now) - l .i) value (numbersIn (drop (l .at) (a .text .now))) rest (omega arith) words ∙ rw (k, add-one (l .i), take-suc-set (l .area) (l .i)),
+      l .inv .0 ∙ taken-more (take (l .i) (l .area)) (length (a .area .now) - l .i) value (numbersIn (drop (l .at) (a .text .now))) rest (omega arith) words .0 ∙ rw (k, add-one (l .i), take-suc-set (l .area) (l .i)),
       omega arith,
       simp length-set (omega arith),
       rw (← k) (met-more _ (l .area) (l .i) (length (a .area .now) - l .i) value (numbersIn (drop (l .at) (a .text .now))) rest n (omega arith) (l .inv .3) words),

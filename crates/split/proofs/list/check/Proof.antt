@@ -1,6 +1,6 @@
 -- `check` tells whether a list is one-to-one, window by window.
-use Rattle.flash.proofs.Kit.{_≡_, sym, _∙_, _+_, _-_, _≤_, arith, needs, not-true, not-false}
-use Rattle.split.proofs.CheckLaws.{Passed, one-passed, one-fails, all-differ}
+use Rattle.flash.proofs.Kit.{_≡_, sym, _∙_, _+_, _-_, _≤_, arith, below-more, needs, not-true, not-false}
+use Rattle.split.proofs.CheckLaws.{Passed, one-fails, all-differ}
 use Rattle.split.proofs.list.check.Statement.{statement}
 use Rattle.split.proofs.list.check.Tie as tie
 
@@ -23,7 +23,7 @@ window-passed : (c : tie.Else1 Inv-loop μ-loop)
 window-passed c =
     let d = c .before in
     let l = d .before .before .loop in
-    one-passed _ _ (l .window) (l .inv .1) (sym (d .differ-within .ensures) ∙ not-false _ (c .if1 .left))
+    below-more _ (l .window) (l .inv .1) (sym (d .differ-within .ensures) ∙ not-false _ (c .if1 .left))
 
 returns : tie.Need-returns Inv-loop μ-loop
 returns c =
