@@ -12,7 +12,7 @@ use Rattle.method.proofs.places.PlaceShape.{Shaped}
 use Rattle.method.proofs.recovery.LinesAgree.{Torn, Filled, Fit, torn-forth, torn-back, full-forth, full-back, fit}
 
 -- the row that is found fits
-first-fit : {A : Type 0} (rows : List (Row A)) (found : A) → firstFit rows ≡ some found → (row : Row A) × List·Memᴰ row rows × (row .fits ≡ true) × (row .gives ≡ found)
+pub first-fit : {A : Type 0} (rows : List (Row A)) (found : A) → firstFit rows ≡ some found → (row : Row A) × List·Memᴰ row rows × (row .fits ≡ true) × (row .gives ≡ found)
 unfolding firstFit
 first-fit {A} [] found e = (let z : _≡_ {A = ℕ} 0 1 = cc in absurd (omega arith))
 first-fit {A} (top ∷ rows) found e = ⊎-elim
