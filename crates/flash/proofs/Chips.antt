@@ -1,6 +1,6 @@
 -- What an erase and a write do to the page and the mark of each slot.
-use Rattle.flash.proofs.Kit.{_≡_, refl, sym, ap, _∙_, _≢_, Bool, true, false, List, ℕ, _+_, _*_, _≤_, _<_, arith, eqb, length, getD, replicate}
-use Rattle.flash.proofs.Kit.{length-set, length-replicate, getD-replicate, getD-set-same, getD-set-other, ext-getD, eqb-true, eq-eqb, ne-eqb}
+use Rattle.flash.proofs.Kit.{_≡_, refl, sym, ap, _∙_, _≢_, Bool, true, List, ℕ, _+_, _*_, _≤_, _<_, arith, eqb, length, getD, replicate}
+use Rattle.flash.proofs.Kit.{length-set, length-replicate, getD-replicate, getD-set-same, getD-set-other, ext-getD, eqb-true, eq-eqb}
 use Rattle.flash.specs.Lists.{all, part}
 use Rattle.flash.specs.Geometry.{slot}
 use Rattle.flash.specs.Chip.{Chip, erased, pageAt, markAt, isBlank, eraseBlock, writePage}
@@ -32,10 +32,6 @@ pub blank-is : (P : ℕ) (chip : Chip) (t : ℕ) → markAt (chip .marks) t ≡ 
     → isBlank P chip t ≡ all (λ byte. eqb byte erased) (part P t (chip .store))
 unfolding isBlank pageAt
 blank-is P chip t mark = rw (eq-eqb (markAt (chip .marks) t) erased mark)
-
-pub not-blank : (P : ℕ) (chip : Chip) (t : ℕ) → markAt (chip .marks) t ≢ erased → isBlank P chip t ≡ false
-unfolding isBlank
-not-blank P chip t mark = rw (ne-eqb (markAt (chip .marks) t) erased mark)
 
 pub blank-mark : (P : ℕ) (chip : Chip) (t : ℕ) → isBlank P chip t ≡ true → markAt (chip .marks) t ≡ erased
 unfolding isBlank

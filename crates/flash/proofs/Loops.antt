@@ -1,9 +1,8 @@
 -- What one turn of a loop over bytes does.
 use Rattle.flash.proofs.Kit.{_≡_, sym, ap, _∙_, _&&_, and-true, List, [], _∷_, _++_, ℕ, suc, _+_, _<_, add-one, arith, bitOr, bitXor}
 use Rattle.flash.proofs.Kit.{or-add-and, and-le-l, and-le-r, xor-self, eqb, length, getD, set, take, drop, take-suc, drop-cons, append-snoc}
-use Rattle.flash.proofs.Kit.{getD-at, length-take-le, drop-set-lt, drop-drop, eqb-true, eq-eqb}
+use Rattle.flash.proofs.Kit.{getD-at, length-take-le, drop-set-lt, drop-drop, eqb-true, eq-eqb, set-at}
 use Rattle.flash.specs.Lists.{all}
-use lib.Seq.{set-at}
 use Rattle.flash.proofs.Bools.{bool-eq, both, and-both}
 use Rattle.flash.proofs.Searches.{all-append}
 use Rattle.flash.proofs.Xor.{xor-zero-eq}

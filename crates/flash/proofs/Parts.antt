@@ -3,10 +3,7 @@ use Rattle.flash.proofs.Kit.{_≡_, sym, ap, _∙_, ⊎-elim, List, [],
 use Rattle.flash.proofs.Kit.{suc-mul, add-mul, mul-assoc, mul-zero, mul-le-mul-right, mod-lt, div-add-mod', div-lt-iff-lt-mul, arith, length}
 use Rattle.flash.proofs.Kit.{getD, take, drop, replicate, length-append, length-take, length-drop, length-replicate}
 use Rattle.flash.proofs.Kit.{replicate-append-replicate, length-take-le, getD-take, getD-drop, drop-drop, ext-getD, take-append-le}
-use Rattle.flash.proofs.Kit.{drop-append-le, drop-append-add, take-append-drop, take-at, drop-at, take-take}
-use native.Mathlib.Nat.{zero-sub}
-use native.Mathlib.Numerals.{unary-clauses}
-use lib.Seq.{take-nil}
+use Rattle.flash.proofs.Kit.{drop-append-le, drop-append-add, take-append-drop, take-at, drop-at, take-take, zero-sub, unary-clauses, take-nil}
 use Rattle.flash.specs.Lists.{part, setPart}
 use Rattle.flash.proofs.Comparisons.{ne-lt}
 

@@ -1,6 +1,6 @@
 -- Laws of `range`, and of tests, counts and searches over one.
 use Rattle.flash.proofs.Kit.{_≡_, refl, sym, ap, _∙_, _⊎_, inl, inr, ⊎-elim, _≢_, Bool, true, false, ℕ, zero, suc, _+_, _-_, _≤_, _<_}
-use Rattle.flash.proofs.Kit.{not-suc-le-zero, le-of-suc-le-suc, add-zero, arith, length, getD, below-more}
+use Rattle.flash.proofs.Kit.{not-suc-le-zero, le-of-suc-le-suc, add-zero, arith, length, getD}
 use Rattle.flash.specs.Lists.{range, all, any, count, first}
 use Rattle.flash.proofs.Bools.{bool-cases, never-both, fails}
 use Rattle.flash.proofs.Comparisons.{eq-cases}
@@ -175,9 +175,3 @@ one-counted test start (suc size) k O =
       others = λ j a b p. O .others j (omega arith) (omega arith) p;
     })))
     (bool-cases (test start))
-
--- one block more that is not full
-pub none-full : (test : ℕ → Bool) (block : ℕ) → any test (range 0 block) ≡ false → test block ≡ false → any test (range 0 (block + 1)) ≡ false
-none-full test block none this =
-    none-is test 0 (block + 1) (λ j a b.
-    below-more (λ k. test k ≡ false) block (λ k h. none-in test 0 block none k (omega arith) (omega arith)) this j (omega arith))

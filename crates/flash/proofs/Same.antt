@@ -1,7 +1,7 @@
 -- `isSame` holds of equal lists, and of no others.
-use Rattle.flash.proofs.Kit.{_≡_, refl, ap₂, true, false, List, [], _∷_, ℕ, eqb, eqb-true, eq-eqb}
+use Rattle.flash.proofs.Kit.{_≡_, refl, ap₂, true, List, [], _∷_, ℕ, eqb, eqb-true, eq-eqb}
 use Rattle.flash.specs.Lists.{isSame}
-use Rattle.flash.proofs.Bools.{never-both, and-left, and-right, fails}
+use Rattle.flash.proofs.Bools.{never-both, and-left, and-right}
 
 pub same-eq : (xs ys : List ℕ) → isSame xs ys ≡ true → xs ≡ ys
 unfolding isSame
@@ -20,6 +20,3 @@ same-self (x ∷ xs) = rw (eq-eqb x x refl, same-self xs)
 
 pub eq-same : (xs ys : List ℕ) → xs ≡ ys → isSame xs ys ≡ true
 eq-same xs ys e = rw e (same-self ys)
-
-pub ne-same : (xs ys : List ℕ) → (xs ≡ ys → ⊥) → isSame xs ys ≡ false
-ne-same xs ys ne = fails (λ e. ne (same-eq xs ys e))

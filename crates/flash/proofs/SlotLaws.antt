@@ -1,8 +1,7 @@
 -- A pass of a sum turn by turn, and a sum that goes into a slot of the store that its pages lie in: the summed pages stay.
-use Rattle.flash.proofs.Kit.{_≡_, _≢_, sym, ap, _∙_, Bool, cond, List, [], _++_, append-nil, ℕ, _+_, _-_, _*_, _≤_, _<_, arith, bitXor, length, getD}
-use Rattle.flash.proofs.Kit.{set, take, drop, length-append, length-take, length-drop, length-take-le, getD-take, getD-drop, drop-drop}
-use Rattle.flash.proofs.Kit.{drop-of-length-le, take-append-drop, take-at, drop-at, take-all, take-set-le}
-use lib.Seq.{drop-set-add, set-append-left}
+use Rattle.flash.proofs.Kit.{_≡_, _≢_, sym, ap, _∙_, Bool, cond, List, [], _++_, append-nil, ℕ, _+_, _-_, _*_, _≤_, _<_, arith, bitXor, length}
+use Rattle.flash.proofs.Kit.{getD, set, take, drop, length-append, length-take, length-drop, length-take-le, getD-take, getD-drop, drop-drop}
+use Rattle.flash.proofs.Kit.{drop-of-length-le, take-append-drop, take-at, drop-at, take-all, take-set-le, drop-set-add, set-append-left}
 use Rattle.flash.specs.Lists.{part, setPart}
 use Rattle.flash.specs.PageSum.{_⊕_}
 use Rattle.flash.specs.inner.Terms.{byteSum}

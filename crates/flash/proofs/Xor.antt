@@ -1,6 +1,6 @@
 -- Exclusive-or of numbers, by bits: what the logic's own laws of it lack.
 use Rattle.flash.proofs.Kit.{_≡_, refl, sym, _∙_, ℕ, _+_, _/_, _%_, arith, bin-ind, bitXor, xor-shr, xor-self, xor-zero-l, xor-zero-r}
-use lib.Bits.{xor-add-and}
+use Rattle.flash.proofs.Kit.{xor-add-and}
 
 xor-odd : (a b : ℕ) → bitXor a b % 2 ≡ (a + b) % 2
 xor-odd a b = omega (arith, xor-add-and a b)

@@ -1,4 +1,3 @@
 -- The numbers that calls return.
 pub mod LowestReturned
 pub mod ListRefusals
-pub mod AnswerBounds

@@ -1,6 +1,6 @@
 -- The answer of read, case by case, and what the marks tell it: the moment, and slots of the store, one at least.
-use Rattle.flash.proofs.Kit.{_≡_, refl, _∙_, _≢_, _⊎_, inl, inr, Bool, true, false, cond, List, [], ℕ, _+_, _≤_, _<_, arith, eqb, leb, length}
-use Rattle.flash.proofs.Kit.{ne-eqb, le-leb, lt-leb}
+use Rattle.flash.proofs.Kit.{_≡_, refl, _∙_, _≢_, _⊎_, inl, inr, Bool, true, false, cond, List, [], ℕ, _+_, _≤_, _<_, arith, eqb, leb, length, ne-eqb}
+use Rattle.flash.proofs.Kit.{le-leb, lt-leb}
 use Rattle.flash.specs.Tables.{refusal}
 use Rattle.flash.proofs.Tables.{refusal-nil}
 use Rattle.flash.specs.Geometry.{originalCount, slotCount}

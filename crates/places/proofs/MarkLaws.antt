@@ -1,7 +1,8 @@
 -- The marks that a place has, in four stretches; and the slots marked 255 that are not blank.
-use Rattle.flash.proofs.Kit.{_≡_, refl, sym, ap, ap₂, _∙_, _⊎_, ⊎-elim, Bool, true, false, cond, _&&_, and-assoc, not, List, ℕ, _+_, _-_, _*_, _/_, _%_, _≤_, _<_}
-use Rattle.flash.proofs.Kit.{div-lt-iff-lt-mul, le-div-iff-mul-le, mod-lt, div-add-mod', suc-mul, arith, eqb, length, getD, take, drop, length-map, length-take}
-use Rattle.flash.proofs.Kit.{length-drop, ext-getD, getD-take, getD-drop, eqb-true, eq-eqb, not-false, lt-ltb, le-ltb, mul-le-mul-right}
+use Rattle.flash.proofs.Kit.{_≡_, refl, sym, ap, ap₂, _∙_, _⊎_, ⊎-elim, Bool, true, false, cond, _&&_, and-assoc, not, List, ℕ, _+_, _-_, _*_, _/_}
+use Rattle.flash.proofs.Kit.{_%_, _≤_, _<_, div-lt-iff-lt-mul, le-div-iff-mul-le, mod-lt, div-add-mod', suc-mul, arith, eqb, length, getD, take, drop}
+use Rattle.flash.proofs.Kit.{length-map, length-take, length-drop, ext-getD, getD-take, getD-drop, eqb-true, eq-eqb, not-false, lt-ltb, le-ltb}
+use Rattle.flash.proofs.Kit.{mul-le-mul-right}
 use Rattle.flash.specs.Lists.{range, all, any, part, isSame}
 use Rattle.flash.specs.declared.sizes.Sizes.{Sizes}
 use Rattle.flash.specs.Geometry.{Bounds, slotCount, storeLength, letter}
@@ -14,7 +15,7 @@ use Rattle.flash.proofs.Searches.{all-at, all-of}
 use Rattle.flash.proofs.Ranges.{length-range, all-in, all-is, none-in, none-is}
 use Rattle.flash.proofs.Same.{eq-same, same-eq}
 use Rattle.flash.proofs.Comparisons.{lt-cases}
-use Rattle.method.specs.Place.{Pass, forward, backward, lastPlace, passAt, filling, filled, Held, code, written, above, heldAt, heldMark, marksOf}
+use Rattle.method.specs.Place.{Pass, forward, backward, lastPlace, passAt, filling, filled, written, above, heldAt, heldMark, marksOf}
 use Rattle.method.specs.Answers.{isElsewhere}
 use Rattle.method.proofs.basics.Indexes.{slot-div, slot-mod, map-range-at}
 use Rattle.method.proofs.places.StepsAtPlaces.{pages-in, filling-in}

@@ -1,7 +1,7 @@
 -- What `reading` gives: the answer of any line that fits, or none where marks of that kind cannot be.
 use Rattle.flash.proofs.Kit.{_≡_, refl, sym, ap, _∙_, ⊎-elim, _≢_, Bool, true, false, cond, _&&_, List, [], _∷_, map, List·Memᴰ, List·Memᴰ·head}
-use Rattle.flash.proofs.Kit.{List·Memᴰ·tail, List·Memᴰ·not-nil, List·Memᴰ·cases-cons, Memᴰ·append-left, Memᴰ·append-right, Option, none, some, ℕ, zero, suc}
-use Rattle.flash.proofs.Kit.{_+_, _-_, _*_, _%_, add-zero, _≤_, _<_, arith, eqb, length, getD, eqb-true, eqb-false}
+use Rattle.flash.proofs.Kit.{List·Memᴰ·tail, List·Memᴰ·not-nil, List·Memᴰ·cases-cons, Memᴰ·append-left, Memᴰ·append-right, Option, none, some, ℕ}
+use Rattle.flash.proofs.Kit.{zero, suc, _+_, _-_, _*_, _%_, add-zero, _≤_, _<_, arith, eqb, length, getD, eqb-true, eqb-false}
 use Rattle.flash.specs.Geometry.{letter}
 use Rattle.flash.specs.Lists.{range}
 use Rattle.flash.specs.Tables.{Row, firstFit}

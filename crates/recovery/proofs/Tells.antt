@@ -1,6 +1,6 @@
 -- What the search of the marks tells when it ends.
-use Rattle.flash.proofs.Kit.{_≡_, refl, sym, ap, _∙_, _⊎_, inl, inr, ⊎-elim, _≢_, Bool, true, false, cond, _||_, List, Option, none, some, ℕ, _+_, _≤_, _<_}
-use Rattle.flash.proofs.Kit.{add-one, arith, eqb, ltb, eqb-true, eqb-false, ne-eqb, ltb-true, ltb-false}
+use Rattle.flash.proofs.Kit.{_≡_, refl, sym, ap, _∙_, _⊎_, inl, inr, ⊎-elim, _≢_, Bool, true, false, cond, _||_, List, Option, none, some, ℕ, _+_}
+use Rattle.flash.proofs.Kit.{_≤_, _<_, add-one, arith, eqb, ltb, eqb-true, eqb-false, ne-eqb, ltb-true, ltb-false}
 use Rattle.flash.specs.Geometry.{letter}
 use Rattle.flash.specs.declared.sizes.Sizes.{Sizes}
 use Rattle.flash.proofs.Bools.{bool-cases, or-cases, or-false-left, or-false-right}

@@ -1,6 +1,6 @@
 -- The check of set bytes by rows: what the table by destination and the bits of a row tell, and that rows with each set make a split.
-use Rattle.flash.proofs.Kit.{_≡_, refl, sym, ap, _∙_, _⊎_, inl, inr, _≢_, ⊎-elim, true, false, _&&_, List, _++_, ℕ, _+_, _-_, _*_, _/_, _%_}
-use Rattle.flash.proofs.Kit.{_≤_, _<_, min, not-suc-le-zero, below-more, div-lt-iff-lt-mul, div-add-mod', mod-lt, arith, eqb, ltb, leb, length, getD, set}
+use Rattle.flash.proofs.Kit.{_≡_, refl, sym, ap, _∙_, _⊎_, inl, inr, _≢_, ⊎-elim, true, false, _&&_, List, _++_, ℕ, _+_, _-_, _*_, _/_, _%_, _≤_, _<_}
+use Rattle.flash.proofs.Kit.{min, not-suc-le-zero, below-more, div-lt-iff-lt-mul, div-add-mod', mod-lt, arith, eqb, ltb, leb, length, getD, set}
 use Rattle.flash.proofs.Kit.{replicate, length-replicate, getD-replicate, List·getD-append, getD-set-same, getD-set-other, eqb-true, eq-eqb, ltb-true}
 use Rattle.flash.proofs.Kit.{lt-ltb, leb-true, le-leb}
 use Rattle.flash.specs.Lists.{all, any, part}

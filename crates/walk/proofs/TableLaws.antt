@@ -1,7 +1,6 @@
 -- Rows and tables that are filled entry by entry tell the pages and the sources of each set.
-use Rattle.flash.proofs.Kit.{_≡_, refl, sym, ap, _∙_, ⊎-elim, List, ℕ, zero, suc, _+_, _-_, _*_, _/_, _%_, _≤_, _<_}
-use Rattle.flash.proofs.Kit.{not-suc-le-zero, suc-mul, div-add-mod', div-lt-iff-lt-mul, mod-lt, add-one, arith, length, getD, set}
-use Rattle.flash.proofs.Kit.{length-set, getD-set-same, getD-set-other}
+use Rattle.flash.proofs.Kit.{_≡_, refl, sym, ap, _∙_, ⊎-elim, List, ℕ, zero, suc, _+_, _-_, _*_, _/_, _%_, _≤_, _<_, not-suc-le-zero, suc-mul}
+use Rattle.flash.proofs.Kit.{div-add-mod', div-lt-iff-lt-mul, mod-lt, add-one, arith, length, getD, set, length-set, getD-set-same, getD-set-other}
 use Rattle.flash.specs.Lists.{part}
 use Rattle.flash.specs.declared.sizes.Sizes.{Sizes}
 use Rattle.flash.specs.Geometry.{numberAt}

@@ -1,7 +1,7 @@
 -- Numbers as indexes: two in order, one taken apart into block and page or into turn and step, and elements of lists by index.
-use Rattle.flash.proofs.Kit.{_≡_, sym, ap, _∙_, subst, _≢_, ⊎-elim, List, [], _∷_, map, ℕ, zero, suc, _+_, _-_, _*_, _/_, _%_, _<_}
-use Rattle.flash.proofs.Kit.{not-suc-le-zero, le-of-suc-le-suc, mul-add-div-right, div-eq-of-lt, mul-add-mod-self-right, mod-eq-of-lt, add-zero}
-use Rattle.flash.proofs.Kit.{mul-le-mul-right, suc-mul, div-add-mod', mod-lt, div-lt-iff-lt-mul, arith, length, getD, List·getD-append, getD-append-add}
+use Rattle.flash.proofs.Kit.{_≡_, sym, ap, _∙_, subst, _≢_, ⊎-elim, List, [], _∷_, map, ℕ, zero, suc, _+_, _-_, _*_, _/_, _%_, _<_, not-suc-le-zero}
+use Rattle.flash.proofs.Kit.{le-of-suc-le-suc, mul-add-div-right, div-eq-of-lt, mul-add-mod-self-right, mod-eq-of-lt, add-zero, mul-le-mul-right}
+use Rattle.flash.proofs.Kit.{suc-mul, div-add-mod', mod-lt, div-lt-iff-lt-mul, arith, length, getD, List·getD-append, getD-append-add}
 use Rattle.flash.specs.Lists.{range, downFrom, concatMap}
 use Rattle.flash.proofs.Comparisons.{ne-lt, eq-cases}
 

@@ -1,6 +1,6 @@
 -- Calls that take no step, refused ones and reads among them, keep what is kept; cut or not.
-use Rattle.flash.proofs.Kit.{_≡_, refl, sym, ap, _∙_, subst, _⊎_, inl, inr, ⊎-elim, true, false, cond, List, [], _++_, append-nil, or-false, ℕ}
-use Rattle.flash.proofs.Kit.{suc, _≤_, arith, length}
+use Rattle.flash.proofs.Kit.{_≡_, refl, sym, ap, _∙_, subst, _⊎_, inl, inr, ⊎-elim, true, false, cond, List, [], _++_, append-nil, or-false, ℕ, suc}
+use Rattle.flash.proofs.Kit.{_≤_, arith, length}
 use Rattle.flash.specs.Lists.{count}
 use Rattle.flash.specs.Chip.{Chip}
 use Rattle.flash.proofs.Bools.{bool-cases}

@@ -1,6 +1,6 @@
 -- What a list of calls and cuts keeps, and that demand 3 holds of a moment that has it.
-use Rattle.flash.proofs.Kit.{_≡_, refl, _∙_, subst, Bool, true, List, [], ℕ, suc, _+_, _-_, _*_, _≤_, _<_, min, arith, length, getD}
-use Rattle.flash.proofs.Kit.{take, drop, take-append-drop, eq-eqb, lt-leb}
+use Rattle.flash.proofs.Kit.{_≡_, refl, _∙_, subst, Bool, true, List, [], ℕ, suc, _+_, _-_, _*_, _≤_, _<_, min, arith, length, getD, take, drop}
+use Rattle.flash.proofs.Kit.{take-append-drop, eq-eqb, lt-leb}
 use Rattle.flash.specs.Lists.{count}
 use Rattle.flash.specs.Tables.{refusal}
 use Rattle.flash.specs.declared.sizes.Sizes.{Sizes}

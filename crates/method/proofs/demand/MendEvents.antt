@@ -1,6 +1,6 @@
 -- A mend with the shared sizes keeps what is kept: before and after its erase, once it has returned, and where it is cut.
-use Rattle.flash.proofs.Kit.{_≡_, refl, sym, ap, _∙_, subst, true, cond, List, [], _∷_, _++_, or-false, none, some, ℕ, zero, suc}
-use Rattle.flash.proofs.Kit.{_+_, _≤_, arith, eqb, length, getD, take}
+use Rattle.flash.proofs.Kit.{_≡_, refl, sym, ap, _∙_, subst, true, cond, List, [], _∷_, _++_, or-false, none, some, ℕ, zero, suc, _+_, _≤_, arith}
+use Rattle.flash.proofs.Kit.{eqb, length, getD, take}
 use Rattle.flash.specs.Lists.{count}
 use Rattle.flash.specs.declared.sizes.Sizes.{Sizes}
 use Rattle.flash.specs.Chip.{Chip}

@@ -1,7 +1,7 @@
 -- A run that is not refused keeps what is kept: after each of its steps, once it has returned, and where it is cut.
-use Rattle.flash.proofs.Kit.{_≡_, refl, sym, ap, _∙_, subst, ⊎-elim, true, false, cond, true≢false, List, [], _∷_, _++_, ℕ}
-use Rattle.flash.proofs.Kit.{suc, _+_, _-_, _*_, _≤_, _<_, min, div-add-mod', arith, eqb, length, getD, take, drop, length-take, length-drop}
-use Rattle.flash.proofs.Kit.{take-add, take-take, getD-take, getD-drop, eqb-true}
+use Rattle.flash.proofs.Kit.{_≡_, refl, sym, ap, _∙_, subst, ⊎-elim, true, false, cond, true≢false, List, [], _∷_, _++_, ℕ, suc, _+_, _-_, _*_, _≤_}
+use Rattle.flash.proofs.Kit.{_<_, min, div-add-mod', arith, eqb, length, getD, take, drop, length-take, length-drop, take-add, take-take, getD-take}
+use Rattle.flash.proofs.Kit.{getD-drop, eqb-true}
 use Rattle.flash.specs.Lists.{count}
 use Rattle.flash.specs.Tables.{refusal}
 use Rattle.flash.specs.declared.sizes.Sizes.{Sizes}

@@ -1,6 +1,6 @@
 -- What each page holds at a place, what the step there changes of it, and the marks that say so.
-use Rattle.flash.proofs.Kit.{_≡_, refl, sym, ap, ap₂, _∙_, subst, _≢_, _⊎_, inl, inr, ⊎-elim, List, ℕ, suc, _+_, _/_, _%_, _≤_, _<_}
-use Rattle.flash.proofs.Kit.{arith, length, getD, length-map, ext-getD, lt-ltb, le-ltb}
+use Rattle.flash.proofs.Kit.{_≡_, refl, sym, ap, ap₂, _∙_, subst, _≢_, _⊎_, inl, inr, ⊎-elim, List, ℕ, suc, _+_, _/_, _%_, _≤_, _<_, arith, length}
+use Rattle.flash.proofs.Kit.{getD, length-map, ext-getD, lt-ltb, le-ltb}
 use Rattle.flash.specs.Lists.{range}
 use Rattle.flash.specs.declared.sizes.Sizes.{Sizes}
 use Rattle.flash.specs.Geometry.{slot, slotCount, marksLength, letter}

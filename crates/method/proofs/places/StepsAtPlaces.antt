@@ -1,6 +1,6 @@
 -- Places: the pass, the block that is being filled and its pages; the step at each place, and the place that it leads to.
-use Rattle.flash.proofs.Kit.{_≡_, refl, sym, ap, ap₂, _∙_, subst, _⊎_, inl, inr, ⊎-elim, List, [], _∷_, _++_, ℕ, suc, _+_, _-_, _*_, _/_}
-use Rattle.flash.proofs.Kit.{_%_, _≤_, _<_, suc-mul, div-add-mod', mod-lt, div-lt-iff-lt-mul, add-mul, arith, length, getD, List·getD-append}
+use Rattle.flash.proofs.Kit.{_≡_, refl, sym, ap, ap₂, _∙_, subst, _⊎_, inl, inr, ⊎-elim, List, [], _∷_, _++_, ℕ, suc, _+_, _-_, _*_, _/_, _%_, _≤_}
+use Rattle.flash.proofs.Kit.{_<_, suc-mul, div-add-mod', mod-lt, div-lt-iff-lt-mul, add-mul, arith, length, getD, List·getD-append}
 use Rattle.flash.proofs.Kit.{List·getD-eq-default, getD-append-add, getD-at, lt-ltb, le-ltb}
 use Rattle.flash.specs.Lists.{range, downFrom, concatMap}
 use Rattle.flash.specs.declared.sizes.Sizes.{Sizes}

@@ -1,6 +1,6 @@
 -- What is counted of the steps: over a list in two parts, over the steps from one place to another.
-use Rattle.flash.proofs.Kit.{_≡_, refl, ap, _∙_, ⊎-elim, List, [], _∷_, _++_, ℕ, zero, suc, _+_, _/_, _≤_, _<_}
-use Rattle.flash.proofs.Kit.{add-zero, arith, take, drop, drop-cons, take-add, drop-drop}
+use Rattle.flash.proofs.Kit.{_≡_, refl, ap, _∙_, ⊎-elim, List, [], _∷_, _++_, ℕ, zero, suc, _+_, _/_, _≤_, _<_, add-zero, arith, take, drop}
+use Rattle.flash.proofs.Kit.{drop-cons, take-add, drop-drop}
 use Rattle.flash.specs.declared.sizes.Sizes.{Sizes}
 use Rattle.method.specs.declared.tally.Tally.{Tally}
 use Rattle.method.specs.Place.{Operation, write, erase, done, operations, lastPlace, operationAt, filled}

@@ -1,6 +1,6 @@
 -- Two of mend's four lines that fit give the same answer.
-use Rattle.flash.proofs.Kit.{_≡_, sym, ap, ap₂, _∙_, subst, ⊎-elim, _≢_, Bool, true, _&&_, some, List, map, List·Memᴰ}
-use Rattle.flash.proofs.Kit.{List·Memᴰ·not-nil, List·Memᴰ·cases-cons, List·Memᴰ·append-cases, ℕ, zero, suc, _+_, _-_, _*_, _≤_, _<_, arith}
+use Rattle.flash.proofs.Kit.{_≡_, sym, ap, ap₂, _∙_, subst, ⊎-elim, _≢_, Bool, true, _&&_, some, List, map, List·Memᴰ, List·Memᴰ·not-nil}
+use Rattle.flash.proofs.Kit.{List·Memᴰ·cases-cons, List·Memᴰ·append-cases, ℕ, zero, suc, _+_, _-_, _*_, _≤_, _<_, arith}
 use Rattle.flash.specs.Geometry.{letter}
 use Rattle.flash.specs.Lists.{range}
 use Rattle.flash.specs.Tables.{Row}

@@ -1,5 +1,6 @@
 -- Runs add up, and from rest they lead through the states of the places.
-use Rattle.flash.proofs.Kit.{_≡_, refl, sym, ap, ap₂, _∙_, subst, true, cond, List, ℕ, zero, suc, _+_, _*_, _≤_, _<_, zero-add, arith, eqb, length, getD}
+use Rattle.flash.proofs.Kit.{_≡_, refl, sym, ap, ap₂, _∙_, subst, true, cond, List, ℕ, zero, suc, _+_, _*_, _≤_, _<_, zero-add, arith, eqb, length}
+use Rattle.flash.proofs.Kit.{getD}
 use Rattle.flash.specs.Lists.{part}
 use Rattle.flash.specs.Tables.{refusal}
 use Rattle.flash.specs.declared.sizes.Sizes.{Sizes}

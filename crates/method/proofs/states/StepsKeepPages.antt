@@ -1,6 +1,6 @@
 -- Each step of an accepted move keeps what whole pages hold: their originals, coded pages and final pages.
-use Rattle.flash.proofs.Kit.{_≡_, refl, sym, ap, ap₂, _∙_, ⊎-elim, _≢_, List, [], _∷_, ℕ, zero, suc, _+_, _-_, _*_, _/_, _%_, _≤_, _<_}
-use Rattle.flash.proofs.Kit.{mod-lt, div-add-mod', arith, length, getD}
+use Rattle.flash.proofs.Kit.{_≡_, refl, sym, ap, ap₂, _∙_, ⊎-elim, _≢_, List, [], _∷_, ℕ, zero, suc, _+_, _-_, _*_, _/_, _%_, _≤_, _<_, mod-lt}
+use Rattle.flash.proofs.Kit.{div-add-mod', arith, length, getD}
 use Rattle.flash.specs.Lists.{part}
 use Rattle.flash.specs.declared.sizes.Sizes.{Sizes}
 use Rattle.flash.specs.Geometry.{slot, slotOf, blockOf, pageOf, numberAt, originalCount, slotCount, letter}

@@ -1,6 +1,5 @@
 -- The table that a pass needs is there already, or is filled for it.
-use mathlib.Core.Bool.{Bool·beq}
-use Rattle.flash.proofs.Kit.{_≡_, refl, sym, _∙_, subst, Bool, true, false, arith}
+use Rattle.flash.proofs.Kit.{Bool·beq, _≡_, refl, sym, _∙_, subst, Bool, true, false, arith}
 use Rattle.flash.proofs.Bools.{never-both}
 use Rattle.flash.proofs.Bounds.{product-le}
 use Rattle.method.specs.Move.{moveOf}

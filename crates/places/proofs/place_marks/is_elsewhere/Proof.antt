@@ -1,5 +1,5 @@
 -- `is_elsewhere` meets its contract: the three grounds of number 5.
-use Rattle.flash.proofs.Kit.{_≡_, sym, ap, _∙_, ℕ, _≤_, arith, not-true, not-false}
+use Rattle.flash.proofs.Kit.{_≡_, sym, ap, _∙_, _≤_, arith, not-true, not-false}
 use Rattle.flash.specs.declared.sizes.Sizes.{Sizes}
 use Rattle.flash.specs.Chip.{Chip}
 use Rattle.method.specs.Place.{lastPlace}

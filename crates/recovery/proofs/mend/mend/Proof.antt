@@ -1,5 +1,6 @@
 -- `mend` meets its contract: each of its five ways out is a case of the definition.
-use Rattle.flash.proofs.Kit.{needs, _≡_, sym, ap, _∙_, ⊎-elim, true, false, cond, _||_, not, List, ℕ, _-_, _≤_, arith, eqb, length, not-true, not-false}
+use Rattle.flash.proofs.Kit.{needs, _≡_, sym, ap, _∙_, ⊎-elim, true, false, cond, _||_, not, List, ℕ, _-_, _≤_, arith, eqb, length, not-true}
+use Rattle.flash.proofs.Kit.{not-false}
 use Rattle.flash.specs.Geometry.{inRange}
 use Rattle.flash.specs.Chip.{Chip}
 use Rattle.flash.proofs.Bounds.{in-range, block-in-store, block-in-marks}
