@@ -1,20 +1,27 @@
--- A run step by step: what one step more leaves and counts.
+-- A run step by step: what one step more leaves and counts, and the work page in the end.
 use mir.Val.{boolByte}
-use Rattle.flash.proofs.Kit.{_≡_, refl, Bool, true, false, cond, List, ℕ, _+_, _-_, _≤_, _<_, min, arith, eqb}
+use Rattle.flash.proofs.Kit.{_≡_, refl, sym, ap, _∙_, _≢_, ⊎-elim, Bool, true, false, cond, List, [], ℕ, zero, suc, _+_, _-_, _*_, _≤_, _<_, min, add-one, arith, eqb, length}
 use Rattle.flash.specs.declared.sizes.Sizes.{Sizes}
+use Rattle.flash.specs.Geometry.{slot}
+use Rattle.flash.specs.Chip.{Chip, pageAt}
+use Rattle.flash.proofs.Bounds.{block-in-marks, block-in-store, slot-in-marks, slot-in-store}
+use Rattle.flash.proofs.Chips.{write-page, erase-page-other}
 use Rattle.method.specs.declared.tally.Tally.{Tally}
 use Rattle.method.specs.Move.{Move, AcceptedMove, Lent}
-use Rattle.method.specs.Place.{operationAt, lastPlace}
-use Rattle.method.specs.Step.{runningOf, Running, step, steps, nothingDone, tallied, tallyOf, operationsFrom}
+use Rattle.method.specs.Place.{Pass, forward, backward, Operation, write, erase, done, markOf, operationAt, lastPlace, passAt, filling, filled}
+use Rattle.method.specs.Step.{runningOf, Running, perform, step, steps, nothingDone, tallied, tallyOf, operationsFrom}
 use Rattle.method.specs.Answers.{isElsewhere, stepsTaken, runCarriedOut}
 use Rattle.method.proofs.basics.AcceptedCalls.{stands-at}
 use Rattle.method.proofs.states.StepsAddUp.{steps-add}
-use Rattle.method.proofs.states.StepsLeadOn.{Stood, steps-stand}
+use Rattle.method.proofs.states.StepsLeadOn.{Stood, page-length, steps-stand}
+use Rattle.method.proofs.places.PagesHeld.{Change, by-write, by-erase, change}
+use Rattle.method.proofs.places.StepsAtPlaces.{nextBlock, page-cases, backward-low, after-write, after-erase}
 use Rattle.method.proofs.places.Tallies.{tally-next, few-tallied}
 use Rattle.places.proofs.PlaceLaws.{last-small}
 use Rattle.mover.specs.Answers.{ranAs}
+use Rattle.mover.specs.inner.Steps.{lastSlot}
 
-pub none-taken : (M : Move) (place : ℕ) (run : Running) → run ≡ steps M 0 place run
+pub none-taken : (M : Move) (place : ℕ) (run : Running) → run .chip ≡ steps M 0 place run .chip
 unfolding steps
 none-taken M place run = refl
 
@@ -22,10 +29,18 @@ pub none-counted : (Z : Sizes) (place : ℕ) → nothingDone ≡ tallyOf (operat
 unfolding tallyOf operationsFrom
 none-counted Z place = refl
 
+-- what becomes of the chip does not hang on the work page
+performed : (M : Move) (run : Running) (op : Operation) → perform M op (record { chip = run .chip; work = [] }) .chip ≡ perform M op run .chip
+unfolding perform
+performed M run (write pass block page) = refl
+performed M run (erase block) = refl
+performed M run done = refl
+
 module _ (M : Move) (place i : ℕ) where
-  pub one-taken : (start run next : Running) → run ≡ steps M i place start → next ≡ step M (place + i) run → next ≡ steps M (i + 1) place start
-  unfolding steps
-  one-taken start run next e f = rw (steps-add M i 1 place start, ← e) f
+  pub one-taken : (start : Running) (chip next : Chip) → chip ≡ steps M i place start .chip → next ≡ step M (place + i) (record { chip = chip; work = [] }) .chip
+      → next ≡ steps M (i + 1) place start .chip
+  unfolding steps step
+  one-taken start chip next e f = rw (steps-add M i 1 place start) (f ∙ rw e (performed M (steps M i place start) (operationAt (M .sizes) (place + i))))
 
   pub one-counted : (tally next : Tally) → place + i < lastPlace (M .sizes) → tally ≡ tallyOf (operationsFrom (M .sizes) place i)
       → next ≡ tallied (operationAt (M .sizes) (place + i)) tally → next ≡ tallyOf (operationsFrom (M .sizes) place (i + 1))
@@ -45,15 +60,95 @@ one-or-0 false = refl
 
 pub carried : (M : Move) (store marks work : List ℕ) (place budget last taken : ℕ) (store′ marks′ work′ : List ℕ) (tally : Tally)
     → last ≡ lastPlace (M .sizes) → taken ≡ min budget (last - place)
-    → runningOf store′ marks′ work′ ≡ steps M taken place (runningOf store marks work) → tally ≡ tallyOf (operationsFrom (M .sizes) place taken)
+    → _≡_ {A = Chip} (record { store = store′; marks = marks′ }) (steps M taken place (runningOf store marks work) .chip)
+    → work′ ≡ steps M taken place (runningOf store marks work) .work → tally ≡ tallyOf (operationsFrom (M .sizes) place taken)
     → ranAs (record { number = 0; place = place + taken; tally = tally; finished = boolByte (eqb (place + taken) last) }) store′ marks′ work′
     ≡ runCarriedOut M (record { store = store; marks = marks }) work place (stepsTaken (M .sizes) place budget)
 unfolding runCarriedOut stepsTaken
-carried M store marks work place budget last taken store′ marks′ work′ tally e f L C =
+carried M store marks work place budget last taken store′ marks′ work′ tally e f L W C =
     let t : taken ≡ min budget (lastPlace (M .sizes) - place) = rw e at f in
-    rw (← t, ← e, C, ← L, one-or-0)
+    rw (← t, ← e, C, ← L, ← W, one-or-0)
 
 -- ---- a run that goes on: after so many steps it stands at the place that they lead to
-pub goes-on : (M : Move) (A : AcceptedMove M) (run : Running) (place : ℕ) → Lent (M .sizes) (run .chip) (run .work) → isElsewhere (M .sizes) (run .chip) place ≡ false
-    → (i : ℕ) → place + i ≤ lastPlace (M .sizes) → (after : Running) → after ≡ steps M i place run → Stood M A after (place + i)
-goes-on M A run place L here i h after e = rw e (steps-stand M A i place run h (record { lent = L; stands = stands-at (M .sizes) (run .chip) place here }))
+module _ (M : Move) (A : AcceptedMove M) (run : Running) (place : ℕ) (L : Lent (M .sizes) (run .chip) (run .work))
+    (here : isElsewhere (M .sizes) (run .chip) place ≡ false) where
+  open Sizes (M .sizes) using (m, p as P)
+
+  abbrev Z : Sizes
+  Z = M .sizes
+
+  abbrev after : (i : ℕ) → Running
+  after i = steps M i place run
+
+  stood : (i : ℕ) → place + i ≤ lastPlace Z → Stood M A (after i) (place + i)
+  stood i h = steps-stand M A i place run h (record { lent = L; stands = stands-at Z (run .chip) place here })
+
+  pub goes-on : (i : ℕ) → place + i ≤ lastPlace Z → (chip : Chip) → chip ≡ after i .chip → Stood M A (record { chip = chip; work = after i .work }) (place + i)
+  goes-on i h chip e = rw e (stood i h)
+
+  -- ---- its work page: the old one where nothing was written, or else the page of the slot that was written last
+  abbrev writesIn : (i : ℕ) → ℕ
+  writesIn i = tallyOf (operationsFrom Z place i) .writes
+
+  pub record WorkLeft (i : ℕ) : Type 0 where
+    pub old : writesIn i ≡ 0 → after i .work ≡ run .work
+    pub new : 0 < writesIn i → after i .work ≡ pageAt P (after i .chip) (lastSlot Z (place + i - 1))
+
+  -- an erase comes behind the write of the last page of the block that was filled, and erases another
+  behind-full : (at : ℕ) → suc at ≤ lastPlace Z → filled Z (suc at) ≡ m → lastSlot Z at ≡ slot m (filling Z (suc at)) (m - 1)
+  behind-full at h full = ⊎-elim
+      (λ (k : filled Z at < m).
+      let S = after-write Z at (omega arith) k in
+      let page : min (filled Z at) (m - 1) ≡ m - 1 = omega (arith, S .pages-is) in
+      rw (S .block-is, page))
+      (λ (k : filled Z at ≡ m). absurd (omega (arith, after-erase Z at (omega arith) k .pages-is, A .ranges .m-low)))
+      (page-cases Z at)
+
+  next-other : (at : ℕ) → at < lastPlace Z → (pass : Pass) → passAt Z at ≡ pass → filling Z at ≢ nextBlock pass (filling Z at)
+  next-other at h forward e f = omega arith
+  next-other at h backward e f = omega (arith, backward-low Z at h e)
+
+  module _ (i : ℕ) (on : place + i < lastPlace Z) (before : WorkLeft i) where
+    abbrev at : ℕ
+    at = place + i
+
+    last-is : place + (i + 1) - 1 ≡ at
+    last-is = omega arith
+
+    done-is : (op : Operation) → operationAt Z at ≡ op → (after (i + 1) ≡ perform M op (after i)) × (writesIn (i + 1) ≡ tallied op (tallyOf (operationsFrom Z place i)) .writes)
+    unfolding steps step
+    done-is op is = rw (← is) (steps-add M i 1 place run, ap (λ (t : Tally). t .writes) (tally-next Z place i on))
+
+    work-next : Change Z at → WorkLeft (i + 1)
+    unfolding perform tallied
+    work-next (by-write room op W) =
+        let S = stood i (omega arith) in
+        let d = done-is _ op in
+        let t : ℕ = slot m (filling Z at) (filled Z at) in
+        let page : min (filled Z at) (m - 1) ≡ filled Z at = omega arith in
+        let whole = page-length M A at on room (after i .chip) (after i .work) (S .lent) (S .stands) in
+        let fits : t * P + P ≤ length (after i .chip .store) = rw (S .lent .store-length) (slot-in-store Z t (slot-in-marks Z (filling Z at) (filled Z at) (W .block-in) (W .page-in))) in
+        record {
+          old = λ e. absurd (omega (arith, d .1));
+          new = λ e. rw (d .0, last-is, page) (sym (write-page P t _ (markOf Z (passAt Z at)) (after i .chip) fits whole));
+        }
+    work-next (by-erase full op E) =
+        let S = stood i (omega arith) in
+        let d = done-is _ op in
+        let b : ℕ = nextBlock (passAt Z at) (filling Z at) in
+        let page : min (filled Z at) (m - 1) ≡ m - 1 = omega arith in
+        let stays = erase-page-other m P b (after i .chip) (rw (S .lent .store-length) (block-in-store Z b (E .block-in)))
+        (rw (S .lent .marks-length) (block-in-marks Z b (E .block-in))) (m - 1) (omega (arith, A .ranges .m-low)) (filling Z at) (next-other at on (passAt Z at) refl) in
+        record {
+          old = λ e. rw (d .0) (before .old (sym (d .1) ∙ e));
+          new = λ e.
+              let some : 0 < writesIn i = omega (arith, d .1) in
+              let back : suc (at - 1) ≡ at = omega (arith, few-tallied Z i place (omega arith) .1) in
+              let behind : lastSlot Z (at - 1) ≡ slot m (filling Z at) (m - 1) = rw back at (behind-full (at - 1) (omega arith) (rw back full)) in
+              rw (d .0, last-is, page) (before .new some ∙ ap (pageAt P (after i .chip)) behind ∙ sym stays);
+        }
+
+  pub work-left : (i : ℕ) → place + i ≤ lastPlace Z → WorkLeft i
+  unfolding steps
+  work-left zero h = record { old = λ e. refl; new = λ e. absurd (omega (arith, few-tallied Z 0 place h .1)) }
+  work-left (suc i) h = rw (← add-one i) (work-next i (omega arith) (work-left i (omega arith)) (change Z (place + i) (omega arith)))

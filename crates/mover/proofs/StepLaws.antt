@@ -1,11 +1,11 @@
 -- What a step does: what a write sums, and the operation that a place has.
-use Rattle.flash.proofs.Kit.{_≡_, refl, sym, ap, _∙_, subst, ⊎-elim, Bool, true, false, cond, List, ℕ, _+_, _-_, _*_, _≤_, _<_, min, add-one, arith}
-use Rattle.flash.proofs.Kit.{eq-eqb, eqb-true, length, getD, take, drop, length-map, ext-getD, zero-add}
-use Rattle.flash.specs.Lists.{range, first, part}
+use Rattle.flash.proofs.Kit.{_≡_, refl, sym, ap, _∙_, subst, ⊎-elim, Bool, true, false, cond, List, [], ℕ, _+_, _-_, _*_, _≤_, _<_, min, add-one, arith}
+use Rattle.flash.proofs.Kit.{eq-eqb, eqb-true, length, getD, set, take, drop, length-map, ext-getD, zero-add}
+use Rattle.flash.specs.Lists.{range, first, part, setPart}
 use Rattle.flash.specs.declared.sizes.Sizes.{Sizes}
 use Rattle.flash.specs.Geometry.{slot, numberAt, blockOf, originalCount}
 use Rattle.flash.specs.PageSum.{sum}
-use Rattle.flash.specs.Chip.{Chip, pageAt, writePage, eraseBlock}
+use Rattle.flash.specs.Chip.{Chip, pageAt, writePage}
 use Rattle.flash.proofs.Comparisons.{lt-cases}
 use Rattle.flash.proofs.Ranges.{length-range, first-hit}
 use Rattle.split.specs.Split.{setOf}
@@ -13,7 +13,7 @@ use Rattle.split.specs.inner.Rows.{ByDestination}
 use Rattle.method.specs.declared.tally.Tally.{Tally}
 use Rattle.method.specs.Move.{Move, AcceptedMove}
 use Rattle.method.specs.Cycle.{D, sentTo}
-use Rattle.method.specs.Place.{Pass, Operation, write, erase, markOf, lastPlace, operationAt, passAt, filling, marksOf}
+use Rattle.method.specs.Place.{Pass, Operation, write, markOf, lastPlace, operationAt, passAt, filling, marksOf}
 use Rattle.method.specs.Step.{runningOf, writeSlots, writtenPage, perform, Running, step, tallied}
 use Rattle.method.proofs.basics.Indexes.{clash, slot-lt, map-range-at}
 use Rattle.method.proofs.cycles.SetCycles.{set-in, block-in, D-page, D-is, sent-in, entry-sent}
@@ -29,15 +29,14 @@ use Rattle.walk.proofs.MomentLaws.{tells}
 use Rattle.mover.specs.inner.Steps.{hasOriginal, setsBy, moveBy, OtherTable, PassTables}
 
 -- ---- a write
-module _ (M : Move) (pass : Pass) (block page : ℕ) (store marks work : List ℕ) where
+module _ (M : Move) (pass : Pass) (block page : ℕ) (store marks : List ℕ) where
   open Sizes (M .sizes) using (m, p as P)
 
-  pub wrote : (slots new store′ marks′ : List ℕ) (count mark : ℕ) → new ≡ sum (λ t. part P t store) (take count slots)
+  pub wrote : (slots store′ : List ℕ) (count mark : ℕ) → store′ ≡ setPart P (slot m block page) store (sum (λ t. part P t store) (take count slots))
       → SumsAs (take count slots) (writeSlots M pass block page marks) → mark ≡ markOf (M .sizes) pass
-      → _≡_ {A = Chip} (record { store = store′; marks = marks′ }) (writePage P (slot m block page) new mark (record { store = store; marks = marks }))
-      → runningOf store′ marks′ new ≡ perform M (write pass block page) (runningOf store marks work)
-  unfolding perform writtenPage pageAt
-  wrote slots new store′ marks′ count mark e S f g = (let w = e ∙ S .sums (λ t. part P t store) in rw (← w, ← f, ← g))
+      → _≡_ {A = Chip} (record { store = store′; marks = set marks (slot m block page) mark }) (perform M (write pass block page) (runningOf store marks []) .chip)
+  unfolding perform writtenPage pageAt writePage
+  wrote slots store′ count mark e S f = rw (e, S .sums (λ t. part P t store), f)
 
 -- the set of the page that goes to a page of a block
 pub set-sent : (M : Move) → AcceptedMove M → (other : List ℕ) → ByDestination (M .list) (M .sets) other → (b page : ℕ) → 1 ≤ b → b ≤ M .sizes .n → page < M .sizes .m
@@ -86,18 +85,12 @@ module _ (M : Move) (A : AcceptedMove M) (pages : List ℕ) (T : PagesTable M pa
       → PassTables (moveBy (M .sizes) (M .list) pages) isBackward pages other
   pass-tables isBackward other O room = rw sets-told (record { accepted = A; pages-tell = T; other-tells = O; room = room })
 
--- ---- the other steps, and the step at a place
-pub erased : (M : Move) (block : ℕ) (store marks work store′ marks′ : List ℕ)
-    → _≡_ {A = Chip} (record { store = store′; marks = marks′ }) (eraseBlock (M .sizes .m) (M .sizes .p) block (record { store = store; marks = marks }))
-    → runningOf store′ marks′ work ≡ perform M (erase block) (runningOf store marks work)
-unfolding perform
-erased M block store marks work store′ marks′ e = rw (← e)
-
+-- ---- the step at a place
 pub stepped : (M : Move) (at : ℕ) (op : Operation) → operationAt (M .sizes) at ≡ op
-    → (run after : Running) (tally next : Tally) → after ≡ perform M op run → next ≡ tallied op tally
-    → (after ≡ step M at run) × (next ≡ tallied (operationAt (M .sizes) at) tally)
+    → (run : Running) (after : Chip) (tally next : Tally) → after ≡ perform M op run .chip → next ≡ tallied op tally
+    → {Room : Type 0} → Room → (after ≡ step M at run .chip) × ((next ≡ tallied (operationAt (M .sizes) at) tally) × Room)
 unfolding step
-stepped M at op is run after tally next e f = rw is (e, f)
+stepped M at op is run after tally next e f room = rw is (e, (f, room))
 
 -- ---- what is known where a page is written: the pass, and what the other blocks are full of
 told-by : (t : Bool) → (isBackward (passOf t) ≡ t) × (letterAbove (passOf t) ≡ cond t 2 0)

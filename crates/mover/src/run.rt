@@ -1,16 +1,21 @@
 // The run: as many steps as the budget allows.
 ghost use mathlib.Core.Path.{_≡_};
 ghost use mathlib.Core.Bool.{false};
-ghost use Prim.Native.Nat.{min};
+ghost use Prim.Native.Nat.{min, _≤_};
+ghost use lib.ListN.{length};
+ghost use Rattle.flash.specs.Lists.{part};
+ghost use Rattle.flash.specs.Geometry.{Bounds, storeLength};
 ghost use Rattle.split.specs.Request.{requestOf};
 ghost use Rattle.split.specs.inner.Rows.{ByDestination};
 ghost use Rattle.method.specs.Move.{moveOf, AcceptedMove, Lent};
+ghost use Rattle.method.specs.Place.{lastPlace};
 ghost use Rattle.method.specs.Step.{nothingDone};
 ghost use Rattle.method.specs.Answers.{isElsewhere, stepsTaken, runCarriedOut, runAnswer};
 ghost use Rattle.mover.specs.Answers.{ranAs};
-ghost use Rattle.mover.specs.inner.Steps.{OtherTable};
+ghost use Rattle.mover.specs.inner.Steps.{OtherTable, lastSlot};
 use crate::refusals::move_refusal;
 use crate::step::step;
+use flash::bytes::copy;
 use flash::quotient::reciprocal;
 use flash::sizes::Sizes;
 use method::tally::Tally;
@@ -21,6 +26,7 @@ use split::rows::sets_by_destination;
 use walk::rows::TABLE;
 use walk::rows::pages_table;
 use walk::rows::sources_table;
+use walk::walk::SLOTS;
 
 // What a run returns: the refusal number, and 0 in every other number with it. `finished` is 1, or 0 for stopped.
 pub struct RunResult {
@@ -58,6 +64,17 @@ fn smaller(a: usize, b: usize) -> usize
     if a < b { a } else { b }
 }
 
+// The last page that was written goes into the work page. The step `at` is its write, or the erase that follows it.
+fn keep_last_page(sizes: Sizes, store: &[u8], at: usize, work: &mut [u8])
+    requires { ⌜ Bounds sizes × (at ≤ lastPlace sizes) × (length (now store) ≡ storeLength sizes) × (length (now work) ≡ sizes .p) ⌝ }
+    ensures { λ _. ⌜ now (work .exit) ≡ part (sizes .p) (lastSlot sizes at) (now (store .entry)) ⌝ }
+{
+    let last = Place::new(sizes, at);
+    let slot = last.block * sizes.m + smaller(last.page, sizes.m - 1);
+    let start = slot * sizes.p;
+    copy(work, &store[start..start + sizes.p]);
+}
+
 // Carries out a run that is not refused. The other table holds the sets by destination, as the check of the move left it.
 fn carry_out(
     sizes: Sizes,
@@ -78,6 +95,7 @@ fn carry_out(
 {
     let mut pages = [0u8; TABLE];
     pages_table(sizes, sets, &mut pages);
+    let mut slots = [0usize; SLOTS];
     let last = last_place(sizes);
     let taken = smaller(budget, last - place);
     let reciprocal = reciprocal(sizes.m);
@@ -99,9 +117,9 @@ fn carry_out(
             list,
             &pages,
             other,
+            &mut slots,
             store,
             marks,
-            work,
             at,
             tally,
         );
@@ -109,6 +127,9 @@ fn carry_out(
         i += 1;
     }
     let reached = place + taken;
+    if 0 < tally.writes {
+        keep_last_page(sizes, store, reached - 1, work);
+    }
     let finished = (reached == last) as u32;
     let place = reached as u32;
     RunResult {

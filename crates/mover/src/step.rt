@@ -1,12 +1,12 @@
 // One step of the move: a page is written or a block is erased.
 ghost use mathlib.Core.Path.{_≡_};
+ghost use mathlib.Core.Logic.{_≢_};
 ghost use mathlib.Core.Bool.{true, false};
-ghost use mathlib.Core.List.{List};
+ghost use mathlib.Core.List.{List, []};
 ghost use Prim.Native.Nat.{ℕ, _+_, _-_, _*_, _≤_, _<_};
 ghost use lib.ListN.{length, getD, take, drop};
-ghost use Rattle.flash.specs.Geometry.{slotCount};
+ghost use Rattle.flash.specs.Geometry.{slotCount, storeLength, marksLength};
 ghost use Rattle.flash.specs.inner.Reciprocal.{reciprocalOf};
-ghost use Rattle.method.specs.Move.{Lent};
 ghost use Rattle.method.specs.Place.{marksOf, operationAt};
 ghost use Rattle.method.specs.Step as method;
 ghost use Rattle.method.specs.Step.{runningOf, writeSlots, tallied};
@@ -17,9 +17,8 @@ ghost use Rattle.places.specs.inner.Place.{passOf, placeOf};
 ghost use Rattle.mover.specs.inner.Steps.{moveBy, PassTables};
 use flash::block::erase_block;
 use flash::casts::wide;
-use flash::page::write_page;
 use flash::sizes::Sizes;
-use flash::slots::sum_to_page;
+use flash::slots::sum_to_slot;
 use method::tally::Tally;
 use places::place::Op;
 use places::place::Place;
@@ -55,7 +54,7 @@ fn write_slots(
     requires { ⌜ (reciprocal ≡ reciprocalOf (sizes .m)) × (length (now slots) ≡ slotsLength) × (page < sizes .m) × (block ≤ sizes .n)
         × (backward ≡ true → 1 ≤ block) × (backward ≡ false → block + 1 ≤ sizes .n) ⌝ }
     ensures { λ r. ⌜ (1 ≤ r) × (r ≤ slotsLength) × (length (now (slots .exit)) ≡ slotsLength)
-        × ((j : ℕ) → j < r → getD (now (slots .exit)) j 0 < slotCount sizes) ⌝ }
+        × ((j : ℕ) → j < r → (getD (now (slots .exit)) j 0 < slotCount sizes) × (getD (now (slots .exit)) j 0 ≢ block * sizes .m + page)) ⌝ }
     ensures { λ r. ⌜ ((marks : List ℕ)
         → Tells (moveBy sizes (now (list .entry)) (now (pages .entry))) marks (momentIn backward (sizes .n) block (block + 1))
         → SumsAs (take r (now (slots .exit)))
@@ -69,27 +68,27 @@ fn write_slots(
     forward_slots(sizes, page, row(pages, page), sources, block + 1, slots)
 }
 
-// Does the step at a place, and counts it.
+// Does the step at a place, and counts it. A page is summed where it is to lie; the slots that are gathered for that are of no use after.
 pub fn step(
     sizes: Sizes,
     reciprocal: usize,
     list: &[u16],
     pages: &[u8],
     other: &[u8],
+    slots: &mut [usize; SLOTS],
     store: &mut [u8],
     marks: &mut [u8],
-    work: &mut [u8],
     place: Place,
     mut tally: Tally,
 ) -> Tally
     requires { ⌜ PassTables (moveBy sizes (now list) (now pages)) (place .backward) (now pages) (now other) ⌝ }
     requires { ⌜ (reciprocal ≡ reciprocalOf (sizes .m)) × (place ≡ placeOf sizes (place .at)) × (now marks ≡ marksOf sizes (place .at))
-        × Lent sizes (record { store = now store; marks = now marks }) (now work)
+        × (length (now slots) ≡ slotsLength) × (length (now store) ≡ storeLength sizes) × (length (now marks) ≡ marksLength sizes)
         × ((tally .steps ≤ 8320) × (tally .writes ≤ 8320) × (tally .erases ≤ 8320)) ⌝ }
-    ensures { λ _. ⌜ runningOf (now (store .exit)) (now (marks .exit)) (now (work .exit))
-        ≡ method.step (moveBy sizes (now (list .entry)) (now (pages .entry))) (place .at)
-        (runningOf (now (store .entry)) (now (marks .entry)) (now (work .entry))) ⌝ }
-    ensures { λ r. ⌜ r ≡ tallied (operationAt sizes (place .at)) tally ⌝ }
+    ensures { λ _. ⌜ record { store = now (store .exit); marks = now (marks .exit) }
+        ≡ (method.step (moveBy sizes (now (list .entry)) (now (pages .entry))) (place .at)
+        (runningOf (now (store .entry)) (now (marks .entry)) [])) .chip ⌝ }
+    ensures { λ r. ⌜ (r ≡ tallied (operationAt sizes (place .at)) tally) × (length (now (slots .exit)) ≡ slotsLength) ⌝ }
 {
     match place.operation(sizes) {
         Op::Write {
@@ -98,7 +97,6 @@ pub fn step(
             page,
             mark,
         } => {
-            let mut slots = [0usize; SLOTS];
             let count = write_slots(
                 sizes,
                 reciprocal,
@@ -108,11 +106,11 @@ pub fn step(
                 backward,
                 block,
                 page,
-                &mut slots,
+                slots,
             );
-            // by way of the work page
-            sum_to_page(store, sizes.p, &slots, count, work);
-            write_page(store, marks, sizes.p, block * sizes.m + page, work, mark);
+            let slot = block * sizes.m + page;
+            sum_to_slot(store, sizes.p, slots, count, slot);
+            marks[slot] = mark;
             tally.steps += 1;
             tally.writes += 1;
             tally

@@ -1,10 +1,9 @@
--- The walks by the rows of a set, turn by turn: they are read's rules 2 and 3, and their slots are slots of the store.
-use Rattle.flash.proofs.Kit.{_≡_, refl, sym, ap, _∙_, ⊎-elim, Bool, true, false, cond, _||_, List, [], _∷_, ℕ, zero, suc, _+_, _-_, _*_, _/_, _≤_}
-use Rattle.flash.proofs.Kit.{_<_, not-suc-le-zero, suc-mul, div-add-mod', add-one, arith, eqb, leb, length, getD, drop, eqb-true, eq-eqb, le-leb}
-use Rattle.flash.proofs.Kit.{lt-leb}
+-- The walks by the rows of a set, turn by turn: they are read's rules 2 and 3, and their slots are slots of the store, none the one that is written.
+use Rattle.flash.proofs.Kit.{_≡_, refl, sym, ap, _∙_, _≢_, ⊎-elim, Bool, true, false, cond, _||_, List, [], _∷_, ℕ, zero, suc, _+_, _-_, _*_, _/_, _%_, _≤_, _<_}
+use Rattle.flash.proofs.Kit.{not-suc-le-zero, suc-mul, div-add-mod', mod-lt, add-one, arith, eqb, leb, length, getD, drop, eqb-true, eq-eqb, ne-eqb, le-leb, lt-leb, leb-true, leb-false}
 use Rattle.flash.specs.declared.sizes.Sizes.{Sizes}
-use Rattle.flash.specs.Geometry.{blockOf, slotOf, numberAt, slotCount}
-use Rattle.flash.proofs.Bools.{bool-cases, bool-eq}
+use Rattle.flash.specs.Geometry.{slot, blockOf, slotOf, numberAt, slotCount}
+use Rattle.flash.proofs.Bools.{bool-cases, bool-eq, or-false-left}
 use Rattle.flash.proofs.Bounds.{slot-in-marks}
 use Rattle.split.specs.Split.{destBlock}
 use Rattle.split.proofs.SplitLaws.{block-range}
@@ -25,13 +24,9 @@ module _ (Q : ℕ → Type 0) where
   each-none : Each Q []
   each-none i h = absurd (not-suc-le-zero h)
 
-  each-cond : (t : Bool) (xs ys : List ℕ) → Each Q xs → Each Q ys → Each Q (cond t xs ys)
-  each-cond true xs ys a b = a
-  each-cond false xs ys a b = b
-
-  each-rest : (xs : List ℕ) → Each Q xs → Each Q (drop 1 xs)
-  each-rest [] a = a
-  each-rest (x ∷ xs) a = λ i h. a (suc i) (omega arith)
+  each-cond : (t : Bool) (xs ys : List ℕ) → (t ≡ true → Each Q xs) → (t ≡ false → Each Q ys) → Each Q (cond t xs ys)
+  each-cond true xs ys a b = a refl
+  each-cond false xs ys a b = b refl
 
 -- ---- walks
 module _ (next slotAt : ℕ → ℕ) (last : ℕ → List ℕ) (ends : ℕ → Bool) where
@@ -51,15 +46,21 @@ module _ (next slotAt : ℕ → ℕ) (last : ℕ → List ℕ) (ends : ℕ → B
     walk-same zero v h = refl
     walk-same (suc bound) v h = let s = same v h in rw (s .0, s .2, s .3, walk-same bound (next′ v) (s .1))
 
-  -- what holds of all its slots
-  module _ (Q In : ℕ → Type 0) (at : (v : ℕ) → In v → Q (slotAt v) × Each Q (last v) × In (next v)) where
+  -- what holds of all its slots, and of all but the first, whose block may be another than those that it goes on to
+  module _ (Q From In : ℕ → Type 0) (at : (v : ℕ) → In v → From v × Q (slotAt v))
+      (on : (v : ℕ) → From v → (ends v ≡ true → Each Q (last v)) × (ends v ≡ false → In (next v))) where
     walk-each : (bound v : ℕ) → In v → Each Q (walkBy next slotAt last ends bound v)
     unfolding walkBy
     walk-each zero v h = each-none Q
     walk-each (suc bound) v h =
-        let a = at v h in
+        let o = on v (at v h .0) in
         let rest : List ℕ = walkBy next slotAt last ends bound (next v) in
-        each-cons Q (slotAt v) (cond (ends v) (last v) rest) (a .0) (each-cond Q (ends v) (last v) rest (a .1) (walk-each bound (next v) (a .2)))
+        each-cons Q (slotAt v) (cond (ends v) (last v) rest) (at v h .1) (each-cond Q (ends v) (last v) rest (o .0) (λ e. walk-each bound (next v) (o .1 e)))
+
+    walk-rest : (bound v : ℕ) → 0 < bound → From v → Each Q (drop 1 (walkBy next slotAt last ends bound v))
+    walk-rest bound v some h =
+        let o = on v h in
+        rw (walk-turn bound v some) (each-cond Q (ends v) (last v) (walkBy next slotAt last ends (bound - 1) (next v)) (o .0) (λ e. walk-each (bound - 1) (next v) (o .1 e)))
 
 module _ (f slotAt : ℕ → ℕ) where
   pub length-way : (last : ℕ → List ℕ) (d b : ℕ) → length (way f slotAt last d b) ≡ suc d + length (last (iterate f d b))
@@ -163,40 +164,58 @@ module _ (M : Move) (A : AcceptedMove M) (set : ℕ) (set-ok : set < M .sizes .m
             rw (on, length-way (dest M set) (codedAt m set) (onLast M marks set) d w) (omega (arith, e .1)),
           )
 
--- ---- the slots of a walk are slots of the store
-module _ (Z : Sizes) (set : ℕ) (set-ok : set < Z .m) (pages : List ℕ) (P : PagesIn (Z .n) (Z .m) pages) where
+-- ---- the slots of a walk are slots of the store, and none of them is the one that is written
+module _ (Z : Sizes) (set : ℕ) (set-ok : set < Z .m) (pages : List ℕ) (P : PagesIn (Z .n) (Z .m) pages) (page : ℕ) (page-ok : page < Z .m) where
   open Sizes Z using (n, m)
 
-  abbrev Stored : ℕ → Type 0
-  Stored t = t < slotCount Z
+  abbrev Read : (block t : ℕ) → Type 0
+  Read block t = (t < slotCount Z) × (t ≢ slot m block page)
 
-  coded-in : (v : ℕ) → DataBlock n v → Stored (codedAt m set v)
-  coded-in v b = slot-in-marks Z (v - 1) set (omega (arith, b .high)) set-ok
+  -- the coded pages lie in blocks below, the others in blocks above
+  coded-in : (block v : ℕ) → DataBlock n v → v ≤ block → Read block (codedAt m set v)
+  coded-in block v b low =
+      (slot-in-marks Z (v - 1) set (omega (arith, b .high)) set-ok, λ e. omega (arith, slot-lt m (v - 1) set block (omega (arith, b .low)) set-ok))
 
-  plain-in : (v : ℕ) → DataBlock n v → Stored (plainAt m pages v)
-  plain-in v b = slot-in-marks Z v (entryOf pages v) (b .high) (P .page-lt v (b .low) (b .high))
+  above-in : (block v q : ℕ) → v ≤ n → q < m → block < v → Read block (slot m v q)
+  above-in block v q high q-in up = (slot-in-marks Z v q high q-in, λ e. omega (arith, slot-lt m block page v up page-ok))
 
-  pub backward-stored : (list : List ℕ) → ListIn n m list → (b : ℕ) → DataBlock n b → Each Stored (backwardBy m list set pages n b)
-  backward-stored list L b =
+  pub backward-read : (list : List ℕ) → ListIn n m list → (b : ℕ) → DataBlock n b → Each (Read b) (backwardBy m list set pages n b)
+  backward-read list L b b-in =
       let to : ℕ → ℕ = sentBy m list pages in
-      walk-each (λ c. blockOf m (to c)) (codedAt m set) _ _ Stored (DataBlock n)
+      let next : ℕ → ℕ = λ c. blockOf m (to c) in
+      walk-each next (codedAt m set) _ _ (Read b) (DataBlock n) (λ c. DataBlock n c × (c ≤ b))
+      (λ c h. (h .0, coded-in b c (h .0) (h .1)))
       (λ c h.
       let k-in = slot-lt m (c - 1) (entryOf pages c) n (omega (arith, h .low, h .high)) (P .page-lt c (h .low) (h .high)) in
-      let to-lt = L .entry-lt (numberAt m c (entryOf pages c)) k-in in
-      let r = block-range n m (to c) to-lt in
-      let final-in = each-one Stored (to c + m) (omega (arith, suc-mul n m, add-one n)) in
-      (coded-in c h, each-cond Stored (leb (b + 1) (blockOf m (to c))) _ [] final-in (each-none Stored), record { low = r .0; high = r .1 }))
-      n b
+      let r = block-range n m (to c) (L .entry-lt (numberAt m c (entryOf pages c)) k-in) in
+      let final-in : leb (b + 1) (next c) ≡ true → Each (Read b) ((to c + m) ∷ []) = λ e.
+      let up = leb-true (b + 1) (next c) e in
+      each-one (Read b) (to c + m) (rw (home-is m (to c)) (above-in b (next c) (to c % m) (r .1) (mod-lt (to c) (omega arith)) (omega arith))) in (
+        λ e. each-cond (Read b) (leb (b + 1) (next c)) _ [] final-in (λ f. each-none (Read b)),
+        λ e.
+            let low = leb-false (b + 1) (next c) (or-false-left (leb (b + 1) (next c)) (eqb (next c) b) e) in
+            (record { low = r .0; high = r .1 }, omega arith),
+      ))
+      n b (b-in, omega arith)
 
-  pub forward-stored : (sources : List ℕ) → BlocksIn n sources → (i : ℕ) → DataBlock n i → Each Stored (forwardBy m set pages sources n i)
+  pub forward-read : (sources : List ℕ) → BlocksIn n sources → (block : ℕ) → DataBlock n (block + 1) → Each (Read block) (forwardBy m set pages sources n (block + 1))
   unfolding forwardBy
-  forward-stored sources S i b =
+  forward-read sources S block i-in =
+      let Q : ℕ → Type 0 = Read block in
+      let i : ℕ = block + 1 in
       let own : ℕ = plainAt m pages i in
-      let all : List ℕ = backBy m set pages sources i 0 n i in
-      let all-in : Each Stored all = walk-each (entryOf sources) (codedAt m set) _ _ Stored (DataBlock n)
+      let rest : List ℕ = drop 1 (backBy m set pages sources i 0 n i) in
+      let plain-in : (v : ℕ) → DataBlock n v → i ≤ v → Q (plainAt m pages v) = λ v b up.
+      above-in block v (entryOf pages v) (b .high) (P .page-lt v (b .low) (b .high)) (omega arith) in
+      let own-in = plain-in i i-in (omega arith) in
+      let rest-in : Each Q rest = walk-rest (entryOf sources) (codedAt m set) _ _ Q (DataBlock n) (λ c. DataBlock n c × (c < i))
+      (λ c h. (h .0, coded-in block c (h .0) (omega (arith, h .1))))
       (λ c h.
-      let u-in : DataBlock n (entryOf sources c) = record { low = S .low c (h .low) (h .high); high = S .high c (h .low) (h .high) } in
-      (coded-in c h, each-cond Stored (eqb c 0) [] _ (each-none Stored) (each-one Stored (plainAt m pages (entryOf sources c)) (plain-in (entryOf sources c) u-in)), u-in))
-      n i b in
-      each-cond Stored (eqb (getD (own ∷ drop 1 all) (length (drop 1 all)) 0) own) (own ∷ []) (own ∷ drop 1 all) (each-one Stored own (plain-in i b))
-      (each-cons Stored own (drop 1 all) (plain-in i b) (each-rest Stored all all-in))
+      let u : ℕ = entryOf sources c in
+      let u-in : DataBlock n u = record { low = S .low c (h .low) (h .high); high = S .high c (h .low) (h .high) } in
+      let not-0 : eqb c 0 ≡ false = ne-eqb c 0 (λ z. omega (arith, h .low)) in (
+        λ e. rw not-0 (each-one Q (plainAt m pages u) (plain-in u u-in (leb-true i u (rw not-0 at e)))),
+        λ e. (u-in, leb-false i u (rw not-0 at e)),
+      ))
+      n i (omega (arith, i-in .low, i-in .high)) i-in in
+      each-cond Q (eqb (getD (own ∷ rest) (length rest) 0) own) (own ∷ []) (own ∷ rest) (λ e. each-one Q own own-in) (λ e. each-cons Q own rest own-in rest-in)

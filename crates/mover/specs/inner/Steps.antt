@@ -2,14 +2,15 @@
 use mathlib.Core.Path.{_≡_}
 use mathlib.Core.Bool.{Bool, true, false}
 use mathlib.Core.List.{List, map}
-use Prim.Native.Nat.{ℕ}
+use Prim.Native.Nat.{ℕ, _-_, min}
 use lib.Dec.{eqb}
 use lib.ListN.{length}
 use Rattle.flash.specs.Lists.{range, first, part}
 use Rattle.flash.specs.declared.sizes.Sizes.{Sizes}
-use Rattle.flash.specs.Geometry.{originalCount, blockOf, numberAt}
+use Rattle.flash.specs.Geometry.{slot, originalCount, blockOf, numberAt}
 use Rattle.split.specs.inner.Rows.{ByDestination}
 use Rattle.method.specs.Move.{Move, moveOf, AcceptedMove}
+use Rattle.method.specs.Place.{filling, filled}
 use Rattle.walk.specs.inner.Rows.{rowLength, tableLength, entryOf, PagesTable, SourcesTable}
 
 -- The sets that a table of pages tells: an original is of the set whose row has it at its block.
@@ -34,3 +35,7 @@ pub record PassTables (M : Move) (isBackward : Bool) (pages other : List ℕ) : 
   pub pages-tell : PagesTable M pages
   pub other-tells : OtherTable M isBackward other
   pub room : length other ≡ tableLength
+
+-- the slot of the last write, told by the step: its own, or that of the block's last page where the step is the erase behind it
+abbrev pub lastSlot : Sizes → (at : ℕ) → ℕ
+lastSlot Z at = slot (Z .m) (filling Z at) (min (filled Z at) (Z .m - 1))

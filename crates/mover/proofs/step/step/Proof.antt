@@ -7,12 +7,12 @@ use Rattle.method.specs.Step.{perform, tallied}
 use Rattle.places.specs.inner.Place.{passOf}
 use Rattle.places.proofs.StepTold.{IsWrite, is-write, IsErase, is-erase, told-done}
 use Rattle.mover.specs.inner.Steps.{moveBy, PassTables}
-use Rattle.mover.proofs.StepLaws.{wrote, erased, stepped, WriteKnown, write-known}
+use Rattle.mover.proofs.StepLaws.{wrote, stepped, WriteKnown, write-known}
 use Rattle.mover.proofs.step.step.Statement.{statement}
 use Rattle.mover.proofs.step.step.Tie as tie
 
 abbrev start : tie.After-operation → tie.Start
-start c = c .before .before .before .before .before .before .before
+start c = c .before .before .before .before .before .before
 
 abbrev moved : tie.Start → Move
 moved c = moveBy (c .args .sizes) (c .args .list .now) (c .args .pages .now)
@@ -51,41 +51,32 @@ write-slots-requires c κs =
     let s = start (c .before .before .before .before) in
     let W = writes (c .before .before) in
     let tables = subst (λ (t : Bool). PassTables (moved s) t (s .args .pages .now) (s .args .other .now)) (known (c .before .before) .pass-is) (s .pre .0) in
-    (tables, (s .pre .1 .0, refl, W .page-in, W .block-in, W .low, W .high))
+    (tables, (s .pre .1 .0, s .pre .1 .3, W .page-in, W .block-in, W .low, W .high))
 
-slice-aggregate-sum-to-page : tie.Need-slice-aggregate-sum-to-page
-slice-aggregate-sum-to-page c = sym (c .before .before .write-slots .ensures .0 .2)
+mul-slot : tie.Need-mul-slot
+mul-slot c = omega (arith, inside (c .before .before .before .before))
 
-sum-to-page-requires : tie.Need-sum-to-page-requires
-sum-to-page-requires c κs =
-    let s = start (c .before .before .before .before .before .before .before .before) in
-    let L = s .pre .1 .3 in
-    let F = c .before .before .before .write-slots .ensures .0 in
-    ((F .0, omega (arith, F .1, F .2), omega (arith, F .1), L .work-length), (λ j h. rw (L .store-length) (slot-in-store (s .args .sizes) _ (F .3 j h))))
+add-slot : tie.Need-add-slot
+add-slot c = omega (arith, inside (c .before .before .before .before))
 
-mul-write-page : tie.Need-mul-write-page
-mul-write-page c = omega (arith, inside (c .before .before .before .before .before .before .before .before .before .before .before .before))
-
-add-write-page : tie.Need-add-write-page
-add-write-page c = omega (arith, inside (c .before .before .before .before .before .before .before .before .before .before .before .before))
-
-write-page-requires : tie.Need-write-page-requires
-write-page-requires c κs =
-    let b = c .before .before .before .before .before .before .before .before .before .before .before .before .before in
+sum-to-slot-requires : tie.Need-sum-to-slot-requires
+sum-to-slot-requires c κs =
+    let b = c .before .before .before .before .before .before .before in
     let s = start (b .before .before) in
-    let L = s .pre .1 .3 in
-    let i = inside b .0 in
-    let work-is = c .before .before .before .before .before .before .sum-to-page .kept .1 .1 .1 .1 .0 in
-    (rw (L .store-length) (slot-in-store (s .args .sizes) _ i), (rw (L .marks-length) i, omega (arith, work-is, L .work-length)))
+    let F = c .before .before .before .before .write-slots .ensures .0 in
+    let fits = slot-in-store (s .args .sizes) in (
+      (F .0, omega (arith, F .1, F .2), omega (arith, F .1), rw (s .pre .1 .4) (fits _ (inside b .0))),
+      ((λ j h. rw (s .pre .1 .4) (fits _ (F .3 j h .0))), λ j h. F .3 j h .1),
+    )
 
-abbrev told : tie.After-write-page → tie.After-backward
-told c = c .before .before .before .before .before .before .before .before .before .before .before .before .before .before
+slice-write-marks : tie.Need-slice-write-marks
+slice-write-marks c = (let b = c .before .before .before .before .before .before .before .before .before .before in omega (arith, inside b, start (b .before .before) .pre .1 .5))
 
 add-tally : tie.Need-add-tally
-add-tally c = omega (arith, start (told (c .before .before .before .before .before) .before .before) .pre .1 .4)
+add-tally c = omega (arith, start (c .before .before .before .before .before .before .before .before .before .before .before .before .before) .pre .1 .6)
 
 add-tally-2 : tie.Need-add-tally-2
-add-tally-2 c = omega (arith, start (told (c .before .before .before .before .before .before) .before .before) .pre .1 .4)
+add-tally-2 c = omega (arith, start (c .before .before .before .before .before .before .before .before .before .before .before .before .before .before) .pre .1 .6)
 
 -- ---- it is this erase
 enum-known-block : tie.Need-enum-known-block
@@ -98,10 +89,9 @@ erase-block-requires : tie.Need-erase-block-requires
 erase-block-requires c κs =
     let b = c .before .before .before in
     let s = start (b .before .before) in
-    let L = s .pre .1 .3 in
     let block = b .block .given .0 .0 in
     let i = erases b .block-in in
-    (rw (L .store-length) (block-in-store (s .args .sizes) block i), rw (L .marks-length) (block-in-marks (s .args .sizes) block i))
+    (rw (s .pre .1 .4) (block-in-store (s .args .sizes) block i), rw (s .pre .1 .5) (block-in-marks (s .args .sizes) block i))
 
 add-tally-3 : tie.Need-add-tally-3
 add-tally-3 c = search needs
@@ -119,39 +109,32 @@ same-length c = search needs
 same-length-2 : tie.Need-same-length-2
 same-length-2 c = search needs
 
-same-length-3 : tie.Need-same-length-3
-same-length-3 c = search needs
-
 returns : tie.Need-returns
 unfolding tallied
 returns c =
-    let w = c .before .before .before .before .before .before .before .before .before .before .before .before .before .before .before .before .before in
+    let w = c .before .before .before .before .before .before .before .before .before in
     let b = w .before .before .before in
     let s = start (b .before .before) in
     let a = s .args in
     let v = b .backward .given .0 in
     let W = writes b in
     stepped (moved s) (a .place .at) (write (passOf (v .0)) (v .1 .0) (v .1 .1 .0)) (W .is) _ _ _ _
-    (wrote (moved s) (passOf (v .0)) (v .1 .0) (v .1 .1 .0) (a .store .now) (a .marks .now) (a .work .now) _ _ _ _ (w .write-slots .result) (v .1 .1 .1 .0)
-    (c .before .before .before .before .before .before .before .before .before .before .before .before .before .sum-to-page .ensures)
-    (w .write-slots .ensures .1 (a .marks .now) (known b .moment-is)) (W .mark-is) (c .before .before .before .before .before .before .write-page .ensures)) refl
+    (wrote (moved s) (passOf (v .0)) (v .1 .0) (v .1 .1 .0) (a .store .now) (a .marks .now) _ _ (w .write-slots .result) (v .1 .1 .1 .0)
+    (c .before .before .before .before .sum-to-slot .ensures) (w .write-slots .ensures .1 (a .marks .now) (known b .moment-is)) (W .mark-is)) refl (w .write-slots .ensures .0 .2)
+
+same-length-3 : tie.Need-same-length-3
+same-length-3 c = search needs
 
 same-length-4 : tie.Need-same-length-4
 same-length-4 c = search needs
 
-same-length-5 : tie.Need-same-length-5
-same-length-5 c = search needs
-
 returns-2 : tie.Need-returns-2
-unfolding tallied
+unfolding perform tallied
 returns-2 c =
     let e = c .before .before .before .before .before .before in
     let b = e .before .before .before .before in
     let s = start (b .before .before) in
-    let a = s .args in
-    let block = b .block .given .0 .0 in
-    stepped (moved s) (a .place .at) (erase block) (erases b .is) _ _ _ _
-    (erased (moved s) block (a .store .now) (a .marks .now) (a .work .now) _ _ (e .erase-block .ensures)) refl
+    stepped (moved s) (s .args .place .at) (erase (b .block .given .0 .0)) (erases b .is) _ _ _ _ (e .erase-block .ensures) refl (s .pre .1 .3)
 
 returns-3 : tie.Need-returns-3
 unfolding perform tallied
@@ -159,7 +142,7 @@ returns-3 c =
     let s = start (c .before .before) in
     let Z = s .args .sizes in
     stepped (moved s) (s .args .place .at) done
-    (told-done Z (operationAt Z (s .args .place .at)) (sym (c .enum-told .given .1) ∙ c .before .before .operation .ensures)) _ _ _ _ refl refl
+    (told-done Z (operationAt Z (s .args .place .at)) (sym (c .enum-told .given .1) ∙ c .before .before .operation .ensures)) _ _ _ _ refl refl (s .pre .1 .3)
 
 pub step-spec : {M : Type 1} → statement M
 step-spec =
@@ -168,11 +151,10 @@ step-spec =
     operation-requires
     enum-known-backward
     write-slots-requires
-    slice-aggregate-sum-to-page
-    sum-to-page-requires
-    mul-write-page
-    add-write-page
-    write-page-requires
+    mul-slot
+    add-slot
+    sum-to-slot-requires
+    slice-write-marks
     add-tally
     add-tally-2
     enum-known-block
@@ -182,9 +164,8 @@ step-spec =
     enum-told
     same-length
     same-length-2
-    same-length-3
     returns
+    same-length-3
     same-length-4
-    same-length-5
     returns-2
     returns-3)
