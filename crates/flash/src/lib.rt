@@ -4,7 +4,6 @@
 pub mod block;
 pub mod bytes;
 pub mod casts;
-pub mod page;
 pub mod quotient;
 pub mod sizes;
 pub mod slots;

@@ -1,7 +1,7 @@
 -- The slot of the last write is told by the place of the last step, and lies in the store.
-use Rattle.flash.proofs.Kit.{_≡_, refl, ap, _∙_, ℕ, _+_, _-_, _*_, _≤_, _<_, min, arith, needs}
+use Rattle.flash.proofs.Kit.{_≡_, ap, ℕ, _+_, _-_, _*_, _≤_, _<_, arith, needs}
 use Rattle.flash.specs.Lists.{part}
-use Rattle.flash.specs.Geometry.{slot, slotCount, storeLength}
+use Rattle.flash.specs.Geometry.{slotCount, storeLength}
 use Rattle.flash.proofs.Bounds.{product-le, slot-in-marks, slot-in-store}
 use Rattle.method.specs.Place.{filling, filled}
 use Rattle.method.proofs.places.StepsAtPlaces.{filling-in}
