@@ -1,7 +1,7 @@
 -- A run step by step: what one step more leaves and counts, and the work page in the end.
 use mir.Val.{boolByte}
-use Rattle.flash.proofs.Kit.{_≡_, refl, sym, ap, _∙_, _≢_, ⊎-elim, Bool, true, false, cond, List, [], ℕ, zero, suc, _+_, _-_, _*_, _≤_, _<_, min}
-use Rattle.flash.proofs.Kit.{add-one, arith, eqb, length}
+use Rattle.flash.proofs.Kit.{_≡_, refl, sym, ap, _∙_, _≢_, ⊎-elim, Bool, true, false, cond, List, [], ℕ, zero, suc, _+_, _-_, _*_, _≤_, _<_, min, add-one}
+use Rattle.flash.proofs.Kit.{arith, eqb, length}
 use Rattle.flash.specs.declared.sizes.Sizes.{Sizes}
 use Rattle.flash.specs.Geometry.{slot}
 use Rattle.flash.specs.Chip.{Chip, pageAt}
@@ -38,8 +38,8 @@ performed M run (erase block) = refl
 performed M run done = refl
 
 module _ (M : Move) (place i : ℕ) where
-  pub one-taken : (start : Running) (chip next : Chip) → chip ≡ steps M i place start .chip → next ≡ step M (place + i) (record { chip = chip; work = [] }) .chip
-      → next ≡ steps M (i + 1) place start .chip
+  pub one-taken : (start : Running) (chip next : Chip) → chip ≡ steps M i place start .chip
+      → next ≡ step M (place + i) (record { chip = chip; work = [] }) .chip → next ≡ steps M (i + 1) place start .chip
   unfolding steps step
   one-taken start chip next e f = rw (steps-add M i 1 place start) (f ∙ rw e (performed M (steps M i place start) (operationAt (M .sizes) (place + i))))
 
@@ -116,7 +116,8 @@ module _ (M : Move) (A : AcceptedMove M) (run : Running) (place : ℕ) (L : Lent
     last-is : place + (i + 1) - 1 ≡ at
     last-is = omega arith
 
-    done-is : (op : Operation) → operationAt Z at ≡ op → (after (i + 1) ≡ perform M op (after i)) × (writesIn (i + 1) ≡ tallied op (tallyOf (operationsFrom Z place i)) .writes)
+    done-is : (op : Operation) → operationAt Z at ≡ op
+        → (after (i + 1) ≡ perform M op (after i)) × (writesIn (i + 1) ≡ tallied op (tallyOf (operationsFrom Z place i)) .writes)
     unfolding steps step
     done-is op is = rw (← is) (steps-add M i 1 place run, ap (λ (t : Tally). t .writes) (tally-next Z place i on))
 
@@ -128,7 +129,8 @@ module _ (M : Move) (A : AcceptedMove M) (run : Running) (place : ℕ) (L : Lent
         let t : ℕ = slot m (filling Z at) (filled Z at) in
         let page : min (filled Z at) (m - 1) ≡ filled Z at = omega arith in
         let whole = page-length M A at on room (after i .chip) (after i .work) (S .lent) (S .stands) in
-        let fits : t * P + P ≤ length (after i .chip .store) = rw (S .lent .store-length) (slot-in-store Z t (slot-in-marks Z (filling Z at) (filled Z at) (W .block-in) (W .page-in))) in
+        let t-in = slot-in-marks Z (filling Z at) (filled Z at) (W .block-in) (W .page-in) in
+        let fits : t * P + P ≤ length (after i .chip .store) = rw (S .lent .store-length) (slot-in-store Z t t-in) in
         record {
           old = λ e. absurd (omega (arith, d .1));
           new = λ e. rw (d .0, last-is, page) (sym (write-page P t _ (markOf Z (passAt Z at)) (after i .chip) fits whole));
@@ -138,8 +140,9 @@ module _ (M : Move) (A : AcceptedMove M) (run : Running) (place : ℕ) (L : Lent
         let d = done-is _ op in
         let b : ℕ = nextBlock (passAt Z at) (filling Z at) in
         let page : min (filled Z at) (m - 1) ≡ m - 1 = omega arith in
+        let other = next-other at on (passAt Z at) refl in
         let stays = erase-page-other m P b (after i .chip) (rw (S .lent .store-length) (block-in-store Z b (E .block-in)))
-        (rw (S .lent .marks-length) (block-in-marks Z b (E .block-in))) (m - 1) (omega (arith, A .ranges .m-low)) (filling Z at) (next-other at on (passAt Z at) refl) in
+        (rw (S .lent .marks-length) (block-in-marks Z b (E .block-in))) (m - 1) (omega (arith, A .ranges .m-low)) (filling Z at) other in
         record {
           old = λ e. rw (d .0) (before .old (sym (d .1) ∙ e));
           new = λ e.

@@ -34,7 +34,8 @@ module _ (M : Move) (pass : Pass) (block page : ℕ) (store marks : List ℕ) wh
 
   pub wrote : (slots store′ : List ℕ) (count mark : ℕ) → store′ ≡ setPart P (slot m block page) store (sum (λ t. part P t store) (take count slots))
       → SumsAs (take count slots) (writeSlots M pass block page marks) → mark ≡ markOf (M .sizes) pass
-      → _≡_ {A = Chip} (record { store = store′; marks = set marks (slot m block page) mark }) (perform M (write pass block page) (runningOf store marks []) .chip)
+      → _≡_ {A = Chip} (record { store = store′; marks = set marks (slot m block page) mark })
+      (perform M (write pass block page) (runningOf store marks []) .chip)
   unfolding perform writtenPage pageAt writePage
   wrote slots store′ count mark e S f = rw (e, S .sums (λ t. part P t store), f)
 

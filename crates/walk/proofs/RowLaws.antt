@@ -1,7 +1,7 @@
 -- The walks by the rows of a set, turn by turn: they are read's rules 2 and 3, and their slots are slots of the store, none the one that is written.
-use Rattle.flash.proofs.Kit.{_≡_, refl, sym, ap, _∙_, _≢_, ⊎-elim, Bool, true, false, cond, _||_, List, [], _∷_, ℕ, zero, suc, _+_, _-_, _*_, _/_}
-use Rattle.flash.proofs.Kit.{_%_, _≤_, _<_, not-suc-le-zero, suc-mul, div-add-mod', mod-lt, add-one, arith, eqb, leb, length, getD, drop, eqb-true}
-use Rattle.flash.proofs.Kit.{eq-eqb, ne-eqb, le-leb, lt-leb, leb-true, leb-false}
+use Rattle.flash.proofs.Kit.{_≡_, refl, sym, ap, _∙_, _≢_, ⊎-elim, Bool, true, false, cond, _||_, List, [], _∷_, ℕ, zero, suc, _+_, _-_, _*_, _/_, _%_}
+use Rattle.flash.proofs.Kit.{_≤_, _<_, not-suc-le-zero, suc-mul, div-add-mod', mod-lt, add-one, arith, eqb, leb, length, getD, drop, eqb-true, eq-eqb, ne-eqb}
+use Rattle.flash.proofs.Kit.{le-leb, lt-leb, leb-true, leb-false}
 use Rattle.flash.specs.declared.sizes.Sizes.{Sizes}
 use Rattle.flash.specs.Geometry.{slot, blockOf, slotOf, numberAt, slotCount}
 use Rattle.flash.proofs.Bools.{bool-cases, bool-eq, or-false-left}
@@ -61,7 +61,8 @@ module _ (next slotAt : ℕ → ℕ) (last : ℕ → List ℕ) (ends : ℕ → B
     walk-rest : (bound v : ℕ) → 0 < bound → From v → Each Q (drop 1 (walkBy next slotAt last ends bound v))
     walk-rest bound v some h =
         let o = on v h in
-        rw (walk-turn bound v some) (each-cond Q (ends v) (last v) (walkBy next slotAt last ends (bound - 1) (next v)) (o .0) (λ e. walk-each (bound - 1) (next v) (o .1 e)))
+        let rest : List ℕ = walkBy next slotAt last ends (bound - 1) (next v) in
+        rw (walk-turn bound v some) (each-cond Q (ends v) (last v) rest (o .0) (λ e. walk-each (bound - 1) (next v) (o .1 e)))
 
 module _ (f slotAt : ℕ → ℕ) where
   pub length-way : (last : ℕ → List ℕ) (d b : ℕ) → length (way f slotAt last d b) ≡ suc d + length (last (iterate f d b))
@@ -165,44 +166,44 @@ module _ (M : Move) (A : AcceptedMove M) (set : ℕ) (set-ok : set < M .sizes .m
             rw (on, length-way (dest M set) (codedAt m set) (onLast M marks set) d w) (omega (arith, e .1)),
           )
 
--- ---- the slots of a walk are slots of the store, and none of them is the one that is written
+-- ---- the slots of a walk are slots of the store, and none of them is the one that is written: this page of this block
+abbrev pub Read : Sizes → (page block t : ℕ) → Type 0
+Read Z page block t = (t < slotCount Z) × (t ≢ slot (Z .m) block page)
+
 module _ (Z : Sizes) (set : ℕ) (set-ok : set < Z .m) (pages : List ℕ) (P : PagesIn (Z .n) (Z .m) pages) (page : ℕ) (page-ok : page < Z .m) where
   open Sizes Z using (n, m)
 
-  abbrev Read : (block t : ℕ) → Type 0
-  Read block t = (t < slotCount Z) × (t ≢ slot m block page)
-
   -- the coded pages lie in blocks below, the others in blocks above
-  coded-in : (block v : ℕ) → DataBlock n v → v ≤ block → Read block (codedAt m set v)
+  coded-in : (block v : ℕ) → DataBlock n v → v ≤ block → Read Z page block (codedAt m set v)
   coded-in block v b low =
       (slot-in-marks Z (v - 1) set (omega (arith, b .high)) set-ok, λ e. omega (arith, slot-lt m (v - 1) set block (omega (arith, b .low)) set-ok))
 
-  above-in : (block v q : ℕ) → v ≤ n → q < m → block < v → Read block (slot m v q)
+  above-in : (block v q : ℕ) → v ≤ n → q < m → block < v → Read Z page block (slot m v q)
   above-in block v q high q-in up = (slot-in-marks Z v q high q-in, λ e. omega (arith, slot-lt m block page v up page-ok))
 
-  pub backward-read : (list : List ℕ) → ListIn n m list → (b : ℕ) → DataBlock n b → Each (Read b) (backwardBy m list set pages n b)
+  pub backward-read : (list : List ℕ) → ListIn n m list → (b : ℕ) → DataBlock n b → Each (Read Z page b) (backwardBy m list set pages n b)
   backward-read list L b b-in =
       let to : ℕ → ℕ = sentBy m list pages in
       let next : ℕ → ℕ = λ c. blockOf m (to c) in
-      walk-each next (codedAt m set) _ _ (Read b) (DataBlock n) (λ c. DataBlock n c × (c ≤ b))
+      walk-each next (codedAt m set) _ _ (Read Z page b) (DataBlock n) (λ c. DataBlock n c × (c ≤ b))
       (λ c h. (h .0, coded-in b c (h .0) (h .1)))
       (λ c h.
       let k-in = slot-lt m (c - 1) (entryOf pages c) n (omega (arith, h .low, h .high)) (P .page-lt c (h .low) (h .high)) in
       let r = block-range n m (to c) (L .entry-lt (numberAt m c (entryOf pages c)) k-in) in
-      let final-in : leb (b + 1) (next c) ≡ true → Each (Read b) ((to c + m) ∷ []) = λ e.
+      let final-in : leb (b + 1) (next c) ≡ true → Each (Read Z page b) ((to c + m) ∷ []) = λ e.
       let up = leb-true (b + 1) (next c) e in
-      each-one (Read b) (to c + m) (rw (home-is m (to c)) (above-in b (next c) (to c % m) (r .1) (mod-lt (to c) (omega arith)) (omega arith))) in (
-        λ e. each-cond (Read b) (leb (b + 1) (next c)) _ [] final-in (λ f. each-none (Read b)),
+      each-one (Read Z page b) (to c + m) (rw (home-is m (to c)) (above-in b (next c) (to c % m) (r .1) (mod-lt (to c) (omega arith)) (omega arith))) in (
+        λ e. each-cond (Read Z page b) (leb (b + 1) (next c)) _ [] final-in (λ f. each-none (Read Z page b)),
         λ e.
             let low = leb-false (b + 1) (next c) (or-false-left (leb (b + 1) (next c)) (eqb (next c) b) e) in
             (record { low = r .0; high = r .1 }, omega arith),
       ))
       n b (b-in, omega arith)
 
-  pub forward-read : (sources : List ℕ) → BlocksIn n sources → (block : ℕ) → DataBlock n (block + 1) → Each (Read block) (forwardBy m set pages sources n (block + 1))
+  pub forward-read : (sources : List ℕ) → BlocksIn n sources → (block : ℕ) → DataBlock n (block + 1) → Each (Read Z page block) (forwardBy m set pages sources n (block + 1))
   unfolding forwardBy
   forward-read sources S block i-in =
-      let Q : ℕ → Type 0 = Read block in
+      let Q : ℕ → Type 0 = Read Z page block in
       let i : ℕ = block + 1 in
       let own : ℕ = plainAt m pages i in
       let rest : List ℕ = drop 1 (backBy m set pages sources i 0 n i) in

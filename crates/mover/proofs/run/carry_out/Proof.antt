@@ -17,7 +17,7 @@ use Rattle.places.specs.inner.Place.{placeOf}
 use Rattle.places.proofs.PlaceLaws.{last-small, number-is, is-place}
 use Rattle.mover.specs.inner.Steps.{OtherTable, lastSlot}
 use Rattle.mover.proofs.StepLaws.{sets-told, pass-tables}
-use Rattle.mover.proofs.RunLaws.{none-taken, none-counted, one-taken, one-counted, counts-fit, carried, goes-on, WorkLeft, work-left}
+use Rattle.mover.proofs.RunLaws.{none-taken, none-counted, one-taken, one-counted, counts-fit, carried, goes-on, work-left}
 use Rattle.mover.proofs.run.carry_out.Statement.{statement}
 use Rattle.mover.proofs.run.carry_out.Tie as tie
 
@@ -92,10 +92,12 @@ start c = c .before .before .before .before .before .before .before .before .bef
 
 standing : (c : tie.At-loop Inv-loop μ-loop)
     → (let l = c .loop in let s = start c in
-    Stood (moved s) (s .pre .0) (record { chip = record { store = l .store; marks = l .marks }; work = steps (moved s) (l .i) (s .args .place) (from s) .work }) (s .args .place + l .i))
+    let chip : Chip = record { store = l .store; marks = l .marks } in
+    Stood (moved s) (s .pre .0) (record { chip = chip; work = steps (moved s) (l .i) (s .args .place) (from s) .work }) (s .args .place + l .i))
 standing c =
     let s = start c in
-    goes-on (moved s) (s .pre .0) (from s) (s .args .place) (s .pre .1) (s .pre .2) (c .loop .i) (omega (arith, placed (c .before .before .before))) _ (c .loop .inv .0)
+    let in-move = placed (c .before .before .before) in
+    goes-on (moved s) (s .pre .0) (from s) (s .args .place) (s .pre .1) (s .pre .2) (c .loop .i) (omega arith) _ (c .loop .inv .0)
 
 inside : (c : tie.In-loop Inv-loop μ-loop)
     → (let s = start (c .before) in (s .args .place + c .before .loop .i < lastPlace (s .args .sizes)) × (lastPlace (s .args .sizes) ≤ 8320))
@@ -113,12 +115,13 @@ step-requires c κs =
     let l = loop .loop in
     let s = start loop in
     let S = standing loop in
+    let lent = S .lent in
     let in-move = inside (c .before .before .before .before .before .before .before .before) in
     let few = counts-fit (moved s) (s .pre .0) (s .args .place) (l .i) (l .tally) (omega arith) (l .inv .1) in
     let at = number-is _ _ _ (l .inv .2) in (
       pass-tables (moved s) (s .pre .0) _ (pages-are (loop .before .before .before .before .before)) _ _
           (c .before .before .before .before .before .before .fill-other .ensures) (omega (arith, c .before .before .before .step-arg2 .given)),
-      (loop .before .before .reciprocal .ensures, is-place _ _ _ (l .inv .2), rw at (S .stands .marks), l .inv .5, S .lent .store-length, S .lent .marks-length, few),
+      (loop .before .before .reciprocal .ensures, is-place _ _ _ (l .inv .2), rw at (S .stands .marks), l .inv .5, lent .store-length, lent .marks-length, few),
     )
 
 next-requires : tie.Need-next-requires Inv-loop μ-loop
@@ -154,21 +157,12 @@ loop-again c =
 add-reached : tie.Need-add-reached Inv-loop μ-loop
 add-reached c = omega (arith, placed (c .before .before .before .before))
 
--- the work page that is left
-left : (c : tie.After-struct-known Inv-loop μ-loop) → (let s = start (c .before .before) in WorkLeft (moved s) (s .pre .0) (from s) (s .args .place) (s .pre .1) (s .pre .2) (c .before .before .loop .i))
-left c =
-    let l = c .before .before in
-    let s = start l in
-    work-left (moved s) (s .pre .0) (from s) (s .args .place) (s .pre .1) (s .pre .2) (l .loop .i) (omega (arith, placed (l .before .before .before)))
-
-some-steps : (c : tie.Then1 Inv-loop μ-loop) → 1 ≤ c .before .before .before .loop .i
-some-steps c =
-    let l = c .before .before .before in
-    let s = start l in
-    omega (arith, few-tallied (s .args .sizes) (l .loop .i) (s .args .place) (omega (arith, placed (l .before .before .before))), ap (λ (t : Tally). t .writes) (l .loop .inv .1), c .if1 .taken)
-
 sub-keep-last-page : tie.Need-sub-keep-last-page Inv-loop μ-loop
-sub-keep-last-page c = omega (arith, some-steps (c .before))
+sub-keep-last-page c =
+    let l = c .before .before .before .before in
+    let s = start l in
+    let few = few-tallied (s .args .sizes) (l .loop .i) (s .args .place) (omega (arith, placed (l .before .before .before))) in
+    omega (arith, ap (λ (t : Tally). t .writes) (l .loop .inv .1), c .before .if1 .taken)
 
 keep-last-page-requires : tie.Need-keep-last-page-requires Inv-loop μ-loop
 keep-last-page-requires c κs =
@@ -176,6 +170,7 @@ keep-last-page-requires c κs =
     let s = start l in
     (s .pre .0 .ranges, omega (arith, placed (l .before .before .before)), standing l .lent .store-length, s .pre .1 .work-length)
 
+-- the work page that is left
 work-is : (c : tie.Joined1 Inv-loop μ-loop) → (let l = c .before .before .before in let s = start l in
     c .if1 .work ≡ steps (moved s) (l .loop .i) (s .args .place) (from s) .work)
 unfolding pageAt
@@ -183,7 +178,8 @@ work-is c =
     let l = c .before .before .before in
     let s = start l in
     let Z = s .args .sizes in
-    let L = left (c .before) in
+    let in-move = placed (l .before .before .before) in
+    let L = work-left (moved s) (s .pre .0) (from s) (s .args .place) (s .pre .1) (s .pre .2) (l .loop .i) (omega arith) in
     let writes = ap (λ (t : Tally). t .writes) (l .loop .inv .1) in
     let all : l .before .before .before .smaller .result ≡ l .loop .i = omega arith in
     let there : part (Z .p) (lastSlot Z (s .args .place + l .before .before .before .smaller .result - 1)) (l .loop .store)
@@ -217,7 +213,8 @@ returns c =
     let s = start l in
     let work : c .if1 .work ≡ steps (moved s) (smaller .smaller .result) (s .args .place) (from s) .work =
     work-is c ∙ ap (λ (i : ℕ). steps (moved s) i (s .args .place) (from s) .work) all in
-    carried _ _ _ _ _ _ _ _ _ _ _ _ (smaller .before .last-place .ensures) (smaller .smaller .ensures) (rw all at (l .loop .inv .0)) work (rw all at (l .loop .inv .1))
+    carried _ _ _ _ _ _ _ _ _ _ _ _ (smaller .before .last-place .ensures) (smaller .smaller .ensures)
+    (rw all at (l .loop .inv .0)) work (rw all at (l .loop .inv .1))
 
 pub carry-out-spec : {M : Type 1} → statement M
 carry-out-spec =

@@ -34,7 +34,8 @@ sub-smaller c = c .before .before .before .before .before .before .pre .0 .m-low
 smaller-requires : tie.Need-smaller-requires
 smaller-requires c κs = search needs
 
-inside : (c : tie.After-smaller) → (let s = c .before .before .before .before .before .before .before in let t = c .before .before .before .before .new .result .block * s .args .sizes .m + c .smaller .result in
+inside : (c : tie.After-smaller) → (let s = c .before .before .before .before .before .before .before in
+    let t = c .before .before .before .before .new .result .block * s .args .sizes .m + c .smaller .result in
     (t ≡ lastSlot (s .args .sizes) (s .args .at)) × (t ≤ 4160) × (t * s .args .sizes .p + s .args .sizes .p ≤ storeLength (s .args .sizes))
     × (storeLength (s .args .sizes) ≤ 17039360))
 inside c =

@@ -70,7 +70,9 @@ sum-to-slot-requires c κs =
     )
 
 slice-write-marks : tie.Need-slice-write-marks
-slice-write-marks c = (let b = c .before .before .before .before .before .before .before .before .before .before in omega (arith, inside b, start (b .before .before) .pre .1 .5))
+slice-write-marks c =
+    let b = c .before .before .before .before .before .before .before .before .before .before in
+    omega (arith, inside b, start (b .before .before) .pre .1 .5)
 
 add-tally : tie.Need-add-tally
 add-tally c = omega (arith, start (c .before .before .before .before .before .before .before .before .before .before .before .before .before) .pre .1 .6)

@@ -1,15 +1,16 @@
 -- The slots of a write, gathered by the rows of its set in the pass that it is of.
-use Rattle.flash.proofs.Kit.{_≡_, refl, _∙_, _≢_, _+_, _-_, _*_, _≤_, _<_, arith, needs}
-use Rattle.flash.specs.Geometry.{slot, slotCount, numberAt}
+use Rattle.flash.proofs.Kit.{_≡_, refl, _∙_, _+_, _-_, _*_, _≤_, _<_, arith, needs}
+use Rattle.flash.specs.Geometry.{numberAt}
 use Rattle.flash.proofs.Bounds.{product-le}
 use Rattle.split.specs.Split.{setOf}
 use Rattle.method.specs.Move.{Move}
 use Rattle.method.specs.Cycle.{sentTo}
 use Rattle.method.proofs.basics.Indexes.{slot-lt}
+use Rattle.method.proofs.cycles.Orbits.{DataBlock}
 use Rattle.walk.proofs.BackwardLaws.{backward-slots}
 use Rattle.walk.proofs.ForwardLaws.{forward-slots}
 use Rattle.walk.proofs.GatherLaws.{among}
-use Rattle.walk.proofs.RowLaws.{backward-read, forward-read}
+use Rattle.walk.proofs.RowLaws.{Read, backward-read, forward-read}
 use Rattle.walk.proofs.TableLaws.{list-in}
 use Rattle.mover.specs.inner.Steps.{moveBy}
 use Rattle.mover.proofs.StepLaws.{set-sent, row-is}
@@ -86,8 +87,9 @@ returns c =
     let low = start .pre .1 .4 yes in
     let P = start .pre .0 .pages-tell .row set (s .1) in
     let G = rw (c .before .before .row .ensures, row-is) at (c .backward-slots .ensures) in
-    let read = backward-read (a .sizes) set (s .1) _ (P .fits) (a .page) (start .pre .1 .2) (a .list .now) (list-in M A) (a .block) (record { low = low; high = start .pre .1 .3 }) in
-    let inside = among (λ t. (t < slotCount (a .sizes)) × (t ≢ slot (a .sizes .m) (a .block) (a .page))) _ _ (c .backward-slots .result) (omega (arith, G .2, G .3)) (G .0) read in
+    let block-in : DataBlock (a .sizes .n) (a .block) = record { low = low; high = start .pre .1 .3 } in
+    let read = backward-read (a .sizes) set (s .1) _ (P .fits) (a .page) (start .pre .1 .2) (a .list .now) (list-in M A) (a .block) block-in in
+    let inside = among (Read (a .sizes) (a .page) (a .block)) _ _ (c .backward-slots .result) (omega (arith, G .2, G .3)) (G .0) read in
     rw yes ((G .1, G .2, G .3, inside), λ marks T. rw (G .0) (backward-slots M A (a .block) (a .page) set low (start .pre .1 .3) (start .pre .1 .2) (s .0) _ P marks T))
 
 -- ---- forward
@@ -127,7 +129,7 @@ returns-2 c =
     let S = T .other-tells .sources-tell no .row (a .page) page-in in
     let G = rw (c .before .before .row3 .ensures, row-is, c .before .before .before .row2 .ensures, row-is) at (c .forward-slots .ensures) in
     let read = forward-read (a .sizes) (a .page) page-in _ (P .fits) (a .page) page-in _ (S .fits) (a .block) (record { low = omega arith; high = high }) in
-    let inside = among (λ t. (t < slotCount (a .sizes)) × (t ≢ slot (a .sizes .m) (a .block) (a .page))) _ _ (c .forward-slots .result) (omega (arith, G .2, G .3)) (G .0) read in
+    let inside = among (Read (a .sizes) (a .page) (a .block)) _ _ (c .forward-slots .result) (omega (arith, G .2, G .3)) (G .0) read in
     rw no (
       (G .1, G .2, G .3, inside),
       λ marks M. rw (G .0, forward-slots (moved start) (T .accepted) (a .page) page-in _ _ P S (a .block) (omega arith) marks M)
