@@ -1,7 +1,7 @@
 -- A run step by step: what one step more leaves and counts, and the work page in the end.
 use mir.Val.{boolByte}
-use Rattle.flash.proofs.Kit.{_≡_, refl, sym, ap, _∙_, _≢_, ⊎-elim, Bool, true, false, cond, List, [], ℕ, zero, suc, _+_, _-_, _*_, _≤_, _<_, min, add-one}
-use Rattle.flash.proofs.Kit.{arith, eqb, length}
+use Rattle.flash.proofs.Kit.{_≡_, refl, sym, ap, _∙_, _≢_, ⊎-elim, Bool, true, false, cond, List, [], ℕ, zero, suc, _+_, _-_, _*_, _≤_, _<_, min}
+use Rattle.flash.proofs.Kit.{add-one, arith, eqb, length}
 use Rattle.flash.specs.declared.sizes.Sizes.{Sizes}
 use Rattle.flash.specs.Geometry.{slot}
 use Rattle.flash.specs.Chip.{Chip, pageAt}

@@ -1,7 +1,7 @@
 -- The walks by the rows of a set, turn by turn: they are read's rules 2 and 3, and their slots are slots of the store, none the one that is written.
-use Rattle.flash.proofs.Kit.{_≡_, refl, sym, ap, _∙_, _≢_, ⊎-elim, Bool, true, false, cond, _||_, List, [], _∷_, ℕ, zero, suc, _+_, _-_, _*_, _/_, _%_}
-use Rattle.flash.proofs.Kit.{_≤_, _<_, not-suc-le-zero, suc-mul, div-add-mod', mod-lt, add-one, arith, eqb, leb, length, getD, drop, eqb-true, eq-eqb, ne-eqb}
-use Rattle.flash.proofs.Kit.{le-leb, lt-leb, leb-true, leb-false}
+use Rattle.flash.proofs.Kit.{_≡_, refl, sym, ap, _∙_, _≢_, ⊎-elim, Bool, true, false, cond, _||_, List, [], _∷_, ℕ, zero, suc, _+_, _-_, _*_, _/_}
+use Rattle.flash.proofs.Kit.{_%_, _≤_, _<_, not-suc-le-zero, suc-mul, div-add-mod', mod-lt, add-one, arith, eqb, leb, length, getD, drop, eqb-true}
+use Rattle.flash.proofs.Kit.{eq-eqb, ne-eqb, le-leb, lt-leb, leb-true, leb-false}
 use Rattle.flash.specs.declared.sizes.Sizes.{Sizes}
 use Rattle.flash.specs.Geometry.{slot, blockOf, slotOf, numberAt, slotCount}
 use Rattle.flash.proofs.Bools.{bool-cases, bool-eq, or-false-left}
