@@ -60,5 +60,8 @@ numbersPut text = metAfter (taken [] 4 (numbersIn text))
 
 -- Rule 9.2: what lies beyond 4,096 bytes counts as one byte that no number has. So longer input is `unreadable` unless
 -- its sizes, complete before that byte, are refused.
+abbrev pub inputLimit : ℕ
+inputLimit = 4096
+
 unfoldable pub withinLimit : (input : List ℕ) → List ℕ
-withinLimit input = cond (leb (length input) 4096) input (take 4096 input ++ (0 ∷ []))
+withinLimit input = cond (leb (length input) inputLimit) input (take inputLimit input ++ (0 ∷ []))

@@ -36,6 +36,16 @@ pub struct RunResult {
     pub finished: u32,
 }
 
+fn nothing_done() -> Tally
+    ensures { λ r. ⌜ r ≡ nothingDone ⌝ }
+{
+    Tally {
+        steps: 0,
+        writes: 0,
+        erases: 0,
+    }
+}
+
 // Fills the table that a pass needs besides that of the pages: the sources, or the sets by destination. It may be there already.
 fn fill_other(
     sizes: Sizes,
@@ -93,6 +103,7 @@ fn carry_out(
         ≡ runCarriedOut (moveOf sizes (now (list .entry)) (now (sets .entry))) (record { store = now (store .entry); marks = now (marks .entry) })
         (now (work .entry)) place (stepsTaken sizes place budget) ⌝ }
 {
+    let mut tally = nothing_done();
     let mut pages = [0u8; TABLE];
     pages_table(sizes, sets, &mut pages);
     let mut slots = [0usize; SLOTS];
@@ -100,11 +111,6 @@ fn carry_out(
     let taken = smaller(budget, last - place);
     let reciprocal = reciprocal(sizes.m);
     let mut at = Place::new(sizes, place);
-    let mut tally = Tally {
-        steps: 0,
-        writes: 0,
-        erases: 0,
-    };
     let mut held = true;
     let mut i = 0;
     while i < taken {
@@ -146,11 +152,7 @@ fn refused(number: u32) -> RunResult
     RunResult {
         number,
         place: 0,
-        tally: Tally {
-            steps: 0,
-            writes: 0,
-            erases: 0,
-        },
+        tally: nothing_done(),
         finished: 0,
     }
 }

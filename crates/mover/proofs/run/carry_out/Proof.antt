@@ -22,13 +22,13 @@ use Rattle.mover.proofs.run.carry_out.Statement.{statement}
 use Rattle.mover.proofs.run.carry_out.Tie as tie
 
 abbrev Inv-loop : tie.InvT-loop
-Inv-loop sizes list sets store₀ marks₀ work₀ place budget other₀ pages slots₀ last taken reciprocal at₀ tally₀ held₀ i₀ store marks other slots at tally held i =
+Inv-loop sizes list sets store₀ marks₀ work₀ place budget other₀ tally₀ pages slots₀ last taken reciprocal at₀ held₀ i₀ store marks other tally slots at held i =
     _≡_ {A = Chip} (record { store = store; marks = marks }) (steps (moveOf sizes list sets) i place (runningOf store₀ marks₀ work₀) .chip)
     × (tally ≡ tallyOf (operationsFrom sizes place i)) × (at ≡ placeOf sizes (place + i)) × (i ≤ taken) × OtherTable (moveOf sizes list sets) held other
     × (length slots ≡ slotsLength)
 
 abbrev μ-loop : tie.MeasureT-loop
-μ-loop sizes list sets store₀ marks₀ work₀ place budget other₀ pages slots₀ last taken reciprocal at₀ tally₀ held₀ i₀ store marks other slots at tally held i = taken - i
+μ-loop sizes list sets store₀ marks₀ work₀ place budget other₀ tally₀ pages slots₀ last taken reciprocal at₀ held₀ i₀ store marks other tally slots at held i = taken - i
 
 abbrev moved : tie.Start Inv-loop μ-loop → Move
 moved c = moveOf (c .args .sizes) (c .args .list .now) (c .args .sets .now)
@@ -38,7 +38,7 @@ from c = runningOf (c .args .store .now) (c .args .marks .now) (c .args .work .n
 
 pages-table-requires : tie.Need-pages-table-requires Inv-loop μ-loop
 pages-table-requires c κs =
-    let start = c .before .before .before .before .before .before in
+    let start = c .before .before .before .before .before .before .before in
     let A = start .pre .0 in
     (A .ranges, sets-in (moved start) A, refl)
 
@@ -47,7 +47,7 @@ last-place-requires c κs = search needs
 
 sub-smaller : tie.Need-sub-smaller Inv-loop μ-loop
 sub-smaller c =
-    let start = c .before .before .before .before .before .before .before .before in
+    let start = c .before .before .before .before .before .before .before .before .before in
     omega (arith, c .last-place .ensures, stands-at (start .args .sizes) (from start .chip) (start .args .place) (start .pre .2) .inside)
 
 smaller-requires : tie.Need-smaller-requires Inv-loop μ-loop
@@ -55,31 +55,31 @@ smaller-requires c κs = search needs
 
 -- the steps are in the move, and the move has few
 placed : (c : tie.After-smaller Inv-loop μ-loop)
-    → (let a = c .before .before .before .before .before .before .before .before .before .args in
+    → (let a = c .before .before .before .before .before .before .before .before .before .before .args in
     (a .place + c .smaller .result ≤ lastPlace (a .sizes)) × (lastPlace (a .sizes) ≤ 8320))
 placed c =
-    let start = c .before .before .before .before .before .before .before .before .before in
+    let start = c .before .before .before .before .before .before .before .before .before .before in
     let in-move = stands-at (start .args .sizes) (from start .chip) (start .args .place) (start .pre .2) .inside in
     (omega (arith, c .smaller .ensures, c .before .last-place .ensures), last-small (start .args .sizes) (start .pre .0 .ranges))
 
 pages-are : (c : tie.After-pages-table Inv-loop μ-loop)
-    → PagesTable (moved (c .before .before .before .before .before .before .before)) (c .pages-table .last .1 .1 .0)
+    → PagesTable (moved (c .before .before .before .before .before .before .before .before)) (c .pages-table .last .1 .1 .0)
 pages-are c =
-    let start = c .before .before .before .before .before .before .before in
+    let start = c .before .before .before .before .before .before .before .before in
     rw (c .pages-table .ensures, start .pre .0 .sets-length) (pages-tell (moved start) (start .pre .0) _ refl)
 
 reciprocal-requires : tie.Need-reciprocal-requires Inv-loop μ-loop
-reciprocal-requires c κs = c .before .before .before .before .before .before .before .before .before .pre .0 .ranges .m-low
+reciprocal-requires c κs = c .before .before .before .before .before .before .before .before .before .before .pre .0 .ranges .m-low
 
 new-requires : tie.Need-new-requires Inv-loop μ-loop
-new-requires c κs = (c .before .before .before .before .before .before .before .before .before .before .pre .0 .ranges, omega (arith, placed (c .before)))
+new-requires c κs = (c .before .before .before .before .before .before .before .before .before .before .before .pre .0 .ranges, omega (arith, placed (c .before)))
 
 loop-holds : tie.Need-loop-holds Inv-loop μ-loop
 loop-holds c =
-    let start = c .before .before .before .before .before .before .before .before .before .before .before in
+    let start = c .before .before .before .before .before .before .before .before .before .before .before .before in
     let first : start .args .place ≡ start .args .place + 0 = omega arith in (
       none-taken _ _ _,
-      none-counted _ _,
+      c .before .before .before .before .before .before .nothing-done .ensures ∙ none-counted _ _,
       c .new .ensures ∙ ap (placeOf (start .args .sizes)) first,
       omega arith,
       record { sources-tell = λ e. absurd (never-both refl e); sets-tell = λ e. start .pre .3 },
@@ -88,7 +88,7 @@ loop-holds c =
 
 -- where the loop stands
 abbrev start : tie.At-loop Inv-loop μ-loop → tie.Start Inv-loop μ-loop
-start c = c .before .before .before .before .before .before .before .before .before .before .before .before
+start c = c .before .before .before .before .before .before .before .before .before .before .before .before .before
 
 standing : (c : tie.At-loop Inv-loop μ-loop)
     → (let l = c .loop in let s = start c in
@@ -222,6 +222,7 @@ carry-out-spec =
     (tie.spec
     Inv-loop
     μ-loop
+    (λ c κs. search needs)
     pages-table-requires
     last-place-requires
     sub-smaller
