@@ -44,7 +44,8 @@ pub fn top_of(n: usize, sources: &[u8], v: usize) -> usize
     top
 }
 
-// Back from block `start` of a set, as `backBy`; how many slots there are.
+// Back from block `start` of a set, over coded pages: until that of `stop` is taken, or until the next block is one from `plain` on,
+// whose plain page is the last. Answers how many slots there are.
 pub fn go_back(
     sizes: Sizes,
     set: usize,
@@ -79,7 +80,8 @@ pub fn go_back(
     count
 }
 
-// On from block `start` of a set, as `onBy`; how many slots there are.
+// On from block `start` of a set, over coded pages: until the next block is one from `done` on, whose page there is the last, or is
+// `stop`. Answers how many slots there are.
 pub fn go_on(
     sizes: Sizes,
     reciprocal: usize,
