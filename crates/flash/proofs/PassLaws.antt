@@ -1,17 +1,31 @@
 -- A sum taken four pages a pass: the bytes that a pass leaves, and what is left to sum after it.
 use Rattle.flash.proofs.Kit.{_≡_, refl, sym, ap, _∙_, ⊎-elim, Bool, true, false, cond, List, [], _∷_, ℕ, suc, _+_, _-_, _*_, _≤_, _<_}
 use Rattle.flash.proofs.Kit.{not-suc-le-zero, arith, bitXor, length, getD, take, drop, length-take, getD-take, take-add, le-ltb}
+use Rattle.flash.proofs.Kit.{List·getD-eq-default}
 use Rattle.flash.specs.Lists.{part}
 use Rattle.flash.specs.PageSum.{_⊕_, sum}
-use Rattle.flash.specs.inner.Terms.{byteSum}
+use Rattle.flash.specs.declared.slots.Terms.{Terms}
+use Rattle.flash.specs.inner.Terms.{slotAt, termsOf, TermsFit, byteSum, sumAt}
+use Rattle.flash.proofs.Blocks.{getD-any}
+use Rattle.flash.proofs.Comparisons.{lt-cases}
 use Rattle.flash.proofs.Bools.{bool-cases}
 use Rattle.flash.proofs.Parts.{length-part, part-at, drop-take}
 use Rattle.flash.proofs.Sums.{⊕-at, ⊕-nil, length-⊕, length-sum, sum-append}
 use Rattle.flash.proofs.Xor.{xor-assoc}
 
--- the slot at an index, or the first behind the last
-abbrev pub slotAt : (slots : List ℕ) (at : ℕ) → ℕ
-slotAt slots at = getD slots at (getD slots 0 0)
+-- what holds of each slot of a list holds of the slot that stands for a missing one
+at-each : (P : ℕ → Type 0) (slots : List ℕ) (at : ℕ) → 1 ≤ length slots → ((j : ℕ) → j < length slots → P (getD slots j 0)) → P (slotAt slots at)
+at-each P slots at some each =
+    ⊎-elim
+    (λ (h : at < length slots). rw (← getD-any slots at 0 (getD slots 0 0) h) (each at h))
+    (λ (h : length slots ≤ at). rw (List·getD-eq-default slots (getD slots 0 0) h) (each 0 some))
+    (lt-cases at (length slots))
+
+pub terms-fit : (p : ℕ) (slots : List ℕ) (size : ℕ) (terms : Terms) → 1 ≤ length slots
+    → ((j : ℕ) → j < length slots → getD slots j 0 * p + p ≤ size) → terms ≡ termsOf slots → TermsFit p terms size
+terms-fit p slots size terms some each e =
+    let fits : (at : ℕ) → slotAt slots at * p + p ≤ size = λ at. at-each (λ t. t * p + p ≤ size) slots at some each in
+    rw e (record { one-fits = fits 0; two-fits = fits 1; three-fits = fits 2; four-fits = fits 3 })
 
 -- byte i of the sum of the first four pages, or of as many as there are
 four-at : (page : ℕ → List ℕ) (i : ℕ) (slots : List ℕ) → 1 ≤ length slots
@@ -51,14 +65,11 @@ module _ (store : List ℕ) (p : ℕ) (slots page : List ℕ) (add : Bool) (some
       (bool-cases add)
 
   -- byte i of it, from the bytes that are read in that turn
-  pub passed-at : (one two three four i : ℕ)
-      → one ≡ slotAt slots 0 * p → two ≡ slotAt slots 1 * p → three ≡ slotAt slots 2 * p → four ≡ slotAt slots 3 * p → i < p
-      → bitXor (cond add (getD page i 0) 0)
-      (byteSum (length slots) (getD store (one + i) 0) (getD store (two + i) 0) (getD store (three + i) 0) (getD store (four + i) 0))
-      ≡ getD (passed store p slots page add) i 0
-  passed-at one two three four i a b c d h =
+  pub passed-at : (i : ℕ) → i < p
+      → bitXor (cond add (getD page i 0) 0) (sumAt store p (termsOf slots) i) ≡ getD (passed store p slots page add) i 0
+  passed-at i h =
       let at : (slot : ℕ) → getD store (slot * p + i) 0 ≡ getD (pages slot) i 0 = λ slot. sym (part-at p slot store i 0 h) in
-      rw (a, b, c, d, at (slotAt slots 0), at (slotAt slots 1), at (slotAt slots 2), at (slotAt slots 3), ⊕-at, kept-at)
+      rw (at (slotAt slots 0), at (slotAt slots 1), at (slotAt slots 2), at (slotAt slots 3), ⊕-at, kept-at)
       (ap (bitXor (cond add (getD page i 0) 0)) (four-at pages i slots some))
 
 -- a pass more

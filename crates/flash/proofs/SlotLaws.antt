@@ -4,10 +4,11 @@ use Rattle.flash.proofs.Kit.{getD, set, take, drop, length-append, leng
 use Rattle.flash.proofs.Kit.{drop-of-length-le, take-append-drop, take-at, drop-at, take-all, take-set-le, drop-set-add, set-append-left}
 use Rattle.flash.specs.Lists.{part, setPart}
 use Rattle.flash.specs.PageSum.{_⊕_}
-use Rattle.flash.specs.inner.Terms.{byteSum}
+use Rattle.flash.specs.declared.slots.Terms.{Terms}
+use Rattle.flash.specs.inner.Terms.{termsOf, sumAt}
 use Rattle.flash.proofs.Loops.{front-at, front-more}
 use Rattle.flash.proofs.Parts.{part-setPart-other}
-use Rattle.flash.proofs.PassLaws.{slotAt, passed, length-passed, passed-at}
+use Rattle.flash.proofs.PassLaws.{passed, length-passed, passed-at}
 use Rattle.flash.proofs.Sums.{sum-same}
 
 -- what holds of the first n of a list holds of those from i on
@@ -68,15 +69,15 @@ module _ (store : List ℕ) (p : ℕ) (slots page : List ℕ) (add : Bool) (some
   turned-all i h = rw (take-all i (passed store p slots page add) (omega (arith, size)), drop-of-length-le page {i = i} (omega arith), append-nil)
 
   -- a turn more: the bytes are read in a store that has the same pages
-  pub turned-more : (now : List ℕ) (one two three four i old added byte : ℕ) → passed now p slots page add ≡ passed store p slots page add
-      → one ≡ slotAt slots 0 * p → two ≡ slotAt slots 1 * p → three ≡ slotAt slots 2 * p → four ≡ slotAt slots 3 * p → i < p
+  pub turned-more : (now : List ℕ) (terms : Terms) (i old added byte : ℕ) → passed now p slots page add ≡ passed store p slots page add
+      → terms ≡ termsOf slots → i < p
       → old ≡ getD (turned store p slots page add i) i 0
-      → added ≡ byteSum (length slots) (getD now (one + i) 0) (getD now (two + i) 0) (getD now (three + i) 0) (getD now (four + i) 0)
+      → added ≡ sumAt now p terms i
       → byte ≡ bitXor (cond add old 0) added
       → set (turned store p slots page add i) i byte ≡ turned store p slots page add (i + 1)
-  turned-more now one two three four i old added byte same a b c d h e f g =
+  turned-more now terms i old added byte same a h e f g =
       let new : List ℕ = passed store p slots page add in
       let byte-is : byte ≡ getD new i 0 = g
-      ∙ rw (e, f, front-at new page i size (omega arith)) (passed-at now p slots page add some one two three four i a b c d h)
+      ∙ rw (e, f, a, front-at new page i size (omega arith)) (passed-at now p slots page add some i h)
       ∙ ap (λ (s : List ℕ). getD s i 0) same in
       rw byte-is (front-more new page i size (omega arith))

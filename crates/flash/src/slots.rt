@@ -9,7 +9,41 @@ ghost use lib.Bits.{bitXor};
 ghost use lib.ListN.{length, getD, take};
 ghost use Rattle.flash.specs.Lists.{part, setPart};
 ghost use Rattle.flash.specs.PageSum.{_⊕_, sum};
-ghost use Rattle.flash.specs.inner.Terms.{byteSum};
+ghost use Rattle.flash.specs.inner.Terms.{slotAt, termsOf, byteSum, TermsFit, sumAt};
+
+// The slots of one pass and how many of them count: the first stands for those that are missing.
+struct Terms {
+    count: usize,
+    one: usize,
+    two: usize,
+    three: usize,
+    four: usize,
+}
+
+// The slot at a position, or the first behind the last.
+fn slot_at(slots: &[usize], at: usize) -> usize
+    requires { ⌜ 1 ≤ length (now slots) ⌝ }
+    ensures { λ r. ⌜ r ≡ slotAt (now (slots .entry)) at ⌝ }
+{
+    if at < slots.len() {
+        slots[at]
+    } else {
+        slots[0]
+    }
+}
+
+fn terms_of(slots: &[usize]) -> Terms
+    requires { ⌜ 1 ≤ length (now slots) ⌝ }
+    ensures { λ r. ⌜ r ≡ termsOf (now (slots .entry)) ⌝ }
+{
+    Terms {
+        count: slots.len(),
+        one: slot_at(slots, 0),
+        two: slot_at(slots, 1),
+        three: slot_at(slots, 2),
+        four: slot_at(slots, 3),
+    }
+}
 
 // The sum of the first `terms` of four bytes. In a loop the tests are the same in every turn, so that the compiler makes a loop of vector
 // instructions for each number of terms.
@@ -28,24 +62,25 @@ fn byte_sum(terms: usize, a: u8, b: u8, c: u8, d: u8) -> u8
     a ^ b ^ c ^ d
 }
 
+// Byte i of the sum of the pages of the terms.
+fn sum_at(store: &[u8], p: usize, terms: Terms, i: usize) -> u8
+    requires { ⌜ TermsFit p terms (length (now store)) × (i < p) ⌝ }
+    ensures { λ r. ⌜ r ≡ sumAt (now (store .entry)) p terms i ⌝ }
+{
+    byte_sum(
+        terms.count,
+        store[terms.one * p + i],
+        store[terms.two * p + i],
+        store[terms.three * p + i],
+        store[terms.four * p + i],
+    )
+}
+
 // A byte, added to another or not.
 fn added(add: bool, old: u8, byte: u8) -> u8
     ensures { λ r. ⌜ r ≡ bitXor (cond add old 0) byte ⌝ }
 {
     if add { old ^ byte } else { byte }
-}
-
-// Where the page of a slot starts in the store. Behind the last slot the first stands for the others; they do not count.
-fn start_of(store: &[u8], p: usize, slots: &[usize], at: usize) -> usize
-    requires { ⌜ 1 ≤ length (now slots) ⌝ }
-    requires { ⌜ ((j : ℕ) → j < length (now slots) → getD (now slots) j 0 * p + p ≤ length (now store)) ⌝ }
-    ensures { λ r. ⌜ (r ≡ getD (now (slots .entry)) at (getD (now (slots .entry)) 0 0) * p) × (r + p ≤ length (now (store .entry))) ⌝ }
-{
-    if at < slots.len() {
-        slots[at] * p
-    } else {
-        slots[0] * p
-    }
 }
 
 // The sum of the pages of the first four slots, or of all where there are fewer, goes into a page or is added to it.
@@ -55,20 +90,10 @@ fn sum_from(store: &[u8], p: usize, slots: &[usize], page: &mut [u8], add: bool)
     ensures { λ _. ⌜ now (page .exit)
         ≡ cond add (now (page .entry)) [] ⊕ sum (λ t. part p t (now (store .entry))) (take 4 (now (slots .entry))) ⌝ }
 {
-    let terms = slots.len();
-    let one = start_of(store, p, slots, 0);
-    let two = start_of(store, p, slots, 1);
-    let three = start_of(store, p, slots, 2);
-    let four = start_of(store, p, slots, 3);
+    let terms = terms_of(slots);
     let mut i = 0;
     while i < p {
-        let sum = byte_sum(
-            terms,
-            store[one + i],
-            store[two + i],
-            store[three + i],
-            store[four + i],
-        );
+        let sum = sum_at(store, p, terms, i);
         page[i] = added(add, page[i], sum);
         i += 1;
     }
@@ -82,21 +107,11 @@ fn sum_within(store: &mut [u8], p: usize, slots: &[usize], to: usize, add: bool)
     ensures { λ _. ⌜ now (store .exit) ≡ setPart p to (now (store .entry))
         (cond add (part p to (now (store .entry))) [] ⊕ sum (λ t. part p t (now (store .entry))) (take 4 (now (slots .entry)))) ⌝ }
 {
-    let terms = slots.len();
-    let one = start_of(store, p, slots, 0);
-    let two = start_of(store, p, slots, 1);
-    let three = start_of(store, p, slots, 2);
-    let four = start_of(store, p, slots, 3);
+    let terms = terms_of(slots);
     let target = to * p;
     let mut i = 0;
     while i < p {
-        let sum = byte_sum(
-            terms,
-            store[one + i],
-            store[two + i],
-            store[three + i],
-            store[four + i],
-        );
+        let sum = sum_at(store, p, terms, i);
         store[target + i] = added(add, store[target + i], sum);
         i += 1;
     }
