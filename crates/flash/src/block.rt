@@ -2,22 +2,31 @@
 
 ghost use mathlib.Core.Path.{_≡_};
 ghost use Prim.Native.Nat.{_+_, _*_, _≤_};
-ghost use lib.ListN.{length};
-ghost use Rattle.flash.specs.Chip.{isFull, eraseBlock};
+ghost use lib.ListN.{length, replicate};
+ghost use Rattle.flash.specs.Lists.{setPart};
+ghost use Rattle.flash.specs.Chip.{erased, isFull, eraseBlock};
 use crate::ERASED;
 use crate::bytes::fill;
 use crate::bytes::is_filled;
 
-// All pages of the block become blank. Its parts of the store and of the marks are lent on, so nothing beside it can change.
+// A block's bytes, or its marks, are erased. Its part is lent on, so nothing beside it can change.
+fn erase_part(bytes: &mut [u8], size: usize, block: usize)
+    requires { ⌜ block * size + size ≤ length (now bytes) ⌝ }
+    ensures { λ _. ⌜ now (bytes .exit) ≡ setPart size block (now (bytes .entry)) (replicate size erased) ⌝ }
+{
+    let start = block * size;
+    fill(&mut bytes[start..start + size], ERASED);
+}
+
+// All pages of the block become blank.
 pub fn erase_block(store: &mut [u8], marks: &mut [u8], m: usize, p: usize, block: usize)
     requires { ⌜ block * (m * p) + m * p ≤ length (now store) ⌝ }
     requires { ⌜ block * m + m ≤ length (now marks) ⌝ }
     ensures { λ _. ⌜ record { store = now (store .exit); marks = now (marks .exit) }
         ≡ eraseBlock m p block (record { store = now (store .entry); marks = now (marks .entry) }) ⌝ }
 {
-    let size = m * p;
-    fill(&mut store[block * size..block * size + size], ERASED);
-    fill(&mut marks[block * m..block * m + m], ERASED);
+    erase_part(store, m * p, block);
+    erase_part(marks, m, block);
 }
 
 // Whether all marks of the block are this letter.
