@@ -24,4 +24,5 @@ runOfBytes Z list sets chip work place budget =
 
 unfoldable pub readOfBytes : Sizes → (list sets : List ℕ) → Chip → (work : List ℕ) → (original : ℕ) → ReadAnswer
 readOfBytes Z list sets chip work original =
-    onBytes Z (λ number. record { number = number; count = 0; work = work }) (λ entries. readAnswer (requestOf Z entries sets) chip work original) list
+    onBytes Z (λ number. record { number = number; count = 0; work = work })
+    (λ entries. readAnswer (requestOf Z entries sets) chip work original) list

@@ -18,7 +18,8 @@ use Rattle.method.specs.Step.{isErase, erasesBlock}
 use Rattle.method.specs.Runs.{Start}
 use Rattle.method.specs.Cut.{CutInside}
 use Rattle.method.specs.Answers.{runRows, runAnswer, mendAnswer, readAnswer}
-use Rattle.method.specs.Events.{Call, run, mend, read, CutPoint, uncut, between, inside, Event, History, sizesGiven, numberOf, stepsOf, chipAfter, starting, after, moments}
+use Rattle.method.specs.Events.{Call, run, mend, read, CutPoint, uncut, between, inside, Event, History, sizesGiven, numberOf}
+use Rattle.method.specs.Events.{stepsOf, chipAfter, starting, after, moments}
 
 -- ---- the premises, a line for each sentence; the first is `Start` of Runs.antt
 -- rule 8.2

@@ -37,14 +37,16 @@ runsOfOne R chip work place (suc count) =
 -- rule 7.3
 pub record RunsAddUp : Type 0 where
   pub in-two : (R : Request) (chip : Chip) (work : List ℕ) (place a b : ℕ) → refusal (runRows R chip work place) ≡ 0
-      → (let one = runAnswer R chip work place a in runAnswer R chip work place (a + b) ≡ joined one (runAnswer R (one .chip) (one .work) (one .place) b))
+      → (let one = runAnswer R chip work place a in
+      runAnswer R chip work place (a + b) ≡ joined one (runAnswer R (one .chip) (one .work) (one .place) b))
   pub in-ones : (R : Request) (chip : Chip) (work : List ℕ) (place budget : ℕ) → refusal (runRows R chip work place) ≡ 0
       → runAnswer R chip work place budget ≡ runsOfOne R chip work place budget
   -- a run that goes on where the last one stopped is not refused
   pub goes-on : (R : Request) (chip : Chip) (work : List ℕ) (place budget : ℕ) → refusal (runRows R chip work place) ≡ 0
       → (let one = runAnswer R chip work place budget in refusal (runRows R (one .chip) (one .work) (one .place)) ≡ 0)
   -- whatever bytes are stored, the page that a step writes was blank before it
-  pub only-blank : (R : Request) (chip : Chip) (work : List ℕ) (place finished : ℕ) (pass : Pass) (block page : ℕ) → refusal (runRows R chip work place) ≡ 0
+  pub only-blank : (R : Request) (chip : Chip) (work : List ℕ) (place finished : ℕ) (pass : Pass) (block page : ℕ)
+      → refusal (runRows R chip work place) ≡ 0
       → operationAt (R .sizes) (place + finished) ≡ write pass block page
       → isBlank (R .sizes .p) (runAnswer R chip work place finished .chip) (slot (R .sizes .m) block page) ≡ true
 
@@ -59,9 +61,11 @@ pub record Start (R : Request) (chip : Chip) : Type 0 where
 -- Demand 2: from rest, after t steps, store and marks are the state of place t: the coded pages, originals, final pages and blanks
 -- of rule 4.5. At the end every page is where the list sends it.
 pub record StatesReached : Type 0 where
-  pub after-steps : (R : Request) (chip : Chip) → Start R chip → (work : List ℕ) → length work ≡ workLength (R .sizes) → (t : ℕ) → t ≤ lastPlace (R .sizes)
+  pub after-steps : (R : Request) (chip : Chip) → Start R chip → (work : List ℕ) → length work ≡ workLength (R .sizes)
+      → (t : ℕ) → t ≤ lastPlace (R .sizes)
       → (runAnswer R chip work 0 t .number ≡ 0) × (runAnswer R chip work 0 t .place ≡ t)
       × (runAnswer R chip work 0 t .chip ≡ stateOf (move R) (originalsIn (R .sizes) chip) t)
-  pub at-end : (R : Request) (chip : Chip) → Start R chip → (work : List ℕ) → length work ≡ workLength (R .sizes) → (k : ℕ) → k < originalCount (R .sizes)
+  pub at-end : (R : Request) (chip : Chip) → Start R chip → (work : List ℕ) → length work ≡ workLength (R .sizes)
+      → (k : ℕ) → k < originalCount (R .sizes)
       → pageAt (R .sizes .p) (runAnswer R chip work 0 (lastPlace (R .sizes)) .chip) (slotOf (R .sizes .m) (getD (move R .list) k 0))
       ≡ pageAt (R .sizes .p) chip (slotOf (R .sizes .m) k)

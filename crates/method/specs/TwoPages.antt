@@ -124,7 +124,8 @@ module _ (byte : ℕ) where
         ∷ []
     -- how many operations are begun at each moment, those inside a call included
     pub moments-are : map (λ h. length (h .begun)) all-moments
-        ≡ 0 ∷ 1 ∷ 2 ∷ 3 ∷ 3 ∷ 3 ∷ 3 ∷ 4 ∷ 5 ∷ 5 ∷ 6 ∷ 7 ∷ 7 ∷ 8 ∷ 8 ∷ 9 ∷ 10 ∷ 10 ∷ 10 ∷ 11 ∷ 12 ∷ 12 ∷ 13 ∷ 14 ∷ 15 ∷ 16 ∷ 17 ∷ 18 ∷ 18 ∷ 18 ∷ 19 ∷ 20 ∷ 20 ∷ []
+        ≡ 0 ∷ 1 ∷ 2 ∷ 3 ∷ 3 ∷ 3 ∷ 3 ∷ 4 ∷ 5 ∷ 5 ∷ 6 ∷ 7 ∷ 7 ∷ 8 ∷ 8 ∷ 9 ∷ 10 ∷ 10 ∷ 10 ∷ 11
+        ∷ 12 ∷ 12 ∷ 13 ∷ 14 ∷ 15 ∷ 16 ∷ 17 ∷ 18 ∷ 18 ∷ 18 ∷ 19 ∷ 20 ∷ 20 ∷ []
     -- inside the first call, and inside the run to the finish, the chip goes through the states of the places
     pub first-call : map (λ h. h .chip) (take 3 all-moments) ≡ map (stateOf (move two) (1 ∷ 2 ∷ 4 ∷ 8 ∷ [])) (range 0 3)
     pub last-run : map (λ h. h .chip) (take 7 (drop 21 all-moments)) ≡ map (stateOf (move two) (1 ∷ 2 ∷ 4 ∷ 8 ∷ [])) (range 6 7)
