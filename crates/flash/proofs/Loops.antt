@@ -1,5 +1,5 @@
 -- What one turn of a loop over bytes does.
-use Rattle.flash.proofs.Kit.{_≡_, sym, ap, _∙_, _&&_, and-true, List, [], _∷_, _++_, ℕ, suc, _+_, _<_, add-one, arith, bitOr, bitXor}
+use Rattle.flash.proofs.Kit.{_≡_, sym, ap, _∙_, Bool, _&&_, and-true, List, [], _∷_, _++_, ℕ, suc, _+_, _<_, add-one, arith, bitOr, bitXor}
 use Rattle.flash.proofs.Kit.{or-add-and, and-le-l, and-le-r, xor-self, eqb, length, getD, set, take, drop, take-suc, drop-cons, append-snoc}
 use Rattle.flash.proofs.Kit.{getD-at, length-take-le, drop-set-lt, drop-drop, eqb-true, eq-eqb, set-at}
 use Rattle.flash.specs.Lists.{all}
@@ -24,6 +24,11 @@ module _ (new old : List ℕ) (i : ℕ) (e : length new ≡ length old) (l : i <
 pub rest-more : (area old : List ℕ) (i value : ℕ) → drop i area ≡ drop i old → drop (i + 1) (set area i value) ≡ drop (i + 1) old
 rest-more area old i value e = drop-set-lt (i + 1) area i value (omega arith) ∙ sym (drop-drop 1 i area) ∙ ap (drop 1) e ∙ drop-drop 1 i old
 
+-- A loop that gathers whether a test holds of each element.
+pub all-more : (test : ℕ → Bool) (xs : List ℕ) (i : ℕ) → i < length xs → all test (take (i + 1) xs) ≡ (all test (take i xs) && test (getD xs i 0))
+unfolding all
+all-more test xs i h = rw (add-one i, take-suc xs i 0, all-append test (take i xs), and-true)
+
 -- A loop that gathers the bits in which bytes differ from a value: they are none while each byte is that value.
 or-none : (a b : ℕ) → eqb (bitOr a b) 0 ≡ (eqb a 0 && eqb b 0)
 or-none a b =
@@ -43,7 +48,6 @@ xor-none a b =
 pub filled-more : (part : List ℕ) (value different i : ℕ) → i < length part
     → eqb different 0 ≡ all (λ byte. eqb byte value) (take i part)
     → eqb (bitOr different (bitXor (getD part i 0) value)) 0 ≡ all (λ byte. eqb byte value) (take (i + 1) part)
-unfolding all
 filled-more part value different i h e =
     or-none different (bitXor (getD part i 0) value)
-    ∙ rw (e, xor-none (getD part i 0) value, add-one i, take-suc part i 0, all-append (λ byte. eqb byte value) (take i part), and-true)
+    ∙ rw (e, xor-none (getD part i 0) value) (sym (all-more (λ byte. eqb byte value) part i h))

@@ -1,7 +1,7 @@
 // Bytes of one part of the store or the marks. All loops over bytes are here, but for the sum's.
 
 ghost use mathlib.Core.Path.{_≡_};
-ghost use lib.Dec.{eqb};
+ghost use lib.Dec.{eqb, ltb};
 ghost use lib.ListN.{length, replicate};
 ghost use Rattle.flash.specs.Lists.{all};
 
@@ -28,6 +28,19 @@ pub fn is_filled(bytes: &[u8], value: u8) -> bool
         i += 1;
     }
     different == 0
+}
+
+// Whether each of the bytes is below `limit`, gathered likewise.
+pub fn are_below(bytes: &[u8], limit: u8) -> bool
+    ensures { λ r. ⌜ r ≡ all (λ byte. ltb byte limit) (now (bytes .entry)) ⌝ }
+{
+    let mut below = true;
+    let mut i = 0;
+    while i < bytes.len() {
+        below = below & (bytes[i] < limit);
+        i += 1;
+    }
+    below
 }
 
 // The bytes of one part are put into another.

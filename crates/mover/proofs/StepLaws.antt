@@ -1,5 +1,5 @@
 -- What a step does: what a write sums, and the operation that a place has.
-use Rattle.flash.proofs.Kit.{_≡_, refl, sym, ap, _∙_, subst, ⊎-elim, Bool, true, false, cond, List, [], ℕ, _+_, _-_, _*_, _≤_, _<_, min, add-one}
+use Rattle.flash.proofs.Kit.{_≡_, refl, sym, ap, _∙_, subst, ⊎-elim, Bool, true, false, cond, List, [], ℕ, _+_, _-_, _*_, _%_, _≤_, _<_, add-one}
 use Rattle.flash.proofs.Kit.{arith, eq-eqb, eqb-true, length, getD, set, take, drop, length-map, ext-getD, zero-add}
 use Rattle.flash.specs.Lists.{range, first, part, setPart}
 use Rattle.flash.specs.declared.sizes.Sizes.{Sizes}
@@ -51,7 +51,7 @@ set-sent M A other D b page low high page-ok =
     let k : ℕ = sentTo M number in
     let k-in = sent-in M A number number-in in
     let set-lt = set-in M A k k-in in
-    let there : getD other number 0 ≡ min (getD (M .sets) k 0) 64 = rw (entry-sent M A number number-in) at (D k (rw (A .list-length) k-in)) in
+    let there : getD other number 0 ≡ getD (M .sets) k 0 % 128 = rw (entry-sent M A number number-in) at (D k (rw (A .list-length) k-in)) in
     (omega (arith, A .ranges .m-high), omega (arith, A .ranges .m-high))
 
 -- ---- a row, and the table of pages, which tells the sets

@@ -11,8 +11,7 @@ use flash::sizes::in_range;
 use flash::sizes::original_count;
 use flash::sizes::slot_count;
 use flash::sizes::store_length;
-use split::rows::is_split_by_rows;
-use split::rows::sets_by_destination;
+use split::rows::sets_refusal;
 use walk::rows::TABLE;
 
 // Number 2: whether a lent part is not of its exact length.
@@ -57,11 +56,5 @@ pub fn move_refusal(
     if bad_parts(sizes, list, sets, store, marks, work) {
         return 2;
     }
-    if !sets_by_destination(list, sets, table) {
-        return 3;
-    }
-    if !is_split_by_rows(sizes.n, sizes.m, sets, table) {
-        return 4;
-    }
-    0
+    sets_refusal(sizes.n, sizes.m, list, sets, table)
 }

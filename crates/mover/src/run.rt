@@ -62,7 +62,7 @@ fn fill_other(
         return;
     }
     if backward {
-        sets_by_destination(list, sets, other);
+        sets_by_destination(sizes.n, sizes.m, list, sets, other);
         return;
     }
     sources_table(sizes, list, sets, other);

@@ -66,7 +66,7 @@ lowest-zero (suc k) mask h =
     low (suc (suc digit)) h zeros = absurd (omega arith)
 
 -- ---- setting and flipping a bit
-or-bit : (a b bit : ℕ) → bitAt (bitOr a b) bit ≡ max (bitAt a bit) (bitAt b bit)
+pub or-bit : (a b bit : ℕ) → bitAt (bitOr a b) bit ≡ max (bitAt a bit) (bitAt b bit)
 or-bit a b bit =
     let s = or-step (a / 2 ^ bit) (b / 2 ^ bit) in
     let l = bit-lt a bit in

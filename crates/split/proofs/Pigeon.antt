@@ -117,21 +117,26 @@ onto n g below inj x h = ⊎-elim
     (λ (f : (i : ℕ) → i < n → eqb (g i) x ≡ false). absurd (crowded n g x h below inj (λ i l. eqb-false (g i) x (f i l))))
     (seek (λ i. eqb (g i) x) n)
 
--- and as many numbers that meet each number below n meet each once
-pub once : (n : ℕ) (g : ℕ → ℕ) → ((x : ℕ) → x < n → (i : ℕ) × (i < n) × (g i ≡ x)) → (i j : ℕ) → i < n → j < n → g i ≡ g j → i ≡ j
-once n g meets i j h l e =
-    let p = back-onto i h in
-    let q = back-onto j l in
-    sym (p .2) ∙ ap back (sym (back-is (p .0) (p .1) .1) ∙ ap g (p .2) ∙ e ∙ ap g (sym (q .2)) ∙ back-is (q .0) (q .1) .1) ∙ q .2
-  where
-    back : ℕ → ℕ
-    back x = first (λ i. eqb (g i) x) (range 0 n) 0
+-- as many numbers that meet each number below n meet no other, and each once
+module _ (n : ℕ) (g : ℕ → ℕ) (meets : (x : ℕ) → x < n → (i : ℕ) × (i < n) × (g i ≡ x)) where
+  abbrev back : ℕ → ℕ
+  back x = first (λ i. eqb (g i) x) (range 0 n) 0
 
-    back-is : (x : ℕ) → x < n → (back x < n) × (g (back x) ≡ x)
-    back-is x h =
-        let r = meets x h in
-        let f = first-hit (λ i. eqb (g i) x) 0 n (r .0) 0 (omega arith) (omega (arith, r .1)) (eq-eqb (g (r .0)) x (r .2)) in
-        (omega (arith, f .high), eqb-true _ x (f .passes))
+  back-is : (x : ℕ) → x < n → (back x < n) × (g (back x) ≡ x)
+  back-is x h =
+      let r = meets x h in
+      let f = first-hit (λ i. eqb (g i) x) 0 n (r .0) 0 (omega arith) (omega (arith, r .1)) (eq-eqb (g (r .0)) x (r .2)) in
+      (omega (arith, f .high), eqb-true _ x (f .passes))
 
-    back-onto : (i : ℕ) → i < n → (x : ℕ) × (x < n) × (back x ≡ i)
-    back-onto = onto n back (λ x h. back-is x h .0) (λ x y h l e. sym (back-is x h .1) ∙ ap g e ∙ back-is y l .1)
+  -- where i is met from
+  back-onto : (i : ℕ) → i < n → (x : ℕ) × (x < n) × (back x ≡ i)
+  back-onto = onto n back (λ x h. back-is x h .0) (λ x y h l e. sym (back-is x h .1) ∙ ap g e ∙ back-is y l .1)
+
+  pub inside : (i : ℕ) → i < n → g i < n
+  inside i h = let p = back-onto i h in let e = sym (ap g (p .2)) ∙ back-is (p .0) (p .1) .1 in omega (arith, p .1)
+
+  pub once : (i j : ℕ) → i < n → j < n → g i ≡ g j → i ≡ j
+  once i j h l e =
+      let p = back-onto i h in
+      let q = back-onto j l in
+      sym (p .2) ∙ ap back (sym (back-is (p .0) (p .1) .1) ∙ ap g (p .2) ∙ e ∙ ap g (sym (q .2)) ∙ back-is (q .0) (q .1) .1) ∙ q .2

@@ -63,65 +63,16 @@ decided c =
     by-list (requestOf (a .sizes) (a .list .now) (a .sets .now)) (record { store = a .store .now; marks = a .marks .now }) (a .work .now)
     (not-false _ (ranged (c .before .before))) (parts c)
 
-sets-by-destination-requires : tie.Need-sets-by-destination-requires
-sets-by-destination-requires c κs = let l = lengths (c .before) in (l .1 ∙ sym (l .0), omega (arith, l, c .sets-by-destination-arg .given))
+sets-refusal-requires : tie.Need-sets-refusal-requires
+sets-refusal-requires c κs =
+    let l = lengths (c .before) in
+    let B = ranges (c .before .before .before) in
+    ((B .m-low, B .n-high, B .m-high), (l .0, l .1, omega (arith, c .sets-refusal-arg .given)))
 
 returns-3 : tie.Need-returns-3
 returns-3 c =
-    let s = c .before .sets-by-destination in
-    (sym (decided (c .before .before .before) ∙ rw (← s .ensures .tells, not-true (s .result) (c .if3 .taken))), λ z. absurd (omega arith))
-
-is-split-by-rows-requires : tie.Need-is-split-by-rows-requires
-is-split-by-rows-requires c κs =
-    let e = c .before .before .before .before .before in
-    let l = lengths e in
-    (ranges (e .before .before) .m-high, l .1, omega (arith, l))
-
--- what the check of the rows tells
-split-is : (c : tie.After-is-split-by-rows) → (let a = start (c .before .before .before .before .before .before) .args in
-    c .is-split-by-rows .result ≡ isSplit (a .sizes .n) (a .sizes .m) (a .list .now) (a .sets .now))
-split-is c =
-    let e = c .before .before .before in
-    let s = e .before .sets-by-destination in
-    let f = e .before .before .before in
-    let B = ranges (f .before .before) in
-    let l = lengths f in
-    c .is-split-by-rows .ensures _ (record {
-      some-pages = B .m-low;
-      n-fits = B .n-high;
-      m-fits = B .m-high;
-      listed = l .0;
-      one-to-one = rw (← l .0) (sym (s .ensures .tells) ∙ not-false (s .result) (e .if3 .left));
-    }) (s .ensures .by-destination (not-false (s .result) (e .if3 .left)))
-
-returns-4 : tie.Need-returns-4
-returns-4 c =
-    let e = c .before .before .before .before in
-    let s = e .before .sets-by-destination in
-    let r = c .before .is-split-by-rows .result in (
-      sym (decided (e .before .before .before) ∙ rw (← s .ensures .tells, not-false (s .result) (e .if3 .left), ← split-is (c .before), not-true r (c .if4 .taken))),
-      λ z. absurd (omega arith),
-    )
-
-returns-5 : tie.Need-returns-5
-returns-5 c =
-    let e = c .before .before .before .before in
-    let s = e .before .sets-by-destination in
-    let r = c .before .is-split-by-rows .result in (
-      sym (decided (e .before .before .before) ∙ rw (← s .ensures .tells, not-false (s .result) (e .if3 .left), ← split-is (c .before), not-false r (c .if4 .left))),
-      λ z. s .ensures .by-destination (not-false (s .result) (e .if3 .left)),
-    )
+    let e = c .before .before in
+    (c .sets-refusal .ensures .0 ∙ sym (rw (lengths e .0) at (decided e)), c .sets-refusal .ensures .1)
 
 pub move-refusal-spec : {M : Type 1} → statement M
-move-refusal-spec =
-    tie.close
-    (tie.spec
-    in-range-requires
-    returns
-    bad-parts-requires
-    returns-2
-    sets-by-destination-requires
-    returns-3
-    is-split-by-rows-requires
-    returns-4
-    returns-5)
+move-refusal-spec = tie.close (tie.spec in-range-requires returns bad-parts-requires returns-2 sets-refusal-requires returns-3)

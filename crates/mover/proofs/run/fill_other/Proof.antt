@@ -1,7 +1,8 @@
 -- The table that a pass needs is there already, or is filled for it.
-use Rattle.flash.proofs.Kit.{Bool·beq, _≡_, refl, sym, _∙_, subst, Bool, true, false, arith}
+use Rattle.flash.proofs.Kit.{Bool·beq, _≡_, refl, sym, _∙_, subst, Bool, true, false, _*_, _≤_, arith}
 use Rattle.flash.proofs.Bools.{never-both}
 use Rattle.flash.proofs.Bounds.{product-le}
+use Rattle.split.proofs.RowsLaws.{by-destination}
 use Rattle.method.specs.Move.{moveOf}
 use Rattle.walk.proofs.TableLaws.{list-in, sets-in, sources-tell}
 use Rattle.mover.specs.inner.Steps.{OtherTable}
@@ -21,20 +22,23 @@ returns c =
     same false true e = e
     same false false e = refl
 
+-- the originals fit the table
+few : (c : tie.Start) → c .args .sizes .n * c .args .sizes .m ≤ 4096
+few c = let R = c .pre .0 .ranges in product-le (c .args .sizes .n) (c .args .sizes .m) {c = 64} {d = 64} (R .n-high) (R .m-high)
+
 sets-by-destination-requires : tie.Need-sets-by-destination-requires
 sets-by-destination-requires c κs =
     let start = c .before .before .before .before .before in
     let A = start .pre .0 in
-    let few = product-le (start .args .sizes .n) (start .args .sizes .m) {c = 64} {d = 64} (A .ranges .n-high) (A .ranges .m-high) in
-    (A .sets-length ∙ sym (A .list-length), omega (arith, A .list-length, c .sets-by-destination-arg .given))
+    (A .ranges .m-high, few start, A .list-length, A .sets-length, omega (arith, c .sets-by-destination-arg .given))
 
 returns-2 : tie.Need-returns-2
 returns-2 c =
-    let A = c .before .before .before .before .before .before .pre .0 in
-    let E = c .sets-by-destination .ensures in
+    let start = c .before .before .before .before .before .before in
+    let A = start .pre .0 in
     record {
       sources-tell = λ e. absurd (never-both (c .before .before .if2 .taken) e);
-      sets-tell = λ e. E .by-destination (E .tells ∙ rw (A .list-length) (A .one-to-one));
+      sets-tell = λ e. by-destination _ _ _ _ (A .list-length) (few start) (c .sets-by-destination .ensures .0) (A .one-to-one);
     }
 
 sources-table-requires : tie.Need-sources-table-requires
