@@ -1,9 +1,11 @@
 -- What one turn of a loop over bytes does.
-use Rattle.flash.proofs.Kit.{_≡_, sym, ap, _∙_, Bool, _&&_, and-true, List, [], _∷_, _++_, ℕ, suc, _+_, _<_, add-one, arith, bitOr, bitXor}
-use Rattle.flash.proofs.Kit.{or-add-and, and-le-l, and-le-r, xor-self, eqb, length, getD, set, take, drop, take-suc, drop-cons, append-snoc}
-use Rattle.flash.proofs.Kit.{getD-at, length-take-le, drop-set-lt, drop-drop, eqb-true, eq-eqb, set-at}
+use Rattle.flash.proofs.Kit.{_≡_, sym, ap, _∙_, _≢_, ⊎-elim, Bool, false, cond, _&&_, and-true, List, [], _∷_, _++_, ℕ, suc, _+_, _≤_, _<_}
+use Rattle.flash.proofs.Kit.{add-one, arith, bitOr, bitXor, or-add-and, or-zero-l, or-zero-r, and-le-l, and-le-r, xor-self, eqb, ltb, length}
+use Rattle.flash.proofs.Kit.{getD, set, take, drop, take-suc, drop-cons, append-snoc, getD-at, length-take-le, drop-set-lt, drop-drop, eqb-true}
+use Rattle.flash.proofs.Kit.{eq-eqb, ne-eqb, lt-ltb, le-ltb, set-at}
 use Rattle.flash.specs.Lists.{all}
 use Rattle.flash.proofs.Bools.{bool-eq, both, and-both}
+use Rattle.flash.proofs.Comparisons.{eq-cases, lt-cases}
 use Rattle.flash.proofs.Searches.{all-append}
 use Rattle.flash.proofs.Xor.{xor-zero-eq}
 
@@ -51,3 +53,34 @@ pub filled-more : (part : List ℕ) (value different i : ℕ) → i < length par
 filled-more part value different i h e =
     or-none different (bitXor (getD part i 0) value)
     ∙ rw (e, xor-none (getD part i 0) value) (sym (all-more (λ byte. eqb byte value) part i h))
+
+-- A loop that gathers the positions of a value as bits: there is none before the one position is met, and that one after.
+pub record Placed (bytes : List ℕ) (value found i : ℕ) : Type 0 where
+  pub told : (at : ℕ) → at < length bytes → getD bytes at 0 ≡ value → ((j : ℕ) → j < length bytes → getD bytes j 0 ≡ value → j ≡ at)
+      → found ≡ cond (ltb at i) at 0
+
+pub placed-none : (bytes : List ℕ) (value : ℕ) → Placed bytes value 0 0
+placed-none bytes value = record { told = λ at h e only. rw (le-ltb at 0 (omega arith)) }
+
+pub placed-more : (bytes : List ℕ) (value found i number : ℕ) → i < length bytes → number ≡ i → Placed bytes value found i
+    → Placed bytes value (bitOr found (cond (eqb (getD bytes i 0) value) number 0)) (i + 1)
+placed-more bytes value found i number h is P = record {
+  told = λ at l e only. ⊎-elim
+      (λ (q : at ≡ i). here at l e only q)
+      (λ (q : at ≢ i).
+      let other : eqb (getD bytes i 0) value ≡ false = ne-eqb _ _ (λ w. q (sym (only i h w))) in
+      rw other (or-zero-r found ∙ P .told at l e only ∙ ap (λ (t : Bool). cond t at 0) (past at q)))
+      (eq-cases at i);
+}
+  where
+    past : (at : ℕ) → at ≢ i → ltb at i ≡ ltb at (i + 1)
+    past at q = ⊎-elim
+        (λ (l : at < i). lt-ltb at i l ∙ sym (lt-ltb at (i + 1) (omega arith)))
+        (λ (l : i ≤ at). le-ltb at i l ∙ sym (le-ltb at (i + 1) (omega arith)))
+        (lt-cases at i)
+
+    here : (at : ℕ) → at < length bytes → getD bytes at 0 ≡ value → ((j : ℕ) → j < length bytes → getD bytes j 0 ≡ value → j ≡ at) → at ≡ i
+        → bitOr found (cond (eqb (getD bytes i 0) value) number 0) ≡ cond (ltb at (i + 1)) at 0
+    here at l e only q =
+        let none : found ≡ 0 = P .told at l e only ∙ rw (le-ltb at i (omega arith)) in
+        rw (none, eq-eqb (getD bytes i 0) value (rw (← q) e), lt-ltb at (i + 1) (omega arith)) (or-zero-l number ∙ is ∙ sym q)

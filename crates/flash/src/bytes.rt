@@ -1,9 +1,12 @@
 // Bytes of one part of the store or the marks. All loops over bytes are here, but for the sum's.
 
 ghost use mathlib.Core.Path.{_≡_};
+ghost use mathlib.Core.Bool.{cond};
+ghost use Prim.Native.Nat.{ℕ, _≤_, _<_};
 ghost use lib.Dec.{eqb, ltb};
-ghost use lib.ListN.{length, replicate};
+ghost use lib.ListN.{length, getD, replicate};
 ghost use Rattle.flash.specs.Lists.{all};
+use crate::casts::narrow;
 
 // Every byte of the part becomes `value`.
 pub fn fill(part: &mut [u8], value: u8)
@@ -41,6 +44,28 @@ pub fn are_below(bytes: &[u8], limit: u8) -> bool
         i += 1;
     }
     below
+}
+
+// A number, or 0.
+fn kept(keep: bool, number: u8) -> u8
+    ensures { λ r. ⌜ r ≡ cond keep number 0 ⌝ }
+{
+    if keep { number } else { 0 }
+}
+
+// Where the one byte that is `value` stands. Positions are gathered as bits, so that this loop has no branch either.
+pub fn position(bytes: &[u8], value: u8) -> u8
+    requires { ⌜ length (now bytes) ≤ 256 ⌝ }
+    ensures { λ r. ⌜ ((at : ℕ) → at < length (now (bytes .entry)) → getD (now (bytes .entry)) at 0 ≡ value
+        → ((i : ℕ) → i < length (now (bytes .entry)) → getD (now (bytes .entry)) i 0 ≡ value → i ≡ at) → r ≡ at) ⌝ }
+{
+    let mut found: u8 = 0;
+    let mut i = 0;
+    while i < bytes.len() {
+        found = found | kept(bytes[i] == value, narrow(i));
+        i += 1;
+    }
+    found
 }
 
 // The bytes of one part are put into another.

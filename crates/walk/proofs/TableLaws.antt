@@ -1,12 +1,12 @@
 -- Rows and tables that are filled entry by entry tell the pages and the sources of each set.
 use Rattle.flash.proofs.Kit.{_≡_, refl, sym, ap, _∙_, ⊎-elim, List, ℕ, zero, suc, _+_, _-_, _*_, _/_, _%_, _≤_, _<_, not-suc-le-zero, suc-mul}
-use Rattle.flash.proofs.Kit.{div-add-mod', div-lt-iff-lt-mul, mod-lt, add-one, arith, length, getD, set, length-set, getD-set-same, getD-set-other}
+use Rattle.flash.proofs.Kit.{div-add-mod', div-lt-iff-lt-mul, mod-lt, add-one, arith, length, getD, set, take, drop, length-set, length-take, length-drop, getD-take}
+use Rattle.flash.proofs.Kit.{getD-drop, getD-set-same, getD-set-other}
 use Rattle.flash.specs.Lists.{part}
 use Rattle.flash.specs.declared.sizes.Sizes.{Sizes}
 use Rattle.flash.specs.Geometry.{numberAt}
-use Rattle.flash.proofs.Bounds.{product-le}
 use Rattle.flash.proofs.Comparisons.{lt-cases}
-use Rattle.flash.proofs.Parts.{length-part, part-at}
+use Rattle.flash.proofs.Parts.{part-fits, length-part, part-at}
 use Rattle.split.specs.Split.{sourceBlock, destBlock, setOf}
 use Rattle.split.proofs.SplitLaws.{same-from, same-to}
 use Rattle.method.specs.Move.{Move, AcceptedMove}
@@ -77,14 +77,7 @@ abbrev pub goesTo : Move → (set b : ℕ) → ℕ
 goesTo M set b = dest M set (b + 1) - 1
 
 module _ (M : Move) (set b k : ℕ) where
-  -- the original of the set is k or comes after it in block b + 1
-  pub record Searched : Type 0 where
-    pub low : b * M .sizes .m ≤ k
-    pub high : k ≤ D M set (b + 1)
-    pub inside : k < M .sizes .n * M .sizes .m
-    pub small : M .sizes .n * M .sizes .m ≤ 4096
-
-  -- it is k
+  -- the original of the set in block b + 1 is k
   pub record Found : Type 0 where
     pub low : b * M .sizes .m ≤ k
     pub page-lt : k - b * M .sizes .m < M .sizes .m
@@ -139,25 +132,29 @@ module _ (M : Move) (A : AcceptedMove M) where
         let page = mod-lt (D M set (b + 1)) (A .ranges .m-low) in
         (omega arith, omega arith, D-page M A set set-ok (b + 1) v-in .inside)
 
-    pub search-first : (b : ℕ) → b < n → Searched M set b (b * m)
-    search-first b h =
+    -- the position of the one page of the set in a block's part of the sets, as it is lent
+    pub found : (b start page wanted : ℕ) → b < n → start ≡ b * m → wanted ≡ set → (let row = take (start + m - start) (drop start sets) in
+        ((at : ℕ) → at < length row → getD row at 0 ≡ wanted → ((i : ℕ) → i < length row → getD row i 0 ≡ wanted → i ≡ at) → page ≡ at)
+        → Found M set b (start + page))
+    unfolding dest destBlock setOf
+    found b start page wanted h begins is one =
         let r = D-in b h in
-        record { low = omega arith; high = r .0; inside = omega arith; small = product-le n m {c = 64} {d = 64} (A .ranges .n-high) (A .ranges .m-high) }
-
-    pub search-next : (b k : ℕ) → b < n → Searched M set b k → (setOf sets k ≡ set → ⊥) → Searched M set b (k + 1)
-    search-next b k h S ne =
-        let r = D-in b h in
-        let here : k ≡ D M set (b + 1) → ⊥ = λ e. ne (ap (setOf sets) e ∙ D-page M A set set-ok (b + 1) (record { low = omega arith; high = omega arith }) .in-set) in
-        record { low = omega (arith, S .low); high = omega (arith, S .high); inside = omega (arith, S .high); small = S .small }
-
-    pub found : (b k : ℕ) → b < n → Searched M set b k → setOf sets k ≡ set → Found M set b k
-    unfolding dest destBlock
-    found b k h S e =
-        let r = D-in b h in
-        let whole : b * m + (k - b * m) ≡ k = omega (arith, S .low) in
-        let block : k / m + 1 ≡ b + 1 = ap (λ (x : ℕ). x + 1) (rw whole at (slot-div m b (k - b * m) (omega (arith, S .high)))) in
-        let is : D M set (b + 1) ≡ k = rw (e, block) at (D-is M A k (S .inside)) in
-        rw (← is)
+        let fits = part-fits b n m h in
+        let row = take (start + m - start) (drop start sets) in
+        let size : start + m - start ≡ m = omega arith in
+        let long : length row ≡ m = simp (length-take, length-drop) (omega (arith, A .sets-length)) in
+        let at : ℕ = D M set (b + 1) - b * m in
+        let whole : start + at ≡ D M set (b + 1) = omega (arith, r .0) in
+        let v-in : DataBlock n (b + 1) = record { low = omega arith; high = omega arith } in
+        let there : (i : ℕ) → i < m → getD row i 0 ≡ getD sets (start + i) 0 = λ i l. (rw size (getD-take m (drop start sets) i 0 l) ∙ getD-drop start sets i 0) in
+        let here : page ≡ at = one at (omega (arith, r .1)) (there at (r .1) ∙ ap (setOf sets) whole ∙ D-page M A set set-ok (b + 1) v-in .in-set ∙ sym is) (λ i l e.
+        let low : i < m = omega arith in
+        let block : (start + i) / m + 1 ≡ b + 1 = rw begins (ap (λ (x : ℕ). x + 1) (slot-div m b i low)) in
+        let in-set : getD sets (start + i) 0 ≡ set = sym (there i low) ∙ e ∙ is in
+        let this = rw (in-set, block) at (D-is M A (start + i) (omega arith)) in
+        omega arith) in
+        let k : start + page ≡ D M set (b + 1) = ap (λ (x : ℕ). start + x) here ∙ whole in
+        rw k
         (record {
           low = r .0;
           page-lt = r .1;

@@ -6,6 +6,7 @@ ghost use lib.ListN.{length};
 ghost use Rattle.flash.specs.Geometry.{Bounds};
 ghost use Rattle.method.specs.Move.{moveOf, AcceptedMove};
 ghost use Rattle.walk.specs.inner.Rows.{rowLength, tableLength, ListIn, SetsIn, PagesRow, SourcesRow, pagesBy, sourcesBy};
+use flash::bytes::position;
 use flash::casts::entry;
 use flash::casts::narrow;
 use flash::casts::wide;
@@ -62,7 +63,7 @@ pub fn sources_table(sizes: Sizes, list: &[u16], sets: &[u8], sources: &mut [u8]
     }
 }
 
-// The rows of one set: in each block, the first original of the set is the one that it has there.
+// The rows of one set, which has one original in each block.
 pub fn set_rows(
     sizes: Sizes,
     list: &[u16],
@@ -78,15 +79,13 @@ pub fn set_rows(
 {
     let m = sizes.m;
     let reciprocal = reciprocal(m);
+    let wanted = narrow(set);
     let mut block = 0;
     let mut start = 0;
     while block < sizes.n {
-        let mut k = start;
-        while wide(sets[k]) != set {
-            k += 1;
-        }
-        pages[block] = narrow(k - start);
-        let target = quotient(entry(list[k]), m, reciprocal);
+        let page = position(&sets[start..start + m], wanted);
+        pages[block] = page;
+        let target = quotient(entry(list[start + wide(page)]), m, reciprocal);
         block += 1;
         sources[target] = narrow(block);
         start += m;
