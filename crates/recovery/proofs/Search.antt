@@ -52,17 +52,6 @@ module _ (Z : Sizes) (marks : List ℕ) where
 module _ (Z : Sizes) (pages : 0 < Z .m) (marks : List ℕ) where
   open Sizes Z using (n, m)
 
-  pub upto-none : (torn : ℕ) → Upto Z marks 0 0 torn (letter Z 1) (n + 1)
-  upto-none torn = record {
-    few = omega arith;
-    torn-is = λ e. absurd (omega arith);
-    below = λ j h. absurd (omega arith);
-    above = λ j h. absurd (omega arith);
-    same = λ h. (refl, refl);
-    changed = λ h. absurd (omega arith);
-    upper-is = λ h. absurd (omega arith);
-  }
-
   module _ (b count torn upper change : ℕ) (U : Upto Z marks b count torn upper change) (h : b ≤ n) where
     -- one more block: full of the same letter
     pub upto-same : isFull m marks b upper ≡ true → Upto Z marks (b + 1) count torn upper change

@@ -1,10 +1,13 @@
 // What the marks tell, for mend, the recovery after a cut, and for read.
 
 ghost use mathlib.Core.Path.{_≡_};
-ghost use Prim.Native.Nat.{_≤_, _<_};
+ghost use mathlib.Core.Bool.{true};
+ghost use mathlib.Core.Logic.{_⊎_};
+ghost use Prim.Native.Nat.{ℕ, _+_, _-_, _*_, _≤_, _<_};
 ghost use lib.ListN.{length};
+ghost use Rattle.flash.specs.Lists.{all, range};
 ghost use Rattle.flash.specs.Geometry.{slotCount};
-ghost use Rattle.flash.specs.Chip.{isMark};
+ghost use Rattle.flash.specs.Chip.{isMark, isFull};
 ghost use Rattle.method.specs.Mend.{reading};
 ghost use Rattle.method.specs.Answers.{marksAnswer};
 ghost use Rattle.recovery.specs.MarksRead.{answerOf};
@@ -12,6 +15,7 @@ ghost use Rattle.recovery.specs.inner.Gathered.{momentOf, Shown};
 use flash::ERASED;
 use flash::LETTERS;
 use flash::block::is_full;
+use flash::bytes::is_filled;
 use flash::sizes::Sizes;
 use flash::sizes::letter_after;
 
@@ -49,8 +53,61 @@ fn moment(n: usize, backward: bool, unfinished: usize, block: usize, change: usi
     MarksRead::Torn { backward, block }
 }
 
+// Whether the blocks from `from` to before `to` are full of the letter. They are looked at in one stretch.
+fn are_full(marks: &[u8], m: usize, from: usize, to: usize, letter: u8) -> bool
+    requires { ⌜ (0 < m) × (from ≤ to) × (to * m ≤ length (now marks)) ⌝ }
+    ensures { λ r. ⌜ r ≡ all (λ block. isFull m (now (marks .entry)) block letter) (range from (to - from)) ⌝ }
+{
+    is_filled(&marks[from * m..to * m], letter)
+}
+
+// A guess at how many blocks begin with the letter, by halves: it is right where all that do come before all that do not.
+fn begun_with(marks: &[u8], m: usize, blocks: usize, letter: u8) -> usize
+    requires { ⌜ (0 < m) × (blocks ≤ 65) × (blocks * m ≤ length (now marks)) ⌝ }
+    ensures { λ r. ⌜ r ≤ blocks ⌝ }
+{
+    let mut low = 0;
+    let mut high = blocks;
+    while low < high {
+        let middle = (low + high) / 2;
+        if marks[middle * m] == letter {
+            low = middle + 1;
+        } else {
+            high = middle;
+        }
+    }
+    low
+}
+
+// How many blocks are passed over, since they are full of the letter: all but one of those that begin with it, or none.
+fn passed_over(marks: &[u8], m: usize, blocks: usize, letter: u8) -> usize
+    requires { ⌜ (0 < m) × (blocks ≤ 65) × (blocks * m ≤ length (now marks)) ⌝ }
+    ensures { λ r. ⌜ (r ≤ blocks) × ((block : ℕ) → block < r → isFull m (now (marks .entry)) block letter ≡ true) ⌝ }
+{
+    let begun = begun_with(marks, m, blocks, letter);
+    if begun == 0 {
+        return 0;
+    }
+    if are_full(marks, m, 0, begun - 1, letter) {
+        return begun - 1;
+    }
+    0
+}
+
+// How many pages of a block need not be looked at one by one: all, if it is full of the letter, or none.
+fn known_pages(marks: &[u8], m: usize, block: usize, letter: u8) -> usize
+    requires { ⌜ block * m + m ≤ length (now marks) ⌝ }
+    ensures { λ r. ⌜ ((letter < 3) × (isFull m (now (marks .entry)) block letter ≡ true) × (r ≡ m)) ⊎ (r ≡ 0) ⌝ }
+{
+    if letter < LETTERS && is_full(marks, m, block, letter) {
+        m
+    } else {
+        0
+    }
+}
+
 // Reads the marks. Blocks that are full bear s + 1 below block `change`, and one other letter, `upper`, from there on. The search
-// ends at the second unfinished block, and at anything else that fits no moment of the move.
+// ends at the second unfinished block, at anything else that fits no moment of the move, and where all the rest is full of `upper`.
 pub fn read_marks(sizes: Sizes, marks: &[u8]) -> MarksRead
     requires { ⌜ (sizes .n ≤ 64) × (0 < sizes .m) × (sizes .m ≤ 64) × (sizes .s < 3) ⌝ }
     requires { ⌜ length (now marks) ≡ slotCount sizes ⌝ }
@@ -64,17 +121,11 @@ pub fn read_marks(sizes: Sizes, marks: &[u8]) -> MarksRead
     let mut torn = 0;
     let mut upper = letter_after(sizes, 1);
     let mut change = blocks;
-    'search: for block in 0..blocks {
+    'search: for block in passed_over(marks, m, blocks, upper)..blocks {
         let first = block * m;
         let letter = marks[first];
-        // the pages of a block that is full of a letter need not be looked at one by one
-        let known = if letter < LETTERS && is_full(marks, m, block, letter) {
-            m
-        } else {
-            0
-        };
         let mut whole = true;
-        for page in known..m {
+        for page in known_pages(marks, m, block, letter)..m {
             let mark = marks[first + page];
             if !is_mark(mark) {
                 return MarksRead::NoMoment;
@@ -94,6 +145,9 @@ pub fn read_marks(sizes: Sizes, marks: &[u8]) -> MarksRead
             }
             upper = letter;
             change = block;
+            if are_full(marks, m, block + 1, blocks, letter) {
+                break 'search;
+            }
         }
     }
     moment(n, upper == letter_after(sizes, 2), unfinished, torn, change)

@@ -1,21 +1,23 @@
 -- `read_marks` meets its contract: the search knows what it has met, and what that tells at its end.
-use Rattle.flash.proofs.Kit.{needs, _≡_, sym, _∙_, inl, inr, ⊎-elim, true, false, _+_, _-_, _*_, _≤_, _<_, arith, length, getD, not-true, not-false}
+use Rattle.flash.proofs.Kit.{needs, _≡_, sym, _∙_, ⊎-elim, true, false, ℕ, _+_, _-_, _*_, _≤_, _<_, mul-le-mul-right, arith, length, getD, not-true, not-false}
 use Rattle.flash.specs.Geometry.{letter}
-use Rattle.flash.specs.Chip.{isMark}
+use Rattle.flash.specs.Chip.{isMark, isFull}
+use Rattle.flash.proofs.Ranges.{all-in}
 use Rattle.flash.proofs.Bounds.{block-in-marks}
 use Rattle.recovery.proofs.Reading.{reads-illegal}
-use Rattle.recovery.proofs.Search.{Upto, Block, LegalBelow, legal-more, legal-all, torn-in, upto-none, Known, known-in, block-known, legal-known}
+use Rattle.recovery.proofs.Search.{Upto, Block, LegalBelow, legal-more, legal-all, torn-in, known-in, block-known, legal-known}
 use Rattle.recovery.proofs.Search.{page-same, page-opens, page-first, page-second, block-changes, block-astray, block-kept}
+use Rattle.recovery.proofs.Stretches.{legal-over, upto-passed, upto-rest}
 use Rattle.recovery.proofs.Tells.{tells-none, tells-second, tells}
 use Rattle.recovery.proofs.marks.read_marks.Statement.{statement}
 use Rattle.recovery.proofs.marks.read_marks.Tie as tie
 
 abbrev Inv-loop : tie.InvT-loop
-Inv-loop sizes marks n m blocks unfinished₀ torn₀ upper change block first letter known whole₀ page₀ unfinished torn whole page =
+Inv-loop sizes marks n m blocks unfinished₀ torn₀ upper change block first letter whole₀ page₀ unfinished torn whole page =
     (page ≤ m) × Block sizes marks block page letter unfinished₀ torn₀ unfinished torn whole × LegalBelow sizes marks (block * m + page)
 
 abbrev μ-loop : tie.MeasureT-loop
-μ-loop sizes marks n m blocks unfinished₀ torn₀ upper change block first letter known whole₀ page₀ unfinished torn whole page = m - page
+μ-loop sizes marks n m blocks unfinished₀ torn₀ upper change block first letter whole₀ page₀ unfinished torn whole page = m - page
 
 abbrev Inv-search : tie.InvT-search
 Inv-search sizes marks n m blocks unfinished₀ torn₀ upper₀ change₀ block₀ unfinished torn upper change block =
@@ -30,19 +32,31 @@ add-blocks c = search needs
 letter-after-requires : tie.Need-letter-after-requires Inv-loop μ-loop Inv-search μ-search
 letter-after-requires c κs = search needs
 
+passed-over-requires : tie.Need-passed-over-requires Inv-loop μ-loop Inv-search μ-search
+passed-over-requires c κs = (omega arith, omega arith, omega (arith, c .before .before .pre .1))
+
 search-holds : tie.Need-search-holds Inv-loop μ-loop Inv-search μ-search
+unfolding letter
 search-holds c =
-    let a = c .before .before .args in
-    let sizes = a .sizes in
-    let upper : c .letter-after .result ≡ letter sizes 1 = c .letter-after .ensures in
-    (omega arith, omega arith, rw upper (upto-none sizes (omega arith) (a .marks .now) 0), λ i h. absurd (omega arith))
+    let start = c .before .before .before in
+    let sizes = start .args .sizes in
+    let marks = start .args .marks .now in
+    let upper : c .before .letter-after .result ≡ letter sizes 1 = c .before .letter-after .ensures in
+    let r = c .passed-over .result in
+    let full = (rw upper at (c .passed-over .ensures .1)) in
+    let fits = mul-le-mul-right (sizes .m) (c .passed-over .ensures .0) in (
+      omega arith,
+      omega arith,
+      rw upper (upto-passed sizes (omega arith) marks 0 r (omega arith) full),
+      legal-over sizes (omega arith) marks (letter sizes 1) 0 r (omega arith) (omega (arith, start .pre .1)) (λ i h. absurd (omega arith)) (λ j a h. full j h),
+    )
 
 -- the block that is looked at lies within the marks
-room : (c : tie.In-search Inv-loop μ-loop Inv-search μ-search) → c .before .search .block * c .before .before .before .before .args .sizes .m + c .before .before .before .before .args .sizes .m ≤ length (c .before .before .before .before .args .marks .now)
+room : (c : tie.In-search Inv-loop μ-loop Inv-search μ-search) → (let a = c .before .before .before .before .before .args in
+    c .before .search .block * a .sizes .m + a .sizes .m ≤ length (a .marks .now))
 room c =
-    let a = c .before .before .before .before .args in
-    let sizes = a .sizes in
-    rw (c .before .before .before .before .pre .1) (block-in-marks sizes (c .before .search .block) (omega arith))
+    let start = c .before .before .before .before .before in
+    rw (start .pre .1) (block-in-marks (start .args .sizes) (c .before .search .block) (omega arith))
 
 mul-first : tie.Need-mul-first Inv-loop μ-loop Inv-search μ-search
 mul-first c = omega (arith, room c)
@@ -50,59 +64,53 @@ mul-first c = omega (arith, room c)
 shared-slice-read-letter : tie.Need-shared-slice-read-letter Inv-loop μ-loop Inv-search μ-search
 shared-slice-read-letter c = omega (arith, room (c .before))
 
-is-full-requires : tie.Need-is-full-requires Inv-loop μ-loop Inv-search μ-search
-is-full-requires c κs = omega (arith, room (c .before .before))
-
--- what is known of the block at once
-known : (c : tie.Joined1-2 Inv-loop μ-loop Inv-search μ-search)
-    → (let b = c .before .before in let a = b .before .before .before .before .args in let first = b .before .search .block * a .sizes .m in
-    (pages : 0 < a .sizes .m) → Known (a .sizes) pages (a .marks .now) (b .before .search .block) (getD (a .marks .now) first 0) (c .if1 .known))
-known c pages = ⊎-elim (λ w. inl (w .0 .taken, sym (w .1 .ensures) ∙ w .2 .taken, w .3)) (λ w. inr (w .1)) (c .if1 .came)
+known-pages-requires : tie.Need-known-pages-requires Inv-loop μ-loop Inv-search μ-search
+known-pages-requires c κs = omega (arith, room (c .before))
 
 loop-holds : tie.Need-loop-holds Inv-loop μ-loop Inv-search μ-search
 loop-holds c =
     let b = c .before .before in
     let o = b .before .search in
-    let a = b .before .before .before .before .args in
+    let a = b .before .before .before .before .before .args in
     let sizes = a .sizes in
     let pages : 0 < a .sizes .m = omega arith in
-    let K = known c pages in (
+    let K = c .known-pages .ensures in (
       known-in sizes pages (a .marks .now) (o .block) _ _ K,
       block-known sizes pages (a .marks .now) (o .block) _ _ _ _ K,
       legal-known sizes pages (a .marks .now) (o .block) _ _ K (room b) (o .inv .3),
     )
 
 add-mark : tie.Need-add-mark Inv-loop μ-loop Inv-search μ-search
-add-mark c = omega (arith, room (c .before .before .before .before .before))
+add-mark c = omega (arith, room (c .before .before .before .before))
 
 shared-slice-read-mark : tie.Need-shared-slice-read-mark Inv-loop μ-loop Inv-search μ-search
-shared-slice-read-mark c = omega (arith, room (c .before .before .before .before .before .before))
+shared-slice-read-mark c = omega (arith, room (c .before .before .before .before .before))
 
 is-mark-requires : tie.Need-is-mark-requires Inv-loop μ-loop Inv-search μ-search
 is-mark-requires c κs = search needs
 
 returns : tie.Need-returns Inv-loop μ-loop Inv-search μ-search
 returns c =
-    let p = c .before .before .before .before in
+    let p = c .before .before .before in
     let l = p .before .loop in
     let b = p .before .before .before .before in
     let o = b .before .search in
-    let a = b .before .before .before .before .args in
+    let a = b .before .before .before .before .before .args in
     let sizes = a .sizes in
     let pages : 0 < a .sizes .m = omega arith in
-    let illegal : isMark (getD (a .marks .now) (o .block * a .sizes .m + l .page) 0) ≡ false = sym (c .before .is-mark .ensures) ∙ not-true _ (c .if3 .taken) in
+    let illegal : isMark (getD (a .marks .now) (o .block * a .sizes .m + l .page) 0) ≡ false = sym (c .before .is-mark .ensures) ∙ not-true _ (c .if1 .taken) in
     tells-none sizes pages (a .marks .now) (reads-illegal sizes pages (a .marks .now) (o .block * a .sizes .m + l .page) (omega (arith, room b)) illegal)
 
 add-unfinished : tie.Need-add-unfinished Inv-loop μ-loop Inv-search μ-search
 add-unfinished c =
-    let p = c .before .before .before .before .before in
+    let p = c .before .before .before .before in
     let l = p .before .loop in
     let b = p .before .before .before .before in
     let o = b .before .search in
-    let a = b .before .before .before .before .args in
+    let a = b .before .before .before .before .before .args in
     let sizes = a .sizes in
     let pages : 0 < a .sizes .m = omega arith in
-    let e = page-opens sizes pages (a .marks .now) (o .block) (l .page) _ _ (room b) (p .loop-test .taken) (l .inv .1) (c .if4 .taken) in
+    let e = page-opens sizes pages (a .marks .now) (o .block) (l .page) _ _ (room b) (p .loop-test .taken) (l .inv .1) (c .if2 .taken) in
     omega (arith, o .inv .2 .few)
 
 add-page : tie.Need-add-page Inv-loop μ-loop Inv-search μ-search
@@ -113,15 +121,15 @@ loop-less c = search needs
 
 loop-again : tie.Need-loop-again Inv-loop μ-loop Inv-search μ-search
 loop-again c =
-    let p = c .before .before .before .before .before in
+    let p = c .before .before .before .before in
     let l = p .before .loop in
     let b = p .before .before .before .before in
     let o = b .before .search in
-    let a = b .before .before .before .before .args in
+    let a = b .before .before .before .before .before .args in
     let sizes = a .sizes in
     let pages : 0 < a .sizes .m = omega arith in
     let legal : isMark (getD (a .marks .now) (o .block * a .sizes .m + l .page) 0) ≡ true =
-    sym (c .before .before .is-mark .ensures) ∙ not-false _ (c .before .if3 .left) in
+    sym (c .before .before .is-mark .ensures) ∙ not-false _ (c .before .if1 .left) in
     let more = legal-more sizes (a .marks .now) (o .block * a .sizes .m) (l .page) (l .inv .2) legal in
     ⊎-elim
     (λ w. (
@@ -136,7 +144,7 @@ loop-again c =
           (l .inv .1) legal (w .0 .left)),
       more,
     ))
-    (c .if4 .came)
+    (c .if2 .came)
 
 returns-2 : tie.Need-returns-2 Inv-loop μ-loop Inv-search μ-search
 returns-2 c =
@@ -144,12 +152,18 @@ returns-2 c =
     let l = e .before .loop in
     let b = e .before .before .before .before in
     let o = b .before .search in
-    let a = b .before .before .before .before .args in
+    let a = b .before .before .before .before .before .args in
     let sizes = a .sizes in
     let pages : 0 < a .sizes .m = omega arith in
     tells-none sizes pages (a .marks .now)
     (block-astray sizes pages (a .marks .now) (o .block) (l .page) _ _ _ _ _ (omega arith) (e .loop-test .left)
-    (o .inv .2) (l .inv .1) (omega arith) (c .before .if6 .taken))
+    (o .inv .2) (l .inv .1) (omega arith) (c .before .if4 .taken))
+
+add-are-full : tie.Need-add-are-full Inv-loop μ-loop Inv-search μ-search
+add-are-full c = search needs
+
+are-full-requires : tie.Need-are-full-requires Inv-loop μ-loop Inv-search μ-search
+are-full-requires c κs = (omega arith, omega arith, omega (arith, c .before .before .before .before .before .before .before .before .before .before .before .pre .1))
 
 add-block : tie.Need-add-block Inv-loop μ-loop Inv-search μ-search
 add-block c = search needs
@@ -163,7 +177,7 @@ search-again c =
     let l = e .before .loop in
     let b = e .before .before .before .before in
     let o = b .before .search in
-    let a = b .before .before .before .before .args in
+    let a = b .before .before .before .before .before .args in
     let sizes = a .sizes in
     let pages : 0 < a .sizes .m = omega arith in
     let h : o .block ≤ a .sizes .n = omega arith in
@@ -173,7 +187,7 @@ search-again c =
     (λ w. (
       omega arith,
       torn,
-      rw (w .2, w .3) (block-changes sizes pages (a .marks .now) (o .block) (l .page) _ _ _ _ _ h (e .loop-test .left)
+      rw (w .4, w .5) (block-changes sizes pages (a .marks .now) (o .block) (l .page) _ _ _ _ _ h (e .loop-test .left)
           (o .inv .2) (l .inv .1) (omega arith) (w .0 .taken)),
       legal,
     ))
@@ -184,36 +198,59 @@ search-again c =
           (o .inv .2) (l .inv .1) (w .0 .left)),
       legal,
     ))
-    (c .if6 .came)
+    (c .if4 .came)
 
 letter-after-requires-2 : tie.Need-letter-after-requires-2 Inv-loop μ-loop Inv-search μ-search
 letter-after-requires-2 c κs = search needs
 
 moment-requires : tie.Need-moment-requires Inv-loop μ-loop Inv-search μ-search
-moment-requires c κs = ⊎-elim (λ w. omega arith) (λ w. omega arith) (c .before .search-test .came)
+moment-requires c κs =
+    let t = c .before .before in
+    let a = t .before .before .before .before .args in
+    ⊎-elim
+    (λ w. omega arith)
+    (λ w. ⊎-elim
+    (λ v. omega arith)
+    (λ v. (omega arith, rw (v .10) (torn-in (a .sizes) (a .marks .now) (v .3 .inv .1) (omega arith) (t .search .inv .1))))
+    w)
+    (c .before .search-test .came)
 
 returns-3 : tie.Need-returns-3 Inv-loop μ-loop Inv-search μ-search
 returns-3 c =
     let t = c .before .before .before in
     let o = t .search in
-    let a = t .before .before .before .args in
+    let start = t .before .before .before .before in
+    let a = start .args in
     let sizes = a .sizes in
+    let marks = a .marks .now in
     let pages : 0 < a .sizes .m = omega arith in
     let final : c .before .letter-after2 .result ≡ letter sizes 2 = c .before .letter-after2 .ensures in
     rw (c .moment .ensures)
     (⊎-elim
     (λ w.
     let end : o .block ≡ a .sizes .n + 1 = omega arith in
-    let U : Upto sizes (a .marks .now) (a .sizes .n + 1) (o .unfinished) (o .torn) (o .upper) (o .change) = rw end at (o .inv .2) in
-    let legal = legal-all sizes (a .marks .now) (rw (c .before .before .before .before .before .before .pre .1, ← end) (o .inv .3)) in
-    rw (w .1, w .2, final)
-    (tells sizes pages (a .marks .now) _ _ _ _ U legal))
-    (λ w.
-    let l = w .3 in
-    rw (w .11, w .10 .taken)
-    (tells-second sizes pages (a .marks .now) _ _ _
-    (page-second sizes pages (a .marks .now) (o .block) (l .page) _ _ (room (record { before = t; search-test = w .0 })) (w .4 .taken)
-    (l .inv .1) (o .inv .2) (omega arith) (w .10 .taken) (w .9 .taken))))
+    let U : Upto sizes marks (a .sizes .n + 1) (o .unfinished) (o .torn) (o .upper) (o .change) = rw end at (o .inv .2) in
+    let legal = legal-all sizes marks (rw (start .pre .1, ← end) (o .inv .3)) in
+    rw (w .1, w .2, w .3, w .4, final) (tells sizes pages marks _ _ _ _ U legal))
+    (λ w. ⊎-elim
+    (λ v.
+    let l = v .3 in
+    rw (v .10, v .9 .taken)
+    (tells-second sizes pages marks _ _ _
+    (page-second sizes pages marks (o .block) (l .page) _ _ (room (record { before = t; search-test = v .0 })) (v .4 .taken)
+    (l .inv .1) (o .inv .2) (omega arith) (v .9 .taken) (v .8 .taken))))
+    (λ v.
+    let l = v .3 in
+    let h : o .block ≤ a .sizes .n = omega arith in
+    let U = block-changes sizes pages marks (o .block) (l .page) _ _ _ _ _ h (v .4 .left) (o .inv .2) (l .inv .1) (omega arith) (v .5 .taken) in
+    let all = sym (v .7 .ensures) ∙ v .8 .taken in
+    let rest : (j : ℕ) → o .block + 1 ≤ j → j < a .sizes .n + 1 → isFull (a .sizes .m) marks j (getD marks (o .block * a .sizes .m) 0) ≡ true = λ j low high.
+    all-in (λ b. isFull (a .sizes .m) marks b (getD marks (o .block * a .sizes .m) 0)) (o .block + 1) _ all j low (omega arith) in
+    let so-far : LegalBelow sizes marks ((o .block + 1) * a .sizes .m) = λ i k. l .inv .2 i (omega arith) in
+    let over = legal-over sizes pages marks _ (o .block + 1) (a .sizes .n + 1) (U .upper-is h .1) (omega (arith, start .pre .1)) so-far rest in
+    rw (v .9, v .10, v .11, v .12, final)
+    (tells sizes pages marks _ _ _ _ (upto-rest sizes pages marks _ _ _ _ _ U (omega arith) h rest) (legal-all sizes marks (rw (start .pre .1) over))))
+    w)
     (c .before .before .search-test .came))
 
 pub read-marks-spec : {M : Type 1} → statement M
@@ -226,10 +263,11 @@ read-marks-spec =
     μ-search
     add-blocks
     letter-after-requires
+    passed-over-requires
     search-holds
     mul-first
     shared-slice-read-letter
-    is-full-requires
+    known-pages-requires
     loop-holds
     add-mark
     shared-slice-read-mark
@@ -240,6 +278,8 @@ read-marks-spec =
     loop-less
     loop-again
     returns-2
+    add-are-full
+    are-full-requires
     add-block
     search-less
     search-again
