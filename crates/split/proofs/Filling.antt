@@ -1,21 +1,22 @@
 -- The rule page by page: the tables give the sets that the definition gives.
-use Rattle.flash.proofs.Kit.{_≡_, refl, sym, ap, ap₂, _∙_, subst, _≢_, ⊎-elim, true, false, cond, not, List, [], _∷_, _++_, ℕ, suc, _+_, _-_, _*_}
-use Rattle.flash.proofs.Kit.{_/_, _%_, _≤_, _<_, div-add-mod', mod-lt, add-one, arith, eqb, length, getD, take, replicate, set as put, length-set}
-use Rattle.flash.proofs.Kit.{getD-take, take-suc, take-suc-set, take-set-le, take-all, eqb-true, eqb-false, eq-eqb, ne-eqb, not-true, not-false}
+use Rattle.flash.proofs.Kit.{_≡_, refl, sym, ap, ap₂, _∙_, subst, _⊎_, _≢_, ⊎-elim, Bool, true, false, cond, not, List, [], _∷_, _++_, ℕ, suc, _+_}
+use Rattle.flash.proofs.Kit.{_-_, _*_, _/_, _%_, _≤_, _<_, div-add-mod', mod-lt, add-one, not-suc-le-zero, arith, eqb, length, getD, take, replicate}
+use Rattle.flash.proofs.Kit.{set as put, length-set, getD-set-same, getD-set-other, getD-take, take-suc-set, take-set-le, eqb-true, eqb-false, eq-eqb}
+use Rattle.flash.proofs.Kit.{ne-eqb, ltb-true, lt-ltb, le-ltb, not-true, not-false}
 use Rattle.split.specs.Split.{setOf}
-use Rattle.split.specs.Rule.{End, source, destination, blockAt, isUsed, lowestUnused, pagesMet, exchange, giveNext, setsGiven, splitByRule}
+use Rattle.split.specs.Rule.{End, source, destination, otherEnd, blockAt, isUsed, lowestUnused, pagesMet, exchange, giveNext, setsGiven}
 use Rattle.split.specs.inner.Mask.{bitAt, lowestZero, FlippedAt}
 use Rattle.split.specs.inner.Rows.{Accepted}
-use Rattle.split.specs.inner.Cells.{rowOf, noteOf, Exact}
+use Rattle.split.specs.inner.Cells.{rowOf, cellOf, Uses, byMasks, byOrder, Cell, Exact, Numbered}
 use Rattle.split.specs.inner.Work.{Working, Blocked}
-use Rattle.flash.proofs.Bools.{bool-cases}
+use Rattle.flash.proofs.Bools.{bool-cases, fails}
+use Rattle.flash.proofs.Comparisons.{eq-cases, lt-cases}
 use Rattle.flash.proofs.Ranges.{First, first-is}
 use Rattle.split.proofs.RuleLaws.{given, Given, blocks, used-page, unused-none, lowest}
-use Rattle.split.proofs.Walk.{PageAt}
-use Rattle.split.proofs.Turns.{first-turn}
-use Rattle.split.proofs.MaskLaws.{bit-lt}
-use Rattle.split.proofs.CellsLaws.{no-pages, one-noted}
-use Rattle.split.proofs.PathLaws.{same-block, home-note, set-here, set-else, Ready, Walking}
+use Rattle.split.proofs.MaskLaws.{bit-lt, no-bits, zeros-at}
+use Rattle.split.proofs.CellsLaws.{no-pages, one-noted, bit-now}
+use Rattle.split.proofs.PathLaws.{same-block, set-here, set-else}
+use Rattle.split.proofs.Numbers.{source-row, source-page, digits}
 
 module _ (n m : ℕ) (list : List ℕ) (A : Accepted n m list) where
   pub row-lt : (end : End) (k : ℕ) → k < n * m → rowOf m list end k < 64
@@ -25,19 +26,19 @@ module _ (n m : ℕ) (list : List ℕ) (A : Accepted n m list) where
     abbrev sofar : List ℕ
     sofar = setsGiven m list k
 
-    so-far : Given n m list (A .listed) (A .one-to-one) k
+    pub so-far : Given n m list (A .listed) (A .one-to-one) k
     so-far = given n m list (A .listed) (A .one-to-one) k (omega arith)
 
     abbrev low : End → ℕ
     low end = lowestUnused m list sofar end (blockAt m list end k)
 
-    lowest-hit : (end : End) → First (λ s. not (isUsed m list sofar end (blockAt m list end k) s)) 0 m (low end)
+    pub lowest-hit : (end : End) → First (λ s. not (isUsed m list sofar end (blockAt m list end k) s)) 0 m (low end)
     lowest-hit end = subst (λ (x : ℕ). First (λ s. not (isUsed m list sofar end (blockAt m list end x) s)) 0 m
         (lowestUnused m list sofar end (blockAt m list end x))) (so-far .counted)
         (lowest n m list (A .listed) (A .one-to-one) sofar (so-far .coloured) (omega (arith, so-far .counted)) end)
 
-    pub low-lt : (end : End) → low end < 64
-    low-lt end = let h = lowest-hit end .high in let fits = A .m-fits in omega arith
+    pub low-lt : (end : End) → low end < m
+    low-lt end = let h = lowest-hit end .high in omega arith
 
     -- the next sets, by the two ways of the rule
     next-sets : (a b j : ℕ) → List ℕ
@@ -60,7 +61,7 @@ module _ (n m : ℕ) (list : List ℕ) (A : Accepted n m list) where
         let e : next-sets a (low destination) k ≡ sofar ++ (a ∷ []) = rw u in
         sym e ∙ next-is a _ a-is refl
 
-    gives-exchanged : (a b : ℕ) → a ≡ low source → b ≡ low destination
+    pub gives-exchanged : (a b : ℕ) → a ≡ low source → b ≡ low destination
         → isUsed m list sofar destination (blockAt m list destination k) a ≡ true
         → exchange m list sofar a b (pagesMet m list sofar k destination (blockAt m list destination k) a b) ++ (a ∷ []) ≡ setsGiven m list (suc k)
     unfolding next-sets
@@ -71,22 +72,22 @@ module _ (n m : ℕ) (list : List ℕ) (A : Accepted n m list) where
 
     -- ---- the first k pages have their sets
     module _ (sets : List ℕ) (is : take k sets ≡ sofar) where
-      same-set : (x : ℕ) → x < k → setOf sets x ≡ setOf sofar x
+      pub same-set : (x : ℕ) → x < k → setOf sets x ≡ setOf sofar x
       unfolding setOf
       same-set x h = sym (getD-take k sets x 0 h) ∙ ap (λ (xs : List ℕ). getD xs x 0) is
 
-      -- the bit of a set tells whether it is used
-      used-bit : (end : End) (table masks : List ℕ) → Exact m list end k sets table masks → (set : ℕ) → set < 64
-          → eqb (bitAt (getD masks (rowOf m list end k) 0) set) 1 ≡ isUsed m list sofar end (blockAt m list end k) set
-      used-bit end table masks X set small = ⊎-elim
+      -- it is told which sets are used
+      used-is : (end : End) (uses : Uses) (table : List ℕ) → Exact m list end k sets uses table → (set : ℕ) → set < m
+          → uses (rowOf m list end k) set ≡ isUsed m list sofar end (blockAt m list end k) set
+      used-is end uses table X set small = ⊎-elim
           (λ (u : isUsed m list sofar end (blockAt m list end k) set ≡ true).
           let p = used-page m list sofar end (blockAt m list end k) set u in
           let h : p .0 < k = rw (so-far .counted) at (p .1 .inside) in
-          eq-eqb _ 1 (X (rowOf m list end k) set small .marked (p .0)
-          (record { inside = h; at-row = ap (λ (x : ℕ). x - 1) (p .1 .at-block); in-set = same-set (p .0) h ∙ p .1 .in-set })) ∙ sym u)
+          let row = ap (λ (x : ℕ). x - 1) (p .1 .at-block) in
+          C .marked (p .0) (record { inside = h; at-row = row; in-set = same-set (p .0) h ∙ p .1 .in-set }) ∙ sym u)
           (λ (u : isUsed m list sofar end (blockAt m list end k) set ≡ false).
-          ne-eqb _ 1 (λ e.
-          let r = X (rowOf m list end k) set small .page e in
+          fails (λ e.
+          let r = C .page e in
           let p = r .1 in
           unused-none m list sofar end (blockAt m list end k) set u (r .0) (record {
             inside = rw (so-far .counted) (p .inside);
@@ -94,21 +95,29 @@ module _ (n m : ℕ) (list : List ℕ) (A : Accepted n m list) where
             at-block = same-block m list end (r .0) k (p .at-row);
           })) ∙ sym u)
           (bool-cases (isUsed m list sofar end (blockAt m list end k) set))
+        where
+          C : Cell m list end k sets (rowOf m list end k) set (uses (rowOf m list end k) set) (getD table (cellOf set (rowOf m list end k)) 0)
+          C = X (rowOf m list end k) set (row-lt end k more) small
 
-      -- the lowest zero of a block's mask is the lowest set unused there
-      pub lowest-free : (end : End) (table masks : List ℕ) → Exact m list end k sets table masks
-          → lowestZero (getD masks (rowOf m list end k) 0) ≡ low end
+      -- the lowest set unused there is free
+      low-free : (end : End) (uses : Uses) (table : List ℕ) → Exact m list end k sets uses table → uses (rowOf m list end k) (low end) ≡ false
+      low-free end uses table X = used-is end uses table X (low end) (low-lt end) ∙ not-true _ (lowest-hit end .passes)
+
+      -- it is the lowest zero of the mask
+      lowest-free : (table masks : List ℕ) → Exact m list destination k sets (byMasks masks) table
+          → lowestZero (getD masks (rowOf m list destination k) 0) ≡ low destination
       unfolding lowestZero
-      lowest-free end table masks X =
-          let h = lowest-hit end in
+      lowest-free table masks X =
+          let h = lowest-hit destination in
           let fits = A .m-fits in
           let high = h .high in
-          let mask = getD masks (rowOf m list end k) 0 in
-          first-is (λ bit. eqb (bitAt mask bit) 0) 0 64 64 (low end) (record {
+          let mask = getD masks (rowOf m list destination k) 0 in
+          first-is (λ bit. eqb (bitAt mask bit) 0) 0 64 64 (low destination) (record {
             low = omega arith;
             high = omega arith;
-            passes = eq-eqb _ 0 (zero-bit mask (low end) (used-bit end table masks X (low end) (omega arith) ∙ not-true _ (h .passes)));
-            before = λ s a b. ne-eqb _ 0 (one-bit mask s (used-bit end table masks X s (omega arith) ∙ not-false _ (h .before s a b)));
+            passes = eq-eqb _ 0 (zero-bit mask (low destination) (low-free destination (byMasks masks) table X));
+            before = λ s a b. ne-eqb _ 0 (one-bit mask s
+                (used-is destination (byMasks masks) table X s (omega arith) ∙ not-false _ (h .before s a b)));
           })
         where
           zero-bit : (mask s : ℕ) → eqb (bitAt mask s) 1 ≡ false → bitAt mask s ≡ 0
@@ -117,254 +126,217 @@ module _ (n m : ℕ) (list : List ℕ) (A : Accepted n m list) where
           one-bit : (mask s : ℕ) → eqb (bitAt mask s) 1 ≡ true → bitAt mask s ≢ 0
           one-bit mask s q z = let f : bitAt mask s ≡ 1 = eqb-true _ 1 q in omega arith
 
-      -- which is free there
-      low-free : (end : End) (table masks : List ℕ) → Exact m list end k sets table masks → (set : ℕ) → set ≡ low end
-          → bitAt (getD masks (rowOf m list end k) 0) set ≢ 1
-      low-free end table masks X set e =
-          rw e (eqb-false _ 1 (used-bit end table masks X (low end) (low-lt end) ∙ not-true _ (lowest-hit end .passes)))
+      -- at the source it is the number of the page within its block
+      own-set : (table : List ℕ) → Exact m list source k sets (byOrder m k) table → low source ≡ k % m
+      unfolding lowestUnused
+      own-set table X = first-is (λ s. not (isUsed m list sofar source (blockAt m list source k) s)) 0 m m (k % m) (record {
+        low = omega arith;
+        high = omega (arith, mod-lt k (A .some-pages));
+        passes = unless (k % m) (mod-lt k (A .some-pages)) (le-ltb _ k (omega (arith, source-page m list k)));
+        before = λ s _ h. unless s (omega (arith, h, mod-lt k (A .some-pages))) (lt-ltb _ k (omega (arith, source-page m list k)));
+      })
+        where
+          unless : (s : ℕ) → s < m → {used : Bool} → byOrder m k (rowOf m list source k) s ≡ used
+              → not (isUsed m list sofar source (blockAt m list source k) s) ≡ not used
+          unless s h e = ap not (sym (used-is source (byOrder m k) table X s h) ∙ e)
 
-      -- page k is noted under a set that its block has not
-      note-more : (end : End) (table masks masks′ sets′ : List ℕ) (set : ℕ) → Exact m list end k sets table masks → length table ≡ 4096 → set < 64
-          → bitAt (getD masks (rowOf m list end k) 0) set ≢ 1 → setOf sets′ k ≡ set → ((x : ℕ) → x ≢ k → setOf sets′ x ≡ setOf sets x)
-          → FlippedAt masks (rowOf m list end k) set masks′
-          → Exact m list end (k + 1) sets′ (put table (rowOf m list end k * 64 + set) (noteOf m end k)) masks′
-      note-more end table masks masks′ sets′ set X sized small free its else flip =
-          one-noted m list end k sets sets′ table masks masks′ X set small free its (λ x h. else x (λ e. absurd (omega arith)))
-          (omega (arith, row-lt end k more)) flip
+      module _ (sets′ : List ℕ) (else : (x : ℕ) → x ≢ k → setOf sets′ x ≡ setOf sets x) where
+        below : (x : ℕ) → x < k → setOf sets′ x ≡ setOf sets x
+        below x h = else x (λ e. absurd (omega arith))
+
+        -- page k is noted at its destination under a set that is free there
+        noted-there : (homes masks masks′ : List ℕ) (set : ℕ) → Exact m list destination k sets (byMasks masks) homes → length homes ≡ 4096 → set < m
+            → byMasks masks (rowOf m list destination k) set ≡ false → setOf sets′ k ≡ set → FlippedAt masks (rowOf m list destination k) set masks′
+            → Exact m list destination (k + 1) sets′ (byMasks masks′) (put homes (cellOf set (rowOf m list destination k)) (rowOf m list source k))
+        unfolding otherEnd
+        noted-there homes masks masks′ set X sized small free its flip =
+            one-noted m list destination k sets sets′ (byMasks masks) (byMasks masks′) homes X set (row-lt destination k more) small free its below
+            (omega (arith, row-lt destination k more, A .m-fits)) (bit-now masks masks′ (rowOf m list destination k) set flip free)
+            (λ row c _ ne. ap (λ (bit : ℕ). eqb bit 1) (flip .same row c ne))
+
+        -- and at its source under its own number
+        module _ (targets numbers : List ℕ) (X : Exact m list source k sets (byOrder m k) targets) (its : setOf sets′ k ≡ k % m) where
+          noted-here : length targets ≡ 4096
+              → Exact m list source (k + 1) sets′ (byOrder m (k + 1))
+              (put targets (cellOf (k % m) (rowOf m list source k)) (rowOf m list destination k))
+          unfolding otherEnd
+          noted-here sized =
+              let small = mod-lt k (A .some-pages) in
+              one-noted m list source k sets sets′ (byOrder m k) (byOrder m (k + 1)) targets X (k % m) (row-lt source k more) small
+              (le-ltb _ k (omega (arith, source-page m list k))) its below (omega (arith, row-lt source k more, A .m-fits, small))
+              (lt-ltb _ (k + 1) (omega (arith, source-page m list k)))
+              (λ row c h ne. ⊎-elim
+              (λ (l : row * m + c < k). lt-ltb _ (k + 1) (omega arith) ∙ sym (lt-ltb _ k l))
+              (λ (l : k ≤ row * m + c).
+              let other : row * m + c ≢ k = λ e.
+              let d = digits m row c (rowOf m list source k) (k % m) h small (e ∙ sym (source-page m list k)) in
+              ⊎-elim (λ (r : row ≢ rowOf m list source k). r (d .0)) (λ (s : c ≢ k % m). s (d .1)) ne in
+              le-ltb _ (k + 1) (omega arith) ∙ sym (le-ltb _ k l))
+              (lt-cases (row * m + c) k))
+
+          numbered-more : Numbered m k sets numbers → k < length numbers → Numbered m (k + 1) sets′ (put numbers k (k % m))
+          numbered-more N room x h = ⊎-elim
+              (λ (e : x ≡ k).
+              let small = mod-lt k (A .some-pages) in
+              rw (e, its) (small, rw (div-add-mod' k m) (getD-set-same numbers k (k % m) 0 room)))
+              (λ (ne : x ≢ k).
+              let l : x < k = omega arith in
+              let s = else x ne in
+              let old = N x l in
+              let low = ltb-true _ k (X (rowOf m list source x) (setOf sets x) (row-lt source x (omega arith)) (old .0) .marked x
+              (record { inside = l; at-row = refl; in-set = refl })) in
+              let not-k : x / m * m + setOf sets x ≢ k = λ e. absurd (omega (arith, low, ap (λ (r : ℕ). r * m) (source-row m list x))) in
+              rw s (old .0, getD-set-other numbers k (x / m * m + setOf sets x) (k % m) 0 not-k ∙ old .1))
+              (eq-cases x k)
 
 -- ---- page k gets its set
-module _ (m : ℕ) (list : List ℕ) (k a : ℕ) (sets numbers sources homes destinations : List ℕ)
-    (W : Working m list k sets numbers sources homes destinations) (more : k < W .blocks * m)
-    (a-is : a ≡ lowestUnused m list (setsGiven m list k) source (blockAt m list source k))
-    (sources′ destinations′ : List ℕ)
-    (flip-source : FlippedAt sources (rowOf m list source k) a sources′) where
+module _ (m : ℕ) (list : List ℕ) (k : ℕ) (numbers targets homes destinations : List ℕ) (W : Working m list k numbers targets homes destinations)
+    (more : k < W .blocks * m) where
   abbrev A : Accepted (W .blocks) m list
   A = W .accepted
 
-  inside : k < length sets
+  abbrev a : ℕ
+  a = k % m
+
+  abbrev sets′ : List ℕ
+  sets′ = put (W .sets) k a
+
+  inside : k < length (W .sets)
   inside = omega (arith, W .sized)
 
+  its : setOf sets′ k ≡ a
+  its = set-here (W .sets) k a inside
+
+  a-is : a ≡ lowestUnused m list (setsGiven m list k) source (blockAt m list source k)
+  a-is = sym (own-set (W .blocks) m list A k more (W .sets) (W .given) targets (W .at-sources))
+
+  a-lt : a < m
+  a-lt = mod-lt k (A .some-pages)
+
   abbrev numbers′ : List ℕ
-  numbers′ = put numbers (rowOf m list source k * 64 + a) (noteOf m source k)
+  numbers′ = put numbers k a
 
-  a-lt : a < 64
-  a-lt = rw a-is (low-lt (W .blocks) m list A k more source)
+  abbrev targets′ : List ℕ
+  targets′ = put targets (cellOf a (rowOf m list source k)) (rowOf m list destination k)
 
-  noted-source : Exact m list source (k + 1) (put sets k a) numbers′ sources′
-  noted-source =
-      note-more (W .blocks) m list A k more sets (W .given) source numbers sources sources′ (put sets k a) a (W .at-sources) (W .numbers-sized) a-lt
-      (low-free (W .blocks) m list A k more sets (W .given) source numbers sources (W .at-sources) a a-is)
-      (set-here sets k a inside) (set-else sets k a) flip-source
+  at-sources : Exact m list source (k + 1) sets′ (byOrder m (k + 1)) targets′
+  at-sources = noted-here (W .blocks) m list A k more (W .sets) (W .given) sets′ (set-else (W .sets) k a) targets numbers
+      (W .at-sources) its (W .targets-sized)
 
-  pub given-plain : isUsed m list (setsGiven m list k) destination (blockAt m list destination k) a ≡ false
-      → FlippedAt destinations (rowOf m list destination k) a destinations′
-      → Working m list (k + 1) (put sets k a) numbers′ sources′
-      (put homes (rowOf m list destination k * 64 + a) (noteOf m destination k)) destinations′
-  given-plain u flip = record {
+  numbered : Numbered m (k + 1) sets′ numbers′
+  numbered = numbered-more (W .blocks) m list A k more (W .sets) (W .given) sets′ (set-else (W .sets) k a) targets numbers
+      (W .at-sources) its (W .numbered) (omega (arith, W .numbers-sized))
+
+  abbrev homes′ : (set : ℕ) → List ℕ
+  homes′ set = put homes (cellOf set (rowOf m list destination k)) (rowOf m list source k)
+
+  -- whether a is used at the destination
+  used-there : byMasks destinations (rowOf m list destination k) a
+      ≡ isUsed m list (setsGiven m list k) destination (blockAt m list destination k) a
+  used-there = used-is (W .blocks) m list A k more (W .sets) (W .given) destination (byMasks destinations) homes (W .at-destinations) a a-lt
+
+  given-plain : (destinations′ : List ℕ) → byMasks destinations (rowOf m list destination k) a ≡ false
+      → FlippedAt destinations (rowOf m list destination k) a destinations′ → Working m list (k + 1) numbers′ targets′ (homes′ a) destinations′
+  given-plain destinations′ u flip = record {
     blocks = W .blocks;
     accepted = A;
     within = omega arith;
-    sized = length-set sets k a ∙ W .sized;
-    given = ap (λ (j : ℕ). take j (put sets k a)) (add-one k) ∙ take-suc-set sets k a inside ∙ ap (λ (xs : List ℕ). xs ++ (a ∷ [])) (W .given)
-        ∙ gives-plain (W .blocks) m list A k more a a-is u ∙ ap (setsGiven m list) (sym (add-one k));
-    numbers-sized = length-set numbers _ _ ∙ W .numbers-sized;
+    sets = sets′;
+    sized = length-set (W .sets) k a ∙ W .sized;
+    given = ap (λ (j : ℕ). take j sets′) (add-one k) ∙ take-suc-set (W .sets) k a inside ∙ ap (λ (xs : List ℕ). xs ++ (a ∷ [])) (W .given)
+        ∙ gives-plain (W .blocks) m list A k more a a-is (sym used-there ∙ u) ∙ ap (setsGiven m list) (sym (add-one k));
+    numbers-sized = length-set numbers k a ∙ W .numbers-sized;
+    targets-sized = length-set targets _ _ ∙ W .targets-sized;
     homes-sized = length-set homes _ _ ∙ W .homes-sized;
-    at-sources = noted-source;
-    at-destinations = note-more (W .blocks) m list A k more sets (W .given) destination homes destinations destinations′ (put sets k a) a
-        (W .at-destinations) (W .homes-sized) a-lt
-        (eqb-false _ 1 (used-bit (W .blocks) m list A k more sets (W .given) destination homes destinations (W .at-destinations) a a-lt ∙ u))
-        (set-here sets k a inside) (set-else sets k a) flip;
+    numbered = numbered;
+    at-sources = at-sources;
+    at-destinations = noted-there (W .blocks) m list A k more (W .sets) (W .given) sets′ (set-else (W .sets) k a) homes destinations destinations′ a
+        (W .at-destinations) (W .homes-sized) a-lt u its flip;
   }
 
-  pub given-blocked : (b : ℕ) → b ≡ lowestUnused m list (setsGiven m list k) destination (blockAt m list destination k)
-      → isUsed m list (setsGiven m list k) destination (blockAt m list destination k) a ≡ true
-      → FlippedAt destinations (rowOf m list destination k) b destinations′
-      → Blocked m list k a b (put sets k a) numbers′ sources′
-      (put homes (rowOf m list destination k * 64 + b) (noteOf m destination k)) destinations′
-  given-blocked b b-is u flip = record {
-    blocks = W .blocks;
-    accepted = A;
-    inside = more;
-    sized = length-set sets k a ∙ W .sized;
-    given = take-set-le k sets k a (omega arith) ∙ W .given;
-    a-is = a-is;
-    b-is = b-is;
-    used = u;
-    its-set = set-here sets k a inside;
-    numbers-sized = length-set numbers _ _ ∙ W .numbers-sized;
-    homes-sized = length-set homes _ _ ∙ W .homes-sized;
-    at-sources = noted-source;
-    at-destinations = note-more (W .blocks) m list A k more sets (W .given) destination homes destinations destinations′ (put (put sets k a) k b) b
-        (W .at-destinations) (W .homes-sized) (rw b-is (low-lt (W .blocks) m list A k more destination))
-        (low-free (W .blocks) m list A k more sets (W .given) destination homes destinations (W .at-destinations) b b-is)
-        (set-here (put sets k a) k b (rw length-set inside)) (λ x ne. set-else (put sets k a) k b x ne ∙ set-else sets k a x ne) flip;
-  }
+  module _ (b : ℕ) (b-is : b ≡ lowestZero (getD destinations (rowOf m list destination k) 0)) where
+    b-low : b ≡ lowestUnused m list (setsGiven m list k) destination (blockAt m list destination k)
+    b-low = b-is ∙ lowest-free (W .blocks) m list A k more (W .sets) (W .given) homes destinations (W .at-destinations)
 
--- ---- the same in what the code computes
-module _ (m : ℕ) (list : List ℕ) (k : ℕ) (sets numbers sources homes destinations : List ℕ)
-    (W : Working m list k sets numbers sources homes destinations) (more : k < W .blocks * m) (home block a : ℕ)
-    (home-is : home ≡ k / m) (block-is : block ≡ rowOf m list destination k) (a-is : a ≡ lowestZero (getD sources home 0)) where
-  home-row : home ≡ rowOf m list source k
-  unfolding noteOf
-  home-row = home-is ∙ home-note m list k
+    b-lt : b < m
+    b-lt = rw b-low (low-lt (W .blocks) m list A k more destination)
 
-  set-is : a ≡ lowestUnused m list (setsGiven m list k) source (blockAt m list source k)
-  set-is = a-is ∙ ap (λ (row : ℕ). lowestZero (getD sources row 0)) home-row
-      ∙ lowest-free (W .blocks) m list (W .accepted) k more sets (W .given) source numbers sources (W .at-sources)
+    given-blocked : (destinations′ : List ℕ) → byMasks destinations (rowOf m list destination k) a ≡ true
+        → FlippedAt destinations (rowOf m list destination k) b destinations′ → Blocked m list k a b numbers′ targets′ (homes′ b) destinations′
+    given-blocked destinations′ u flip = record {
+      blocks = W .blocks;
+      accepted = A;
+      inside = more;
+      sets = sets′;
+      sized = length-set (W .sets) k a ∙ W .sized;
+      given = take-set-le k (W .sets) k a (omega arith) ∙ W .given;
+      a-is = a-is;
+      a-own = refl;
+      b-is = b-low;
+      used = sym used-there ∙ u;
+      its-set = its;
+      numbers-sized = length-set numbers k a ∙ W .numbers-sized;
+      targets-sized = length-set targets _ _ ∙ W .targets-sized;
+      homes-sized = length-set homes _ _ ∙ W .homes-sized;
+      numbered = numbered;
+      at-sources = at-sources;
+      at-destinations = noted-there (W .blocks) m list A k more (W .sets) (W .given) (put sets′ k b)
+          (λ x ne. set-else sets′ k b x ne ∙ set-else (W .sets) k a x ne) homes destinations destinations′ b
+          (W .at-destinations) (W .homes-sized) b-lt
+          (rw b-low (low-free (W .blocks) m list A k more (W .sets) (W .given) destination (byMasks destinations) homes (W .at-destinations)))
+          (set-here sets′ k b (rw length-set inside)) flip;
+    }
 
-  pub rooms : (home < 64) × (block < 64) × (a < 64)
-  rooms = (
-    omega (arith, home-row, row-lt (W .blocks) m list (W .accepted) source k more),
-    omega (arith, block-is, row-lt (W .blocks) m list (W .accepted) destination k more),
-    omega (arith, set-is, low-lt (W .blocks) m list (W .accepted) k more source),
-  )
+  -- ---- the same in what the code computes
+  module _ (home block : ℕ) (home-is : home ≡ k / m) (block-is : block ≡ rowOf m list destination k) where
+    home-row : home ≡ rowOf m list source k
+    home-row = home-is ∙ sym (source-row m list k)
 
-  pub number-is : (home * m ≤ k) × (k - home * m < 64) × (k - home * m ≡ noteOf m source k)
-  unfolding noteOf
-  number-is =
-      let e : home * m + k % m ≡ k = ap (λ (x : ℕ). x * m + k % m) home-is ∙ div-add-mod' k m in
-      let l = mod-lt k (W .accepted .some-pages) in
-      let f = W .accepted .m-fits in
-      (omega arith, omega arith, omega arith)
+    own-is : k - home * m ≡ a
+    own-is = let e : home * m + a ≡ k = ap (λ (x : ℕ). x * m + a) home-is ∙ div-add-mod' k m in omega arith
 
-  -- whether a is used at the destination
-  used-is : eqb (bitAt (getD destinations block 0) a) 1 ≡ isUsed m list (setsGiven m list k) destination (blockAt m list destination k) a
-  used-is = ap (λ (row : ℕ). eqb (bitAt (getD destinations row 0) a) 1) block-is
-      ∙ used-bit (W .blocks) m list (W .accepted) k more sets (W .given) destination homes destinations (W .at-destinations) a (rooms .2)
+    pub rooms : (home < 64) × (block < 64) × (home * m ≤ k) × (k - home * m < 64)
+    rooms = (
+      rw home-row (row-lt (W .blocks) m list A source k more),
+      rw block-is (row-lt (W .blocks) m list A destination k more),
+      (let e : home * m + a ≡ k = ap (λ (x : ℕ). x * m + a) home-is ∙ div-add-mod' k m in omega arith),
+      omega (arith, own-is, a-lt, A .m-fits),
+    )
 
-  module _ (numbers′ sources′ homes′ destinations′ : List ℕ) (numbers-are : numbers′ ≡ put numbers (home * 64 + a) (k - home * m))
-      (flip-source : FlippedAt sources home a sources′) where
-    numbers-noted : numbers′ ≡ put numbers (rowOf m list source k * 64 + a) (noteOf m source k)
-    numbers-noted = numbers-are ∙ ap₂ (λ (row note : ℕ). put numbers (row * 64 + a) note) home-row (number-is .2)
+    pub other-lt : (b : ℕ) → b ≡ lowestZero (getD destinations block 0) → b < 64
+    other-lt b b-is = omega (arith, b-lt b (rw block-is at b-is), A .m-fits)
 
-    flipped : FlippedAt sources (rowOf m list source k) a sources′
-    flipped = subst (λ (row : ℕ). FlippedAt sources row a sources′) home-row flip-source
+    module _ (own : ℕ) (own-at : own ≡ k - home * m) (targets″ homes″ destinations′ : List ℕ)
+        (targets-are : targets″ ≡ put targets (cellOf own home) block) where
+      own-a : own ≡ a
+      own-a = own-at ∙ own-is
 
-    homes-noted : (set : ℕ) → homes′ ≡ put homes (block * 64 + set) home
-        → homes′ ≡ put homes (rowOf m list destination k * 64 + set) (noteOf m destination k)
-    homes-noted set e = e ∙ ap₂ (λ (row note : ℕ). put homes (row * 64 + set) note) block-is (home-row ∙ sym (home-note m list k))
+      pub plain : byMasks destinations block own ≡ false → homes″ ≡ put homes (cellOf own block) home → FlippedAt destinations block own destinations′
+          → Working m list (k + 1) (put numbers k own) targets″ homes″ destinations′
+      plain u homes-are flip = rw (targets-are, homes-are, own-a, block-is, home-row)
+          (given-plain destinations′ (rw (block-is, own-a) at u) (rw (block-is, own-a) at flip))
 
-    pub plain : eqb (bitAt (getD destinations block 0) a) 1 ≡ false → homes′ ≡ put homes (block * 64 + a) home
-        → FlippedAt destinations block a destinations′ → Working m list (k + 1) (put sets k a) numbers′ sources′ homes′ destinations′
-    plain u e flip = rw (numbers-noted, homes-noted a e)
-        (given-plain m list k a sets numbers sources homes destinations W more set-is sources′ destinations′ flipped (sym used-is ∙ u)
-        (subst (λ (row : ℕ). FlippedAt destinations row a destinations′) block-is flip))
+      pub blocked : (b : ℕ) → b ≡ lowestZero (getD destinations block 0) → byMasks destinations block own ≡ true
+          → homes″ ≡ put homes (cellOf b block) home → FlippedAt destinations block b destinations′
+          → Blocked m list k own b (put numbers k own) targets″ homes″ destinations′
+      blocked b b-is u homes-are flip = rw (targets-are, homes-are, own-a, block-is, home-row)
+          (given-blocked b (rw block-is at b-is) destinations′ (rw (block-is, own-a) at u) (rw block-is at flip))
 
-    module _ (b : ℕ) (b-is : b ≡ lowestZero (getD destinations block 0)) where
-      other-is : b ≡ lowestUnused m list (setsGiven m list k) destination (blockAt m list destination k)
-      other-is = b-is ∙ ap (λ (row : ℕ). lowestZero (getD destinations row 0)) block-is
-          ∙ lowest-free (W .blocks) m list (W .accepted) k more sets (W .given) destination homes destinations (W .at-destinations)
-
-      pub other-lt : b < 64
-      other-lt = omega (arith, other-is, low-lt (W .blocks) m list (W .accepted) k more destination)
-
-      pub blocked : eqb (bitAt (getD destinations block 0) a) 1 ≡ true → homes′ ≡ put homes (block * 64 + b) home
-          → FlippedAt destinations block b destinations′ → Blocked m list k a b (put sets k a) numbers′ sources′ homes′ destinations′
-      blocked u e flip = rw (numbers-noted, homes-noted b e)
-          (given-blocked m list k a sets numbers sources homes destinations W more set-is sources′ destinations′ flipped b other-is (sym used-is ∙ u)
-          (subst (λ (row : ℕ). FlippedAt destinations row b destinations′) block-is flip))
-
--- ---- the exchange for page k
-module _ (m : ℕ) (list : List ℕ) (k a b : ℕ) (sets numbers sources homes destinations : List ℕ)
-    (B : Blocked m list k a b sets numbers sources homes destinations) where
-  so-given : Given (B .blocks) m list (B .accepted .listed) (B .accepted .one-to-one) k
-  so-given = so-far (B .blocks) m list (B .accepted) k (B .inside)
-
-  pub ready : Ready m list k a b
-  ready =
-      let unused : (x : ℕ) → PageAt m list (setsGiven m list k) destination (blockAt m list destination k) b x → ⊥ =
-      unused-none m list (setsGiven m list k) destination (blockAt m list destination k) b
-      (rw (B .b-is) (not-true _ (lowest-hit (B .blocks) m list (B .accepted) k (B .inside) destination .passes))) in
-      let f = used-page m list (setsGiven m list k) destination (blockAt m list destination k) a (B .used) in
-      record {
-        coloured = so-given .coloured;
-        counted = so-given .counted;
-        a-lt = rw (B .a-is) (low-lt (B .blocks) m list (B .accepted) k (B .inside) source);
-        b-lt = rw (B .b-is) (low-lt (B .blocks) m list (B .accepted) k (B .inside) destination);
-        differ = λ e. unused (f .0) (subst (λ (c : ℕ). PageAt m list (setsGiven m list k) destination (blockAt m list destination k) c (f .0)) e (f .1));
-        unused = unused;
-      }
-
-  -- the tables lead to the first page of the path
-  pub path-starts : Walking m list k a b sets numbers sources homes destinations (rowOf m list destination k)
-  path-starts =
-      let R = ready in
-      let row = rowOf m list destination k in
-      let X = B .at-destinations row a (R .a-lt) in
-      let f = used-page m list (setsGiven m list k) destination (blockAt m list destination k) a (B .used) in
-      let first = f .0 in
-      let l : first < k = rw (so-given .counted) at (f .1 .inside) in
-      let same = same-set (B .blocks) m list (B .accepted) k (B .inside) sets (B .given) in
-      let c = same first l ∙ f .1 .in-set in
-      let bit = X .marked first (record {
-        inside = omega arith;
-        at-row = ap (λ (x : ℕ). x - 1) (f .1 .at-block);
-        in-set = set-else sets k b first (λ e. absurd (omega arith)) ∙ c;
-      }) in
-      record {
-        ready = R;
-        pages = 0;
-        page = first;
-        turn = first-turn m list (setsGiven m list k) (R .coloured) a b (R .differ) (blockAt m list destination k) (R .unused) sets first
-            (λ x h. same x (rw (so-given .counted) at h))
-            (record { within = omega (arith, f .1 .inside); hit = λ _. (f .1 .at-block, c); none = λ e. absurd (omega (arith, f .1 .inside)) });
-        found = λ _. (l, ap (λ (x : ℕ). x - 1) (f .1 .at-block));
-        over = λ ne. absurd (ne bit);
-        hand = k;
-        hand-in = omega arith;
-        hand-row = refl;
-        hand-set = B .its-set;
-        hand-was = λ h. absurd (omega arith);
-        held = put sets k b;
-        held-hand = set-here sets k b (omega (arith, B .inside, B .sized));
-        held-else = set-else sets k b;
-        its-set = B .its-set;
-        room = omega (arith, B .inside, B .sized);
-        numbers-sized = B .numbers-sized;
-        homes-sized = B .homes-sized;
-        at-sources = B .at-sources;
-        at-destinations = B .at-destinations;
-      }
-
-  -- all of the path is exchanged
-  pub path-done : (sets′ numbers′ sources′ homes′ destinations′ : List ℕ) → length sets′ ≡ length sets → length numbers′ ≡ 4096 → length homes′ ≡ 4096
-      → take k sets′ ≡ exchange m list (setsGiven m list k) a b (pagesMet m list (setsGiven m list k) k destination (blockAt m list destination k) a b)
-      → setOf sets′ k ≡ a → Exact m list source (k + 1) sets′ numbers′ sources′ → Exact m list destination (k + 1) sets′ homes′ destinations′
-      → Working m list (k + 1) sets′ numbers′ sources′ homes′ destinations′
-  unfolding setOf
-  path-done sets′ numbers′ sources′ homes′ destinations′ len N H e its S D = record {
-    blocks = B .blocks;
-    accepted = B .accepted;
-    within = omega (arith, B .inside);
-    sized = len ∙ B .sized;
-    given = ap (λ (j : ℕ). take j sets′) (add-one k) ∙ take-suc sets′ k 0 (omega (arith, B .inside, B .sized))
-        ∙ ap₂ (λ (xs : List ℕ) (x : ℕ). xs ++ (x ∷ [])) e its
-        ∙ gives-exchanged (B .blocks) m list (B .accepted) k (B .inside) a b (B .a-is) (B .b-is) (B .used) ∙ ap (setsGiven m list) (sym (add-one k));
-    numbers-sized = N;
-    homes-sized = H;
-    at-sources = S;
-    at-destinations = D;
-  }
-
-pub work-starts : (n m : ℕ) (list sets : List ℕ) → Accepted n m list → length sets ≡ n * m
-    → Working m list 0 sets (replicate 4096 0) (replicate 64 0) (replicate 4096 0) (replicate 64 0)
+pub work-starts : (n m : ℕ) (list numbers : List ℕ) → Accepted n m list → length numbers ≡ n * m
+    → Working m list 0 numbers (replicate 4096 0) (replicate 4096 0) (replicate 64 0)
 unfolding setsGiven
-work-starts n m list sets A len = record {
+work-starts n m list numbers accepted len = record {
   blocks = n;
-  accepted = A;
+  accepted = accepted;
   within = omega arith;
+  sets = numbers;
   sized = len;
   given = refl;
-  numbers-sized = refl;
+  numbers-sized = len;
+  targets-sized = refl;
   homes-sized = refl;
-  at-sources = no-pages m list source 64 4096 sets;
-  at-destinations = no-pages m list destination 64 4096 sets;
+  numbered = λ k h. absurd (not-suc-le-zero h);
+  at-sources = no-pages m list source numbers (byOrder m 0) (replicate 4096 0) (λ row set. le-ltb (row * m + set) 0 (omega arith));
+  at-destinations = no-pages m list destination numbers (byMasks (replicate 64 0)) (replicate 4096 0)
+      (λ row set. ap (λ (mask : ℕ). eqb (bitAt mask set) 1) (zeros-at 64 row) ∙ ap (λ (bit : ℕ). eqb bit 1) (no-bits set));
 }
-
-pub work-done : (n m : ℕ) (list : List ℕ) (k : ℕ) (sets numbers sources homes destinations : List ℕ) → length list ≡ n * m
-    → Working m list k sets numbers sources homes destinations → length list ≤ k → sets ≡ splitByRule n m list
-unfolding splitByRule
-work-done n m list k sets numbers sources homes destinations listed W over =
-    let same : W .blocks * m ≡ n * m = sym (W .accepted .listed) ∙ listed in
-    let e : k ≡ n * m = omega (arith, W .within) in
-    sym (take-all k sets (omega (arith, W .sized))) ∙ W .given ∙ ap (setsGiven m list) e

@@ -12,5 +12,8 @@ pub mod MaskLaws
 pub mod CheckLaws
 pub mod RowsLaws
 pub mod CellsLaws
+pub mod Numbers
 pub mod PathLaws
 pub mod Filling
+pub mod PathEnds
+pub mod InverseLaws

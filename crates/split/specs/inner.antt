@@ -3,4 +3,5 @@ pub mod Window
 pub mod Rows
 pub mod Mask
 pub mod Cells
+pub mod Inverse
 pub mod Work

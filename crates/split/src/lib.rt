@@ -1,5 +1,6 @@
 // A list of destinations and its split into sets. The definitions are in specs/.
 pub mod call;
+mod inverse;
 pub mod list;
 mod mask;
 mod path;

@@ -1,20 +1,32 @@
-// The split rule.
+// The split rule. Pages get their sets in the order of their numbers, so that the blocks before a page's own have all sets, and its
+// own has those below the page's number in it: that number is the lowest set unused there.
 ghost use mathlib.Core.Path.{_≡_};
-ghost use Prim.Native.Nat.{_+_, _*_, _<_};
+ghost use Prim.Native.Nat.{_+_, _*_, _≤_, _<_};
 ghost use lib.ListN.{length};
-ghost use Rattle.split.specs.Rule.{splitByRule};
+ghost use Rattle.split.specs.Rule.{splitByRule, destination};
+ghost use Rattle.split.specs.inner.Cells.{rowOf};
 ghost use Rattle.split.specs.inner.Rows.{Accepted};
 ghost use Rattle.flash.specs.inner.Reciprocal.{reciprocalOf};
 ghost use Rattle.split.specs.inner.Work.{Working};
+use crate::inverse::invert_rows;
+use crate::mask::flip;
 use crate::mask::has;
 use crate::mask::lowest_free;
 use crate::path::exchange_along_path;
-use crate::path::target;
 use crate::tables::BLOCKS;
 use crate::tables::CELLS;
 use crate::tables::note;
+use flash::casts::entry;
 use flash::quotient::quotient;
 use flash::quotient::reciprocal;
+
+// The block that original k goes to, counted from 0.
+fn target(list: &[u16], m: usize, reciprocal: usize, k: usize) -> usize
+    requires { ⌜ (1 ≤ m) × (m ≤ 64) × (reciprocal ≡ reciprocalOf m) × (k < length (now list)) ⌝ }
+    ensures { λ r. ⌜ r ≡ rowOf m (now (list .entry)) destination k ⌝ }
+{
+    quotient(entry(list[k]), m, reciprocal)
+}
 
 // Gives page k its set.
 fn give(
@@ -22,52 +34,52 @@ fn give(
     m: usize,
     reciprocal: usize,
     k: usize,
-    sets: &mut [u8],
-    numbers: &mut [u8; CELLS],
-    sources: &mut [u64; BLOCKS],
+    numbers: &mut [u8],
+    targets: &mut [u8; CELLS],
     homes: &mut [u8; CELLS],
     destinations: &mut [u64; BLOCKS],
 )
-    requires { ⌜ Working m (now list) k (now sets) (now numbers) (now sources) (now homes) (now destinations) ⌝ }
+    requires { ⌜ Working m (now list) k (now numbers) (now targets) (now homes) (now destinations) ⌝ }
     requires { ⌜ (reciprocal ≡ reciprocalOf m) × (k < length (now list)) ⌝ }
-    ensures { λ _. ⌜ Working m (now (list .entry)) (k + 1) (now (sets .exit)) (now (numbers .exit)) (now (sources .exit))
-        (now (homes .exit)) (now (destinations .exit)) ⌝ }
+    ensures { λ _. ⌜ Working m (now (list .entry)) (k + 1) (now (numbers .exit)) (now (targets .exit)) (now (homes .exit))
+        (now (destinations .exit)) ⌝ }
 {
     let home = quotient(k, m, reciprocal);
     let block = target(list, m, reciprocal, k);
-    let a = lowest_free(sources[home]);
+    let a = k - home * m;
     let used = destinations[block];
-    sets[k] = a as u8;
-    note(numbers, sources, home, a, k - home * m);
+    numbers[k] = a as u8;
+    note(targets, a, home, block);
     if has(used, a) {
         let b = lowest_free(used);
-        note(homes, destinations, block, b, home);
+        note(homes, b, block, home);
+        flip(destinations, block, b);
         exchange_along_path(
             list,
             m,
-            reciprocal,
             k,
+            block,
             a,
             b,
-            sets,
             numbers,
-            sources,
+            targets,
             homes,
             destinations,
         );
     } else {
-        note(homes, destinations, block, a, home);
+        note(homes, a, block, home);
+        flip(destinations, block, a);
     }
 }
 
-// Fills the set bytes of a list that passed the check.
+// Fills the set bytes of a list that passed the check. Until all pages have their sets, the bytes of a source block tell of each set its
+// page, by the number within the block.
 pub fn fill(n: usize, m: usize, list: &[u16], sets: &mut [u8])
     requires { ⌜ Accepted n m (now list) × (length (now sets) ≡ n * m) ⌝ }
     ensures { λ _. ⌜ now (sets .exit) ≡ splitByRule n m (now (list .entry)) ⌝ }
 {
     let reciprocal = reciprocal(m);
-    let mut numbers = [0u8; CELLS];
-    let mut sources = [0u64; BLOCKS];
+    let mut targets = [0u8; CELLS];
     let mut homes = [0u8; CELLS];
     let mut destinations = [0u64; BLOCKS];
     let mut k = 0;
@@ -78,11 +90,11 @@ pub fn fill(n: usize, m: usize, list: &[u16], sets: &mut [u8])
             reciprocal,
             k,
             sets,
-            &mut numbers,
-            &mut sources,
+            &mut targets,
             &mut homes,
             &mut destinations,
         );
         k += 1;
     }
+    invert_rows(n, m, sets);
 }

@@ -1,65 +1,45 @@
-// The tables of one end: a mask for each block, whose bits are the sets of its pages there, and a byte for each block and set, the note
-// of the page that has them. At a source block the note is the page's number within the block, at a destination block its source block.
+// The tables of the path, by set and block: of the page that has them, its block at the other end. `targets` is by source block and tells
+// destinations, `homes` is by destination block and tells sources. The blocks of a set lie together, so that a path stays among 128 cells.
 ghost use mathlib.Core.Path.{_≡_};
-ghost use Prim.Native.Nat.{_+_, _*_, _≤_, _<_};
-ghost use lib.ListN.{getD, set as put};
-ghost use Rattle.split.specs.inner.Cells.{swappedAt};
-ghost use Rattle.split.specs.inner.Mask.{FlippedAt};
-use crate::mask::flip;
+ghost use Prim.Native.Nat.{_<_};
+ghost use lib.ListN.{length, getD, set as put};
+ghost use Rattle.split.specs.inner.Cells.{cellOf, swappedAt};
+use flash::casts::wide;
 
 // The most blocks, and the most sets.
 pub const BLOCKS: usize = 64;
 
 pub const SETS: usize = 64;
 
-pub const CELLS: usize = BLOCKS * SETS;
+pub const CELLS: usize = SETS * BLOCKS;
 
-// A byte, with its bound.
-fn bounded(note: u8) -> usize
-    ensures { λ r. ⌜ (r ≡ note) × (r < 256) ⌝ }
+pub fn noted(table: &[u8; CELLS], set: usize, block: usize) -> usize
+    requires { ⌜ (set < 64) × (block < 64) ⌝ }
+    ensures { λ r. ⌜ r ≡ getD (now (table .entry)) (cellOf set block) 0 ⌝ }
 {
-    note as usize
+    wide(table[set * BLOCKS + block])
 }
 
-pub fn noted(table: &[u8; CELLS], block: usize, set: usize) -> usize
-    requires { ⌜ (block < 64) × (set < 64) ⌝ }
-    ensures { λ r. ⌜ (r ≡ getD (now (table .entry)) (block * 64 + set) 0) × (r < 256) ⌝ }
+pub fn note(table: &mut [u8; CELLS], set: usize, block: usize, other: usize)
+    requires { ⌜ (set < 64) × (block < 64) × (other < 64) ⌝ }
+    ensures { λ _. ⌜ now (table .exit) ≡ put (now (table .entry)) (cellOf set block) other ⌝ }
 {
-    bounded(table[block * SETS + set])
+    table[set * BLOCKS + block] = other as u8;
 }
 
-// The page of a set at a source block.
-pub fn page(numbers: &[u8; CELLS], m: usize, block: usize, set: usize) -> usize
-    requires { ⌜ (m ≤ 64) × (block < 64) × (set < 64) ⌝ }
-    ensures { λ r. ⌜ r ≡ block * m + getD (now (numbers .entry)) (block * 64 + set) 0 ⌝ }
+pub fn swap(bytes: &mut [u8], first: usize, second: usize)
+    requires { ⌜ (first < length (now bytes)) × (second < length (now bytes)) ⌝ }
+    ensures { λ _. ⌜ now (bytes .exit) ≡ swappedAt (now (bytes .entry)) first second ⌝ }
 {
-    block * m + noted(numbers, block, set)
-}
-
-// Notes a page under a set that the block has not.
-pub fn note(
-    table: &mut [u8; CELLS],
-    masks: &mut [u64; BLOCKS],
-    block: usize,
-    set: usize,
-    page: usize,
-)
-    requires { ⌜ (block < 64) × (set < 64) × (page < 64) ⌝ }
-    ensures { λ _. ⌜ now (table .exit) ≡ put (now (table .entry)) (block * 64 + set) page ⌝ }
-    ensures { λ _. ⌜ FlippedAt (now (masks .entry)) block set (now (masks .exit)) ⌝ }
-{
-    table[block * SETS + set] = page as u8;
-    flip(masks, block, set);
+    let byte = bytes[first];
+    bytes[first] = bytes[second];
+    bytes[second] = byte;
 }
 
 // Exchanges the notes of two sets at a block.
-pub fn swap(table: &mut [u8; CELLS], block: usize, a: usize, b: usize)
+pub fn exchange(table: &mut [u8; CELLS], block: usize, a: usize, b: usize)
     requires { ⌜ (block < 64) × (a < 64) × (b < 64) ⌝ }
-    ensures { λ _. ⌜ now (table .exit) ≡ swappedAt (now (table .entry)) block a b ⌝ }
+    ensures { λ _. ⌜ now (table .exit) ≡ swappedAt (now (table .entry)) (cellOf a block) (cellOf b block) ⌝ }
 {
-    let first = block * SETS + a;
-    let second = block * SETS + b;
-    let note = table[first];
-    table[first] = table[second];
-    table[second] = note;
+    swap(table, a * BLOCKS + block, b * BLOCKS + block);
 }

@@ -1,47 +1,30 @@
 -- `exchange_along_path` exchanges the two sets along the path and leaves the tables exact.
-use Rattle.flash.proofs.Kit.{_≡_, refl, sym, ap, _∙_, ℕ, _+_, _≤_, _<_, arith, eqb-true, eqb-false, not-true, not-false, length, getD, length-set}
-use Rattle.flash.specs.inner.Reciprocal.{reciprocalOf}
-use Rattle.split.specs.Rule.{source, destination, setsGiven}
-use Rattle.split.specs.inner.Mask.{bitAt}
-use Rattle.split.specs.inner.Cells.{rowOf}
-use Rattle.split.proofs.PathLaws.{length-swapped, Walking, unchanged, path-over, home-is, x-met, y-lt, turn-ends, turn-less, turn-goes}
-use Rattle.split.proofs.Filling.{row-lt, ready, path-starts, path-done}
+use Rattle.flash.proofs.Kit.{_≡_, refl, sym, _∙_, _+_, _*_, _≤_, _<_, true, arith, length}
+use Rattle.split.specs.inner.Cells.{byMasks}
+use Rattle.split.proofs.PathLaws.{Walking, row-lt, h-lt, h-before, turn-less, turn-goes}
+use Rattle.split.proofs.Numbers.{unchanged}
+use Rattle.split.proofs.PathEnds.{begun, path-starts, path-done}
 use Rattle.split.proofs.path.exchange_along_path.Statement.{statement}
 use Rattle.split.proofs.path.exchange_along_path.Tie as tie
 
 abbrev Inv-loop : tie.InvT-loop
-Inv-loop list m reciprocal k a b sets₀ numbers₀ sources₀ homes₀ destinations block₀ sets numbers sources homes block =
-    Walking m list k a b sets numbers sources homes destinations block × (length sets ≡ length sets₀)
+Inv-loop list m k start a b numbers₀ targets₀ homes₀ destinations block₀ numbers targets homes block =
+    Walking m list k a b numbers targets homes destinations block × (length numbers ≡ length numbers₀)
 
 abbrev μ-loop : tie.MeasureT-loop
-μ-loop list m reciprocal k a b sets₀ numbers₀ sources₀ homes₀ destinations block₀ sets numbers sources homes block =
-    unchanged (setsGiven m list k) sets k
-
--- page k lies in the list
-listed : (s : tie.Start Inv-loop μ-loop) (x : ℕ) → x < s .args .k + 1
-    → (1 ≤ s .args .m) × (s .args .m ≤ 64) × (s .args .reciprocal ≡ reciprocalOf (s .args .m)) × (x < length (s .args .list .now))
-listed s x h =
-    let B = s .pre .0 in
-    (B .accepted .some-pages, B .accepted .m-fits, s .pre .1, omega (arith, B .accepted .listed, B .inside))
-
-target-requires : tie.Need-target-requires Inv-loop μ-loop
-target-requires c κs = listed (c .before .before) _ (omega arith)
+μ-loop list m k start a b numbers₀ targets₀ homes₀ destinations block₀ numbers targets homes block = unchanged numbers₀ numbers k
 
 loop-holds : tie.Need-loop-holds Inv-loop μ-loop
-loop-holds c = (rw (c .target .ensures) (path-starts _ _ _ _ _ _ _ _ _ _ (c .before .before .before .pre .0)), refl)
+loop-holds c = let s = c .before .before in (rw (s .pre .1) (path-starts _ _ _ _ _ _ _ _ _ (s .pre .0)), refl)
 
 abbrev start : tie.At-loop Inv-loop μ-loop → tie.Start Inv-loop μ-loop
-start l = l .before .before .before .before
-
-sets-lt : (s : tie.Start Inv-loop μ-loop) → (s .args .a < 64) × (s .args .b < 64)
-sets-lt s = let R = ready _ _ _ _ _ _ _ _ _ _ (s .pre .0) in (R .a-lt, R .b-lt)
+start l = l .before .before .before
 
 block-lt : (l : tie.At-loop Inv-loop μ-loop) → l .loop .block < 64
-block-lt l =
-    let s = start l in
-    let B = s .pre .0 in
-    let W = l .loop .inv .0 in
-    omega (arith, row-lt _ (s .args .m) (s .args .list .now) (B .accepted) destination (W .hand) (omega (arith, W .hand-in, B .inside)), W .hand-row)
+block-lt l = row-lt _ _ _ _ _ _ _ _ _ _ (l .loop .inv .0)
+
+sets-lt : (l : tie.At-loop Inv-loop μ-loop) → (start l .args .a < 64) × (start l .args .b < 64)
+sets-lt l = let R = l .loop .inv .0 .ready in (omega (arith, R .a-lt, R .fits), omega (arith, R .b-lt, R .fits))
 
 mul-has : tie.Need-mul-has Inv-loop μ-loop
 mul-has c = record { fits = omega (arith, block-lt c) }
@@ -50,163 +33,105 @@ element-copy-out-has : tie.Need-element-copy-out-has Inv-loop μ-loop
 element-copy-out-has c = block-lt c
 
 has-requires : tie.Need-has-requires Inv-loop μ-loop
-has-requires c κs = sets-lt (start (c .before)) .0
+has-requires c κs = sets-lt (c .before) .0
 
 -- ---- the path goes on
-bit : (t : tie.Then1 Inv-loop μ-loop) → (let l = t .before .before .before in bitAt (getD (start l .args .destinations .now) (l .loop .block) 0) (start l .args .a) ≡ 1)
-bit t = eqb-true _ 1 (sym (t .before .has .ensures) ∙ t .if1 .taken)
+abbrev loop-of : tie.Then1 Inv-loop μ-loop → tie.At-loop Inv-loop μ-loop
+loop-of t = t .before .before .before
+
+more : (t : tie.Then1 Inv-loop μ-loop) → (let l = loop-of t in byMasks (start l .args .destinations .now) (l .loop .block) (start l .args .a) ≡ true)
+more t = sym (t .before .has .ensures) ∙ t .if1 .taken
 
 noted-requires : tie.Need-noted-requires Inv-loop μ-loop
-noted-requires c κs = let l = c .before .before .before .before in (block-lt l, sets-lt (start l) .0)
-
-abbrev loop-of : tie.After-noted Inv-loop μ-loop → tie.At-loop Inv-loop μ-loop
-loop-of c = c .before .before .before .before .before
-
--- the source block of the page met
-home-of : (c : tie.After-noted Inv-loop μ-loop) → (let l = loop-of c in
-    c .noted .result ≡ rowOf (start l .args .m) (start l .args .list .now) source (l .loop .inv .0 .page))
-home-of c =
-    let l = loop-of c in
-    c .noted .ensures .0 ∙ home-is _ _ _ _ _ _ _ _ _ _ _ (l .loop .inv .0) (block-lt l) (bit (c .before .before))
+noted-requires c κs = let l = loop-of (c .before) in (sets-lt l .0, block-lt l)
 
 home-lt : (c : tie.After-noted Inv-loop μ-loop) → c .noted .result < 64
-home-lt c =
-    let l = loop-of c in
-    let s = start l in
-    let B = s .pre .0 in
-    let W = l .loop .inv .0 in
-    let h = W .found (bit (c .before .before)) .0 in
-    omega (arith, home-of c, row-lt _ (s .args .m) (s .args .list .now) (B .accepted) source (W .page) (omega (arith, h, B .inside)))
+home-lt c = let t = c .before .before in h-lt _ _ _ _ _ _ _ _ _ _ (loop-of t .loop .inv .0) (more t) _ (c .noted .ensures)
 
-page-requires : tie.Need-page-requires Inv-loop μ-loop
-page-requires c κs = let s = start (loop-of (c .before)) in (s .pre .0 .accepted .m-fits, home-lt (c .before), sets-lt s .0)
+noted-requires-2 : tie.Need-noted-requires-2 Inv-loop μ-loop
+noted-requires-2 c κs = let n = c .before in (sets-lt (loop-of (n .before .before)) .1, home-lt n)
 
-page-requires-2 : tie.Need-page-requires-2 Inv-loop μ-loop
-page-requires-2 c κs = let n = c .before .before .before in let s = start (loop-of n) in (s .pre .0 .accepted .m-fits, home-lt n, sets-lt s .1)
+exchange-requires : tie.Need-exchange-requires Inv-loop μ-loop
+exchange-requires c κs = let l = loop-of (c .before .before .before .before .before) in let b = sets-lt l in (block-lt l, b .0, b .1)
 
-mul-has-2 : tie.Need-mul-has-2 Inv-loop μ-loop
-mul-has-2 c = record { fits = omega (arith, home-lt (c .before .before .before .before)) }
+abbrev noted-of : tie.After-exchange Inv-loop μ-loop → tie.After-noted Inv-loop μ-loop
+noted-of c = c .before .before .before .before
 
-element-copy-out-has-2 : tie.Need-element-copy-out-has-2 Inv-loop μ-loop
-element-copy-out-has-2 c = home-lt (c .before .before .before .before)
+exchange-requires-2 : tie.Need-exchange-requires-2 Inv-loop μ-loop
+exchange-requires-2 c κs = let n = noted-of (c .before) in let b = sets-lt (loop-of (n .before .before)) in (home-lt n, b .0, b .1)
 
-has-requires-2 : tie.Need-has-requires-2 Inv-loop μ-loop
-has-requires-2 c κs = sets-lt (start (loop-of (c .before .before .before .before .before))) .1
+-- the source block lies before that of page k
+before : (c : tie.After-exchange2 Inv-loop μ-loop) → (let n = noted-of (c .before .before) in let l = loop-of (n .before .before) in
+    (n .noted .result * start l .args .m + start l .args .m ≤ start l .args .k) × (start l .args .k < length (l .loop .numbers)))
+before c =
+    let n = noted-of (c .before .before) in
+    let t = n .before .before in
+    let W = loop-of t .loop .inv .0 in
+    (h-before _ _ _ _ _ _ _ _ _ _ W (more t) _ (n .noted .ensures), omega (arith, W .room, W .numbers-sized))
 
--- what the test of the source block's mask tells
-abbrev noted-of : tie.After-has2 Inv-loop μ-loop → tie.After-noted Inv-loop μ-loop
-noted-of c = c .before .before .before .before .before .before
+mul-swap : tie.Need-mul-swap Inv-loop μ-loop
+mul-swap c = record { fits = omega (arith, before (c .before)) }
+
+add-swap : tie.Need-add-swap Inv-loop μ-loop
+add-swap c = record { fits = omega (arith, before (c .before)) }
+
+mul-swap-2 : tie.Need-mul-swap-2 Inv-loop μ-loop
+mul-swap-2 c = record { fits = omega (arith, before (c .before)) }
+
+add-swap-2 : tie.Need-add-swap-2 Inv-loop μ-loop
+add-swap-2 c = record { fits = omega (arith, before (c .before)) }
 
 swap-requires : tie.Need-swap-requires Inv-loop μ-loop
-swap-requires c κs = let l = loop-of (noted-of (c .before)) in let b = sets-lt (start l) in (block-lt l, b .0, b .1)
+swap-requires c κs =
+    let R = loop-of (noted-of (c .before .before .before) .before .before) .loop .inv .0 .ready in
+    (omega (arith, before (c .before), R .a-lt), omega (arith, before (c .before), R .b-lt))
 
-swap-requires-2 : tie.Need-swap-requires-2 Inv-loop μ-loop
-swap-requires-2 c κs = let n = noted-of (c .before .before .before) in let b = sets-lt (start (loop-of n)) in (home-lt n, b .0, b .1)
-
-cast-sets : tie.Need-cast-sets Inv-loop μ-loop
-cast-sets c = record { fits = omega (arith, sets-lt (start (loop-of (noted-of (c .before .before .before .before)))) .1) }
-
-slice-write-sets : tie.Need-slice-write-sets Inv-loop μ-loop
-slice-write-sets c =
-    let h = c .before .before .before .before in
-    let n = noted-of h in
-    let l = loop-of n in
-    let W = l .loop .inv .0 in
-    let x = x-met _ _ _ _ _ _ _ _ _ _ _ W (block-lt l) (bit (n .before .before)) _ _ _ (n .noted .ensures .0) (h .before .before .before .before .page .ensures) (h .before .before .page2 .ensures) (home-lt n) in
-    omega (arith, x, W .found (bit (n .before .before)) .0, W .room)
-
-abbrev has2-of : tie.After-swap2 Inv-loop μ-loop → tie.After-has2 Inv-loop μ-loop
-has2-of c = c .before .before .before .before
-
--- ---- it ends at a source block
-flip-both-requires : tie.Need-flip-both-requires Inv-loop μ-loop
-flip-both-requires c κs =
-    let n = noted-of (has2-of (c .before .before)) in
-    let R = loop-of n .loop .inv .0 .ready in
-    (omega (arith, home-lt n, c .flip-both-arg .given), R .a-lt, R .b-lt, R .differ)
-
-same-length : tie.Need-same-length Inv-loop μ-loop
-same-length c = simp length-set (omega (arith, loop-of (noted-of (has2-of (c .before .before .before))) .loop .inv .1))
-
-returns : tie.Need-returns Inv-loop μ-loop
-returns c =
-    let t = c .before .before in
-    let w = t .before in
-    let h = has2-of w in
-    let n = noted-of h in
-    let l = loop-of n in
-    let W = l .loop .inv .0 in
-    let e = turn-ends _ _ _ _ _ _ _ _ _ _ _ W (block-lt l) (bit (n .before .before)) _ _ _ (n .noted .ensures .0) (h .before .before .before .before .page .ensures) (h .before .before .page2 .ensures) (home-lt n)
-    _ _ _ (w .swap2 .ensures) (w .before .before .swap .ensures) (eqb-false _ 1 (sym (h .has2 .ensures) ∙ not-true (h .has2 .result) (t .if2 .taken))) (c .flip-both .ensures) in
-    path-done _ _ _ _ _ _ _ _ _ _ (start l .pre .0) _ _ _ _ _ (length-set (l .loop .sets) _ _ ∙ l .loop .inv .1)
-    (ap length (w .swap2 .ensures) ∙ length-swapped (l .loop .numbers) _ _ _ ∙ W .numbers-sized)
-    (ap length (w .before .before .swap .ensures) ∙ length-swapped (l .loop .homes) _ _ _ ∙ W .homes-sized) (e .0) (e .1) (e .2) (e .3)
-
--- ---- or goes on from there
-cast-sets-2 : tie.Need-cast-sets-2 Inv-loop μ-loop
-cast-sets-2 c = record { fits = omega (arith, sets-lt (start (loop-of (noted-of (has2-of (c .before))))) .0) }
-
-more : (c : tie.Else2 Inv-loop μ-loop) → (let n = noted-of (has2-of (c .before)) in let l = loop-of n in
-    bitAt (getD (l .loop .sources) (n .noted .result) 0) (start l .args .b) ≡ 1)
-more c = let h = has2-of (c .before) in eqb-true _ 1 (sym (h .has2 .ensures) ∙ not-false (h .has2 .result) (c .if2 .left))
-
-next-lt : (c : tie.Else2 Inv-loop μ-loop) → has2-of (c .before) .before .before .page2 .result < start (loop-of (noted-of (has2-of (c .before)))) .args .k
-next-lt c =
-    let h = has2-of (c .before) in
-    let n = noted-of h in
-    let l = loop-of n in
-    y-lt _ _ _ _ _ _ _ _ _ _ _ (l .loop .inv .0) (block-lt l) (bit (n .before .before)) _ _ _ (n .noted .ensures .0) (h .before .before .before .before .page .ensures) (h .before .before .page2 .ensures) (home-lt n) (more c)
-
-slice-write-sets-2 : tie.Need-slice-write-sets-2 Inv-loop μ-loop
-slice-write-sets-2 c = simp length-set (omega (arith, next-lt c, loop-of (noted-of (has2-of (c .before))) .loop .inv .0 .room))
-
-target-requires-2 : tie.Need-target-requires-2 Inv-loop μ-loop
-target-requires-2 c κs = listed (start (loop-of (noted-of (has2-of (c .before))))) _ (omega (arith, next-lt c))
+abbrev second : tie.After-slice-known2 Inv-loop μ-loop → tie.After-exchange2 Inv-loop μ-loop
+second c = c .before .before .before .before
 
 loop-less : tie.Need-loop-less Inv-loop μ-loop
 loop-less c =
-    let h = has2-of (c .before .before) in
-    let n = noted-of h in
-    let l = loop-of n in
-    turn-less _ _ _ _ _ _ _ _ _ _ _ (l .loop .inv .0) (block-lt l) (bit (n .before .before)) _ _ _ (n .noted .ensures .0) (h .before .before .before .before .page .ensures) (h .before .before .page2 .ensures) (home-lt n)
-    (more (c .before))
+    let n = noted-of (second c .before .before) in
+    let t = n .before .before in
+    let l = loop-of t in
+    let B = start l .pre .0 in
+    rw (c .before .before .swap .ensures) (turn-less _ _ _ _ _ _ _ _ _ _ (l .loop .inv .0) (more t) _ (n .noted .ensures)
+    (start l .args .numbers .now) (B .sets) (B .numbered) (begun _ _ _ _ _ _ _ _ _ B))
 
 loop-again : tie.Need-loop-again Inv-loop μ-loop
 loop-again c =
-    let w = c .before .before in
-    let h = has2-of w in
-    let n = noted-of h in
-    let l = loop-of n in (
-      turn-goes _ _ _ _ _ _ _ _ _ _ _ (l .loop .inv .0) (block-lt l) (bit (n .before .before)) _ _ _ (n .noted .ensures .0) (h .before .before .before .before .page .ensures) (h .before .before .page2 .ensures) (home-lt n)
-          (more (c .before)) _ _ _ (w .swap2 .ensures) (w .before .before .swap .ensures) (c .target2 .ensures),
-      simp length-set (omega (arith, l .loop .inv .1)),
+    let e = second c in
+    let n = noted-of (e .before .before) in
+    let t = n .before .before in
+    let l = loop-of t in (
+      turn-goes _ _ _ _ _ _ _ _ _ _ (l .loop .inv .0) (more t) _ (n .noted .ensures) _ _ _ _ (c .before .before .swap .ensures)
+          (e .exchange2 .ensures) (e .before .before .exchange .ensures) (e .before .before .before .before .noted2 .ensures),
+      omega (arith, c .before .before .swap .kept .0, l .loop .inv .1),
     )
 
 -- ---- it ends at a destination block
-swap-requires-3 : tie.Need-swap-requires-3 Inv-loop μ-loop
-swap-requires-3 c κs = let l = c .before .before .before .before in let b = sets-lt (start l) in (block-lt l, b .1, b .0)
+exchange-requires-3 : tie.Need-exchange-requires-3 Inv-loop μ-loop
+exchange-requires-3 c κs = let l = c .before .before .before .before in let b = sets-lt l in (block-lt l, b .1, b .0)
 
-flip-both-requires-2 : tie.Need-flip-both-requires-2 Inv-loop μ-loop
-flip-both-requires-2 c κs =
+flip-both-requires : tie.Need-flip-both-requires Inv-loop μ-loop
+flip-both-requires c κs =
     let l = c .before .before .before .before .before .before in
     let R = l .loop .inv .0 .ready in
-    (omega (arith, block-lt l, c .flip-both-arg2 .given), R .b-lt, R .a-lt, λ q. R .differ (sym q))
+    let b = sets-lt l in
+    (omega (arith, block-lt l, c .flip-both-arg .given), b .1, b .0, λ q. R .differ (sym q))
 
-same-length-2 : tie.Need-same-length-2 Inv-loop μ-loop
-same-length-2 c = omega (arith, c .before .before .before .before .before .before .before .loop .inv .1)
+same-length : tie.Need-same-length Inv-loop μ-loop
+same-length c = omega (arith, c .before .before .before .before .before .before .before .loop .inv .1)
 
-returns-2 : tie.Need-returns-2 Inv-loop μ-loop
-returns-2 c =
+returns : tie.Need-returns Inv-loop μ-loop
+returns c =
     let w = c .before .before in
     let e = w .before .before in
     let l = e .before .before .before in
-    let W = l .loop .inv .0 in
-    let o = path-over _ _ _ _ _ _ _ _ _ _ _ W (block-lt l) (c .flip-both2 .last .0)
-    (eqb-false _ 1 (sym (e .before .has .ensures) ∙ e .if1 .left)) (c .flip-both2 .ensures) in
-    rw (w .swap3 .ensures) (path-done _ _ _ _ _ _ _ _ _ _ (start l .pre .0) _ _ _ _ _ (l .loop .inv .1) (W .numbers-sized) (length-swapped (l .loop .homes) _ _ _ ∙ W .homes-sized) (o .0) (W .its-set) (W .at-sources) (o .1))
+    rw (w .exchange3 .ensures) (path-done _ _ _ _ _ _ _ _ _ (start l .pre .0) _ _ _ _ _ (l .loop .inv .1) (l .loop .inv .0)
+    (sym (e .before .has .ensures) ∙ e .if1 .left) (c .flip-both .ensures))
 
 pub exchange-along-path-spec : {M : Type 1} → statement M
-exchange-along-path-spec = tie.close (tie.spec Inv-loop μ-loop target-requires loop-holds mul-has element-copy-out-has has-requires noted-requires
-    page-requires page-requires-2 mul-has-2 element-copy-out-has-2 has-requires-2 swap-requires swap-requires-2 cast-sets slice-write-sets
-    flip-both-requires same-length returns cast-sets-2 slice-write-sets-2 target-requires-2 loop-less loop-again swap-requires-3 flip-both-requires-2
-    same-length-2 returns-2)
+exchange-along-path-spec = tie.close (tie.spec Inv-loop μ-loop loop-holds mul-has element-copy-out-has has-requires noted-requires noted-requires-2
+    exchange-requires exchange-requires-2 mul-swap add-swap mul-swap-2 add-swap-2 swap-requires loop-less loop-again exchange-requires-3
+    flip-both-requires same-length returns)

@@ -1,7 +1,7 @@
 -- `give` gives page k the set of the rule, and the tables stay exact.
 use Rattle.flash.proofs.Kit.{refl, sym, _∙_, _-_, _*_, _≤_, _<_, arith, needs, length-set}
 use Rattle.flash.proofs.Bounds.{product-le}
-use Rattle.split.proofs.Filling.{rooms, number-is, other-lt, plain, blocked}
+use Rattle.split.proofs.Filling.{rooms, other-lt, plain, blocked}
 use Rattle.split.proofs.rule.give.Statement.{statement}
 use Rattle.split.proofs.rule.give.Tie as tie
 
@@ -12,32 +12,24 @@ quotient-requires : tie.Need-quotient-requires
 quotient-requires c κs =
     let s = c .before .before in
     let A = s .pre .0 .accepted in
-    (omega (arith, more s, product-le (s .pre .0 .blocks) (s .args .m) {c = 64} {d = 64} (A .n-fits) (A .m-fits)), A .some-pages, A .m-fits, s .pre .1 .0)
+    let fits = product-le (s .pre .0 .blocks) (s .args .m) {c = 64} {d = 64} (A .n-fits) (A .m-fits) in
+    (omega (arith, more s, fits), A .some-pages, A .m-fits, s .pre .1 .0)
 
 target-requires : tie.Need-target-requires
 target-requires c κs = let s = c .before .before .before in (s .pre .0 .accepted .some-pages, s .pre .0 .accepted .m-fits, s .pre .1 .0, s .pre .1 .1)
 
-home-lt : (c : tie.After-target) → c .before .quotient .result < 64
-home-lt c =
-    let s = c .before .before .before .before in
-    rooms _ _ _ _ _ _ _ _ (s .pre .0) (more s) _ _ _ (c .before .quotient .ensures) (c .target .ensures) refl .0
+abbrev start : tie.After-target → tie.Start
+start c = c .before .before .before .before
 
-abbrev start : tie.After-lowest-free → tie.Start
-start c = c .before .before .before .before .before .before
+fits : (c : tie.After-target) → (let home = c .before .quotient .result in let a = start c .args in
+    (home < 64) × (c .target .result < 64) × (home * a .m ≤ a .k) × (a .k - home * a .m < 64))
+fits c = let s = start c in rooms _ _ _ _ _ _ _ (s .pre .0) (more s) _ _ (c .before .quotient .ensures) (c .target .ensures)
 
-fits : (c : tie.After-lowest-free) → (c .before .before .before .quotient .result < 64) × (c .before .before .target .result < 64) × (c .lowest-free .result < 64)
-fits c =
-    let s = start c in
-    rooms _ _ _ _ _ _ _ _ (s .pre .0) (more s) _ _ _ (c .before .before .before .quotient .ensures) (c .before .before .target .ensures) (c .lowest-free .ensures)
+mul-a : tie.Need-mul-a
+mul-a c = record { fits = omega (arith, fits c) }
 
-mul-lowest-free : tie.Need-mul-lowest-free
-mul-lowest-free c = record { fits = omega (arith, home-lt c) }
-
-element-copy-out-lowest-free : tie.Need-element-copy-out-lowest-free
-element-copy-out-lowest-free c = home-lt c
-
-lowest-free-requires : tie.Need-lowest-free-requires
-lowest-free-requires c κs = search needs
+sub-a : tie.Need-sub-a
+sub-a c = omega (arith, fits c)
 
 mul-used : tie.Need-mul-used
 mul-used c = record { fits = omega (arith, fits c) }
@@ -45,66 +37,55 @@ mul-used c = record { fits = omega (arith, fits c) }
 element-copy-out-used : tie.Need-element-copy-out-used
 element-copy-out-used c = fits c .1
 
-cast-sets : tie.Need-cast-sets
-cast-sets c = record { fits = omega (arith, fits (c .before)) }
+cast-numbers : tie.Need-cast-numbers
+cast-numbers c = record { fits = omega (arith, fits (c .before)) }
 
-slice-write-sets : tie.Need-slice-write-sets
-slice-write-sets c = let s = start (c .before) in omega (arith, more s, s .pre .0 .sized)
-
--- the number of page k within its source block
-number : (c : tie.After-lowest-free) → (let home = c .before .before .before .quotient .result in let a = start c .args in
-    (home * a .m ≤ a .k) × (a .k - home * a .m < 64))
-number c =
-    let s = start c in
-    let n = number-is _ _ _ _ _ _ _ _ (s .pre .0) (more s) _ _ _ (c .before .before .before .quotient .ensures) (c .before .before .target .ensures) (c .lowest-free .ensures) in
-    (n .0, n .1)
-
-mul-note : tie.Need-mul-note
-mul-note c = record { fits = omega (arith, number (c .before .before .before)) }
-
-sub-note : tie.Need-sub-note
-sub-note c = omega (arith, number (c .before .before .before))
+slice-write-numbers : tie.Need-slice-write-numbers
+slice-write-numbers c = let s = start (c .before) in omega (arith, more s, s .pre .0 .numbers-sized)
 
 note-requires : tie.Need-note-requires
-note-requires c κs = let l = c .before .before .before in let f = fits l in (f .0, f .2, number l .1)
+note-requires c κs = let f = fits (c .before .before) in (f .3, f .0, f .1)
+
+abbrev target-of : tie.After-note → tie.After-target
+target-of c = c .before .before .before
 
 has-requires : tie.Need-has-requires
-has-requires c κs = fits (c .before .before .before .before) .2
+has-requires c κs = fits (target-of c) .3
 
-lowest-free-requires-2 : tie.Need-lowest-free-requires-2
-lowest-free-requires-2 c κs = search needs
+lowest-free-requires : tie.Need-lowest-free-requires
+lowest-free-requires c κs = search needs
 
-abbrev low-of : tie.After-has → tie.After-lowest-free
-low-of c = c .before .before .before .before .before
+-- ---- its set is used at its destination
+abbrev note-of : tie.After-lowest-free → tie.After-note
+note-of c = c .before .before .before
+
+other : (c : tie.After-lowest-free) → c .lowest-free .result < 64
+other c =
+    let t = target-of (note-of c) in
+    let s = start t in
+    other-lt _ _ _ _ _ _ _ (s .pre .0) (more s) _ _ (t .before .quotient .ensures) (t .target .ensures) _ (c .lowest-free .ensures)
 
 note-requires-2 : tie.Need-note-requires-2
-note-requires-2 c κs =
-    let b = c .before .before in
-    let h = b .before .before in
-    let l = low-of h in
-    let s = start l in
-    let f = fits l in (
-      f .1,
-      other-lt _ _ _ _ _ _ _ _ (s .pre .0) (more s) _ _ _ (l .before .before .before .quotient .ensures) (l .before .before .target .ensures) (l .lowest-free .ensures)
-          _ _ (s .args .homes .now) (s .args .destinations .now) (h .before .note .ensures .0) (h .before .note .ensures .1) _ (b .lowest-free2 .ensures),
-      f .0,
-    )
+note-requires-2 c κs = let f = fits (target-of (note-of (c .before))) in (other (c .before), f .1, f .0)
+
+flip-requires : tie.Need-flip-requires
+flip-requires c κs =
+    let l = c .before .before .before in
+    (omega (arith, fits (target-of (note-of l)), c .flip-arg .given), other l)
 
 exchange-along-path-requires : tie.Need-exchange-along-path-requires
 exchange-along-path-requires c κs =
-    let n = c .before .before .before .before .before in
-    let b = n .before .before .before in
-    let h = b .before .before in
-    let l = low-of h in
-    let s = start l in (
-      blocked _ _ _ _ _ _ _ _ (s .pre .0) (more s) _ _ _ (l .before .before .before .quotient .ensures) (l .before .before .target .ensures) (l .lowest-free .ensures)
-          _ _ _ _ (h .before .note .ensures .0) (h .before .note .ensures .1) _ (b .lowest-free2 .ensures) (sym (h .has .ensures) ∙ b .before .if1 .taken)
-          (n .note2 .ensures .0) (n .note2 .ensures .1),
-      s .pre .1 .0,
+    let p = c .before .before .before .before in
+    let n = p .before .before in
+    let l = n .before .before in
+    let h = l .before .before in
+    let e = note-of l in
+    let t = target-of e in
+    let s = start t in (
+      blocked _ _ _ _ _ _ _ (s .pre .0) (more s) _ _ (t .before .quotient .ensures) (t .target .ensures) _ refl _ _ _ (e .note .ensures) _
+          (l .lowest-free .ensures) (sym (h .has .ensures) ∙ l .before .if1 .taken) (n .note2 .ensures) (p .flip .ensures .1),
+      t .target .ensures,
     )
-
-note-requires-3 : tie.Need-note-requires-3
-note-requires-3 c κs = let f = fits (low-of (c .before .before .before)) in (f .1, f .2, f .0)
 
 same-length : tie.Need-same-length
 same-length c = c .before .before .exchange-along-path .kept .1 .1 .1 .1 .1 .1 .0 ∙ simp length-set
@@ -112,19 +93,29 @@ same-length c = c .before .before .exchange-along-path .kept .1 .1 .1 .1 .1 .1 .
 returns : tie.Need-returns
 returns c = c .before .before .exchange-along-path .ensures
 
+-- ---- or free there
+note-requires-3 : tie.Need-note-requires-3
+note-requires-3 c κs = let f = fits (target-of (c .before .before .before)) in (f .3, f .1, f .0)
+
+flip-requires-2 : tie.Need-flip-requires-2
+flip-requires-2 c κs =
+    let f = fits (target-of (c .before .before .before .before .before)) in
+    (omega (arith, f, c .flip-arg2 .given), f .3)
+
 same-length-2 : tie.Need-same-length-2
 same-length-2 c = search needs
 
 returns-2 : tie.Need-returns-2
 returns-2 c =
-    let e = c .before .before .before in
-    let h = e .before in
-    let l = low-of h in
-    let s = start l in
-    plain _ _ _ _ _ _ _ _ (s .pre .0) (more s) _ _ _ (l .before .before .before .quotient .ensures) (l .before .before .target .ensures) (l .lowest-free .ensures)
-    _ _ _ _ (h .before .note .ensures .0) (h .before .note .ensures .1) (sym (h .has .ensures) ∙ e .if1 .left) (c .note3 .ensures .0) (c .note3 .ensures .1)
+    let n = c .before .before in
+    let e = n .before .before in
+    let w = e .before .before in
+    let t = target-of w in
+    let s = start t in
+    plain _ _ _ _ _ _ _ (s .pre .0) (more s) _ _ (t .before .quotient .ensures) (t .target .ensures) _ refl _ _ _ (w .note .ensures)
+    (sym (e .before .has .ensures) ∙ e .if1 .left) (n .note3 .ensures) (c .flip2 .ensures .1)
 
 pub give-spec : {M : Type 1} → statement M
-give-spec = tie.close (tie.spec quotient-requires target-requires mul-lowest-free element-copy-out-lowest-free lowest-free-requires mul-used
-    element-copy-out-used cast-sets slice-write-sets mul-note sub-note note-requires has-requires lowest-free-requires-2 note-requires-2
-    exchange-along-path-requires note-requires-3 same-length returns same-length-2 returns-2)
+give-spec = tie.close (tie.spec quotient-requires target-requires mul-a sub-a mul-used element-copy-out-used cast-numbers
+    slice-write-numbers note-requires has-requires lowest-free-requires note-requires-2 flip-requires exchange-along-path-requires note-requires-3
+    flip-requires-2 same-length returns same-length-2 returns-2)
