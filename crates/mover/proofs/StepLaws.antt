@@ -1,32 +1,30 @@
 -- What a step does: what a write sums, and the operation that a place has.
 use Rattle.flash.proofs.Kit.{_≡_, refl, sym, ap, _∙_, subst, ⊎-elim, Bool, true, false, cond, List, [], ℕ, _+_, _-_, _*_, _%_, _≤_, _<_, add-one}
-use Rattle.flash.proofs.Kit.{arith, eq-eqb, eqb-true, length, getD, set, take, drop, length-map, ext-getD, zero-add}
-use Rattle.flash.specs.Lists.{range, first, part, setPart}
+use Rattle.flash.proofs.Kit.{arith, length, getD, set, take, drop}
+use Rattle.flash.specs.Lists.{part, setPart}
 use Rattle.flash.specs.declared.sizes.Sizes.{Sizes}
-use Rattle.flash.specs.Geometry.{slot, numberAt, blockOf, originalCount}
+use Rattle.flash.specs.Geometry.{slot, numberAt}
 use Rattle.flash.specs.PageSum.{sum}
 use Rattle.flash.specs.Chip.{Chip, pageAt, writePage}
 use Rattle.flash.proofs.Comparisons.{lt-cases}
-use Rattle.flash.proofs.Ranges.{length-range, first-hit}
 use Rattle.split.specs.Split.{setOf}
 use Rattle.split.specs.inner.Rows.{ByDestination}
 use Rattle.method.specs.declared.tally.Tally.{Tally}
 use Rattle.method.specs.Move.{Move, AcceptedMove}
-use Rattle.method.specs.Cycle.{D, sentTo}
+use Rattle.method.specs.Cycle.{sentTo}
 use Rattle.method.specs.Place.{Pass, Operation, write, markOf, lastPlace, operationAt, passAt, filling, marksOf}
 use Rattle.method.specs.Step.{runningOf, writeSlots, writtenPage, perform, Running, step, tallied}
-use Rattle.method.proofs.basics.Indexes.{clash, slot-lt, map-range-at}
-use Rattle.method.proofs.cycles.SetCycles.{set-in, block-in, D-page, D-is, sent-in, entry-sent}
+use Rattle.method.proofs.basics.Indexes.{clash, slot-lt}
+use Rattle.method.proofs.cycles.SetCycles.{set-in, sent-in, entry-sent}
 use Rattle.method.proofs.places.PagesHeld.{Change, by-write, by-erase, change, MarksAt, marksOf-at}
 use Rattle.method.proofs.places.PlaceShape.{letterAbove, shape-filling}
 use Rattle.method.proofs.places.StepsAtPlaces.{operation-done}
 use Rattle.places.specs.declared.place.Place.{Place}
 use Rattle.places.specs.inner.Place.{isBackward, passOf, placeOf}
 use Rattle.walk.specs.inner.Moments.{Tells, momentIn}
-use Rattle.walk.specs.inner.Rows.{rowLength, tableLength, entryOf, PagesTable}
+use Rattle.walk.specs.inner.Rows.{rowLength}
 use Rattle.walk.specs.inner.Slots.{SumsAs}
 use Rattle.walk.proofs.MomentLaws.{tells}
-use Rattle.mover.specs.inner.Steps.{hasOriginal, setsBy, moveBy, OtherTable, PassTables}
 
 -- ---- a write
 module _ (M : Move) (pass : Pass) (block page : ℕ) (store marks : List ℕ) where
@@ -54,37 +52,10 @@ set-sent M A other D b page low high page-ok =
     let there : getD other number 0 ≡ getD (M .sets) k 0 % 128 = rw (entry-sent M A number number-in) at (D k (rw (A .list-length) k-in)) in
     (omega (arith, A .ranges .m-high), omega (arith, A .ranges .m-high))
 
--- ---- a row, and the table of pages, which tells the sets
+-- ---- a row of a table
 pub row-is : (table : List ℕ) (set : ℕ) → take (set * rowLength + rowLength - set * rowLength) (drop (set * rowLength) table) ≡ part rowLength set table
 unfolding part
 row-is table set = (let e : set * rowLength + rowLength - set * rowLength ≡ rowLength = omega arith in rw e)
-
-module _ (M : Move) (A : AcceptedMove M) (pages : List ℕ) (T : PagesTable M pages) where
-  open Sizes (M .sizes) using (m)
-
-  set-told : (k : ℕ) → k < originalCount (M .sizes) → first (hasOriginal (M .sizes) pages k) (range 0 m) 0 ≡ getD (M .sets) k 0
-  unfolding setOf
-  set-told k h =
-      let b = block-in M A k h in
-      let at : ℕ = blockOf m k in
-      let told : (set : ℕ) → set < m → numberAt m at (entryOf (part rowLength set pages) at) ≡ D M set at = λ set l. T .row set l .is at (b .low) (b .high) in
-      let own = set-in M A k h in
-      let f = first-hit (hasOriginal (M .sizes) pages k) 0 m (setOf (M .sets) k) 0 (omega arith) (omega arith) (eq-eqb _ k (told _ own ∙ D-is M A k h)) in
-      let r : ℕ = first (hasOriginal (M .sizes) pages k) (range 0 m) 0 in
-      let r-in : r < m = omega (arith, f .high) in
-      sym (D-page M A r r-in at b .in-set) ∙ ap (setOf (M .sets)) (sym (told r r-in) ∙ eqb-true _ k (f .passes))
-
-  pub sets-told : setsBy (M .sizes) pages ≡ M .sets
-  unfolding setsBy
-  sets-told =
-      ext-getD 0 (setsBy (M .sizes) pages) (M .sets) (simp (length-map, length-range) (sym (A .sets-length)))
-      (λ k h.
-      let l : k < originalCount (M .sizes) = simp (length-map, length-range) at h in
-      map-range-at _ 0 (originalCount (M .sizes)) k 0 l ∙ rw (zero-add k) (set-told k l))
-
-  pub pass-tables : (isBackward : Bool) (other : List ℕ) → OtherTable M isBackward other → length other ≡ tableLength
-      → PassTables (moveBy (M .sizes) (M .list) pages) isBackward pages other
-  pass-tables isBackward other O room = rw sets-told (record { accepted = A; pages-tell = T; other-tells = O; room = room })
 
 -- ---- the step at a place
 pub stepped : (M : Move) (at : ℕ) (op : Operation) → operationAt (M .sizes) at ≡ op

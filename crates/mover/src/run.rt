@@ -11,6 +11,7 @@ ghost use Rattle.method.specs.Move.{moveOf, AcceptedMove, Lent};
 ghost use Rattle.method.specs.Place.{lastPlace};
 ghost use Rattle.method.specs.Step.{nothingDone};
 ghost use Rattle.method.specs.Answers.{isElsewhere, stepsTaken, runCarriedOut, runAnswer};
+ghost use Rattle.walk.specs.inner.Rows.{PagesTable};
 ghost use Rattle.mover.specs.Answers.{ranAs};
 ghost use Rattle.mover.specs.inner.Steps.{OtherTable, lastSlot};
 use crate::refusals::move_refusal;
@@ -85,7 +86,70 @@ fn keep_last_page(sizes: Sizes, store: &[u8], at: usize, work: &mut [u8])
     copy(work, &store[start..start + sizes.p]);
 }
 
-// Carries out a run that is not refused. The other table holds the sets by destination, as the check of the move left it.
+// Takes the steps of a run that is not refused, and tells them. The other table holds the sets by destination, as the check of the move left
+// it; that of the pages is not looked at where few steps are taken.
+fn take_steps(
+    sizes: Sizes,
+    list: &[u16],
+    sets: &[u8],
+    store: &mut [u8],
+    marks: &mut [u8],
+    work: &mut [u8],
+    place: usize,
+    budget: usize,
+    few: bool,
+    pages: &[u8],
+    other: &mut [u8; TABLE],
+) -> RunResult
+    requires { ⌜ AcceptedMove (moveOf sizes (now list) (now sets)) × Lent sizes (record { store = now store; marks = now marks }) (now work)
+        × (isElsewhere sizes (record { store = now store; marks = now marks }) place ≡ false) × ByDestination (now list) (now sets) (now other)
+        × (few ≡ false → PagesTable (moveOf sizes (now list) (now sets)) (now pages)) ⌝ }
+    ensures { λ r. ⌜ ranAs r (now (store .exit)) (now (marks .exit)) (now (work .exit))
+        ≡ runCarriedOut (moveOf sizes (now (list .entry)) (now (sets .entry))) (record { store = now (store .entry); marks = now (marks .entry) })
+        (now (work .entry)) place (stepsTaken sizes place budget) ⌝ }
+{
+    let mut tally = nothing_done();
+    let mut slots = [0usize; SLOTS];
+    let last = last_place(sizes);
+    let taken = smaller(budget, last - place);
+    let reciprocal = reciprocal(sizes.m);
+    let mut at = Place::new(sizes, place);
+    let mut held = true;
+    for i in 0..taken {
+        let by_destination = at.backward | few;
+        fill_other(sizes, list, sets, held, by_destination, other);
+        held = by_destination;
+        tally = step(
+            sizes,
+            reciprocal,
+            list,
+            sets,
+            few,
+            pages,
+            other,
+            &mut slots,
+            store,
+            marks,
+            at,
+            tally,
+        );
+        at = at.next(sizes);
+    }
+    let reached = place + taken;
+    if 0 < tally.writes {
+        keep_last_page(sizes, store, reached - 1, work);
+    }
+    let finished = (reached == last) as u32;
+    let place = reached as u32;
+    RunResult {
+        number: 0,
+        place,
+        tally,
+        finished,
+    }
+}
+
+// Carries out a run that is not refused. Tables are worth while for more than a few steps.
 fn carry_out(
     sizes: Sizes,
     list: &[u16],
@@ -103,47 +167,36 @@ fn carry_out(
         ≡ runCarriedOut (moveOf sizes (now (list .entry)) (now (sets .entry))) (record { store = now (store .entry); marks = now (marks .entry) })
         (now (work .entry)) place (stepsTaken sizes place budget) ⌝ }
 {
-    let mut tally = nothing_done();
-    let mut pages = [0u8; TABLE];
-    pages_table(sizes, sets, &mut pages);
-    let mut slots = [0usize; SLOTS];
-    let last = last_place(sizes);
-    let taken = smaller(budget, last - place);
-    let reciprocal = reciprocal(sizes.m);
-    let mut at = Place::new(sizes, place);
-    let mut held = true;
-    let mut i = 0;
-    while i < taken {
-        let backward = at.backward;
-        fill_other(sizes, list, sets, held, backward, other);
-        held = backward;
-        tally = step(
+    if budget <= sizes.m / 8 + 1 {
+        return take_steps(
             sizes,
-            reciprocal,
             list,
-            &pages,
-            other,
-            &mut slots,
+            sets,
             store,
             marks,
-            at,
-            tally,
+            work,
+            place,
+            budget,
+            true,
+            sets,
+            other,
         );
-        at = at.next(sizes);
-        i += 1;
     }
-    let reached = place + taken;
-    if 0 < tally.writes {
-        keep_last_page(sizes, store, reached - 1, work);
-    }
-    let finished = (reached == last) as u32;
-    let place = reached as u32;
-    RunResult {
-        number: 0,
+    let mut pages = [0u8; TABLE];
+    pages_table(sizes, sets, &mut pages);
+    take_steps(
+        sizes,
+        list,
+        sets,
+        store,
+        marks,
+        work,
         place,
-        tally,
-        finished,
-    }
+        budget,
+        false,
+        &pages,
+        other,
+    )
 }
 
 fn refused(number: u32) -> RunResult

@@ -7,14 +7,15 @@ ghost use Prim.Native.Nat.{ℕ, _+_, _-_, _*_, _≤_, _<_};
 ghost use lib.ListN.{length, getD, take, drop};
 ghost use Rattle.flash.specs.Geometry.{slotCount, storeLength, marksLength};
 ghost use Rattle.flash.specs.inner.Reciprocal.{reciprocalOf};
+ghost use Rattle.method.specs.Move.{moveOf, AcceptedMove};
 ghost use Rattle.method.specs.Place.{marksOf, operationAt};
 ghost use Rattle.method.specs.Step as method;
 ghost use Rattle.method.specs.Step.{runningOf, writeSlots, tallied};
 ghost use Rattle.walk.specs.inner.Moments.{Tells, momentIn};
-ghost use Rattle.walk.specs.inner.Rows.{rowLength, tableLength};
+ghost use Rattle.walk.specs.inner.Rows.{rowLength, tableLength, PagesRow, SourcesRow};
 ghost use Rattle.walk.specs.inner.Slots.{slotsLength, SumsAs};
 ghost use Rattle.places.specs.inner.Place.{passOf, placeOf};
-ghost use Rattle.mover.specs.inner.Steps.{moveBy, PassTables};
+ghost use Rattle.mover.specs.inner.Steps.{PassTables, SetWritten};
 use flash::block::erase_block;
 use flash::casts::wide;
 use flash::sizes::Sizes;
@@ -23,6 +24,7 @@ use method::tally::Tally;
 use places::place::Op;
 use places::place::Place;
 use walk::rows::ROW;
+use walk::rows::set_rows;
 use walk::walk::SLOTS;
 use walk::walk::backward_slots;
 use walk::walk::forward_slots;
@@ -37,12 +39,57 @@ fn row(table: &[u8], set: usize) -> &[u8]
     &table[start..end]
 }
 
-// The slots whose pages are summed for a write. The block that is being filled tells what the others are full of, so that the
-// marks are not looked at.
+// The set of a page that is written: its number, or what the table has where the page goes.
+fn set_written(m: usize, table: &[u8], backward: bool, block: usize, page: usize) -> usize
+    requires { ⌜ (m ≤ 64) × (block ≤ 64) × (page < m) × (backward ≡ true → (1 ≤ block) × ((block - 1) * m + page < length (now table))) ⌝ }
+    ensures { λ r. ⌜ (backward ≡ false → r ≡ page) × (backward ≡ true → r ≡ getD (now (table .entry)) ((block - 1) * m + page) 0) ⌝ }
+{
+    if backward {
+        return wide(table[(block - 1) * m + page]);
+    }
+    page
+}
+
+// The slots whose pages are summed for a write, by the rows of its set. The block that is being filled tells what the others are full of, so
+// that the marks are not looked at.
+fn row_slots(
+    sizes: Sizes,
+    reciprocal: usize,
+    list: &[u16],
+    sets: &[u8],
+    set: usize,
+    pages: &[u8],
+    sources: &[u8],
+    backward: bool,
+    block: usize,
+    page: usize,
+    slots: &mut [usize; SLOTS],
+) -> usize
+    requires { ⌜ AcceptedMove (moveOf sizes (now list) (now sets)) × (set < sizes .m)
+        × SetWritten (moveOf sizes (now list) (now sets)) backward block page set × PagesRow (moveOf sizes (now list) (now sets)) set (now pages)
+        × (backward ≡ false → SourcesRow (moveOf sizes (now list) (now sets)) set (now sources)) ⌝ }
+    requires { ⌜ (reciprocal ≡ reciprocalOf (sizes .m)) × (length (now slots) ≡ slotsLength) × (page < sizes .m) × (block ≤ sizes .n)
+        × (backward ≡ true → 1 ≤ block) × (backward ≡ false → block + 1 ≤ sizes .n) ⌝ }
+    ensures { λ r. ⌜ (1 ≤ r) × (r ≤ slotsLength) × (length (now (slots .exit)) ≡ slotsLength)
+        × ((j : ℕ) → j < r → (getD (now (slots .exit)) j 0 < slotCount sizes) × (getD (now (slots .exit)) j 0 ≢ block * sizes .m + page)) ⌝ }
+    ensures { λ r. ⌜ ((marks : List ℕ)
+        → Tells (moveOf sizes (now (list .entry)) (now (sets .entry))) marks (momentIn backward (sizes .n) block (block + 1))
+        → SumsAs (take r (now (slots .exit)))
+        (writeSlots (moveOf sizes (now (list .entry)) (now (sets .entry))) (passOf backward) block page marks)) ⌝ }
+{
+    if backward {
+        return backward_slots(sizes, reciprocal, list, set, pages, block, slots);
+    }
+    forward_slots(sizes, set, pages, sources, block + 1, slots)
+}
+
+// The same, with rows that are taken from the tables, or filled first where only few steps are taken.
 fn write_slots(
     sizes: Sizes,
     reciprocal: usize,
     list: &[u16],
+    sets: &[u8],
+    few: bool,
     pages: &[u8],
     other: &[u8],
     backward: bool,
@@ -50,22 +97,50 @@ fn write_slots(
     page: usize,
     slots: &mut [usize; SLOTS],
 ) -> usize
-    requires { ⌜ PassTables (moveBy sizes (now list) (now pages)) backward (now pages) (now other) ⌝ }
+    requires { ⌜ PassTables (moveOf sizes (now list) (now sets)) few backward (now pages) (now other) ⌝ }
     requires { ⌜ (reciprocal ≡ reciprocalOf (sizes .m)) × (length (now slots) ≡ slotsLength) × (page < sizes .m) × (block ≤ sizes .n)
         × (backward ≡ true → 1 ≤ block) × (backward ≡ false → block + 1 ≤ sizes .n) ⌝ }
     ensures { λ r. ⌜ (1 ≤ r) × (r ≤ slotsLength) × (length (now (slots .exit)) ≡ slotsLength)
         × ((j : ℕ) → j < r → (getD (now (slots .exit)) j 0 < slotCount sizes) × (getD (now (slots .exit)) j 0 ≢ block * sizes .m + page)) ⌝ }
     ensures { λ r. ⌜ ((marks : List ℕ)
-        → Tells (moveBy sizes (now (list .entry)) (now (pages .entry))) marks (momentIn backward (sizes .n) block (block + 1))
+        → Tells (moveOf sizes (now (list .entry)) (now (sets .entry))) marks (momentIn backward (sizes .n) block (block + 1))
         → SumsAs (take r (now (slots .exit)))
-        (writeSlots (moveBy sizes (now (list .entry)) (now (pages .entry))) (passOf backward) block page marks)) ⌝ }
+        (writeSlots (moveOf sizes (now (list .entry)) (now (sets .entry))) (passOf backward) block page marks)) ⌝ }
 {
-    if backward {
-        let set = wide(other[(block - 1) * sizes.m + page]);
-        return backward_slots(sizes, reciprocal, list, set, row(pages, set), block, slots);
+    let set = set_written(sizes.m, other, backward, block, page);
+    if few {
+        let mut own_pages = [0u8; ROW];
+        let mut sources = [0u8; ROW];
+        set_rows(sizes, list, sets, set, &mut own_pages, &mut sources);
+        return row_slots(
+            sizes,
+            reciprocal,
+            list,
+            sets,
+            set,
+            &own_pages,
+            &sources,
+            backward,
+            block,
+            page,
+            slots,
+        );
     }
-    let sources = row(other, page);
-    forward_slots(sizes, page, row(pages, page), sources, block + 1, slots)
+    let row_of_pages = row(pages, set);
+    let sources = row(other, set);
+    row_slots(
+        sizes,
+        reciprocal,
+        list,
+        sets,
+        set,
+        row_of_pages,
+        sources,
+        backward,
+        block,
+        page,
+        slots,
+    )
 }
 
 // Does the step at a place, and counts it. A page is summed where it is to lie; the slots that are gathered for that are of no use after.
@@ -73,6 +148,8 @@ pub fn step(
     sizes: Sizes,
     reciprocal: usize,
     list: &[u16],
+    sets: &[u8],
+    few: bool,
     pages: &[u8],
     other: &[u8],
     slots: &mut [usize; SLOTS],
@@ -81,12 +158,12 @@ pub fn step(
     place: Place,
     mut tally: Tally,
 ) -> Tally
-    requires { ⌜ PassTables (moveBy sizes (now list) (now pages)) (place .backward) (now pages) (now other) ⌝ }
+    requires { ⌜ PassTables (moveOf sizes (now list) (now sets)) few (place .backward) (now pages) (now other) ⌝ }
     requires { ⌜ (reciprocal ≡ reciprocalOf (sizes .m)) × (place ≡ placeOf sizes (place .at)) × (now marks ≡ marksOf sizes (place .at))
         × (length (now slots) ≡ slotsLength) × (length (now store) ≡ storeLength sizes) × (length (now marks) ≡ marksLength sizes)
         × ((tally .steps ≤ 8320) × (tally .writes ≤ 8320) × (tally .erases ≤ 8320)) ⌝ }
     ensures { λ _. ⌜ record { store = now (store .exit); marks = now (marks .exit) }
-        ≡ (method.step (moveBy sizes (now (list .entry)) (now (pages .entry))) (place .at)
+        ≡ (method.step (moveOf sizes (now (list .entry)) (now (sets .entry))) (place .at)
         (runningOf (now (store .entry)) (now (marks .entry)) [])) .chip ⌝ }
     ensures { λ r. ⌜ (r ≡ tallied (operationAt sizes (place .at)) tally) × (length (now (slots .exit)) ≡ slotsLength) ⌝ }
 {
@@ -101,6 +178,8 @@ pub fn step(
                 sizes,
                 reciprocal,
                 list,
+                sets,
+                few,
                 pages,
                 other,
                 backward,

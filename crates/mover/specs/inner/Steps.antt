@@ -1,40 +1,35 @@
--- What a step is lent: the tables of its pass, and the move that they tell.
+-- What a step is lent: the tables of its pass.
 use mathlib.Core.Path.{_≡_}
-use mathlib.Core.Bool.{Bool, true, false}
-use mathlib.Core.List.{List, map}
+use mathlib.Core.Bool.{Bool, true, false, _||_}
+use mathlib.Core.List.{List}
 use Prim.Native.Nat.{ℕ, _-_, min}
-use lib.Dec.{eqb}
 use lib.ListN.{length}
-use Rattle.flash.specs.Lists.{range, first, part}
 use Rattle.flash.specs.declared.sizes.Sizes.{Sizes}
-use Rattle.flash.specs.Geometry.{slot, originalCount, blockOf, numberAt}
+use Rattle.flash.specs.Geometry.{slot, numberAt}
+use Rattle.split.specs.Split.{setOf}
 use Rattle.split.specs.inner.Rows.{ByDestination}
-use Rattle.method.specs.Move.{Move, moveOf, AcceptedMove}
+use Rattle.method.specs.Move.{Move, AcceptedMove}
+use Rattle.method.specs.Cycle.{sentTo}
 use Rattle.method.specs.Place.{filling, filled}
-use Rattle.walk.specs.inner.Rows.{rowLength, tableLength, entryOf, PagesTable, SourcesTable}
-
--- The sets that a table of pages tells: an original is of the set whose row has it at its block.
-module _ (Z : Sizes) (pages : List ℕ) where
-  abbrev pub hasOriginal : (k set : ℕ) → Bool
-  hasOriginal k set = (let b = blockOf (Z .m) k in eqb (numberAt (Z .m) b (entryOf (part rowLength set pages) b)) k)
-
-  unfoldable pub setsBy : List ℕ
-  setsBy = map (λ k. first (hasOriginal k) (range 0 (Z .m)) 0) (range 0 (originalCount Z))
-
-abbrev pub moveBy : Sizes → (list pages : List ℕ) → Move
-moveBy Z list pages = moveOf Z list (setsBy Z pages)
+use Rattle.walk.specs.inner.Rows.{tableLength, PagesTable, SourcesTable}
 
 -- the table that a pass needs besides that of the pages: the sources, or the sets by destination
 pub record OtherTable (M : Move) (isBackward : Bool) (other : List ℕ) : Type 0 where
   pub sources-tell : isBackward ≡ false → SourcesTable M other
   pub sets-tell : isBackward ≡ true → ByDestination (M .list) (M .sets) other
 
--- the tables of a pass are those of the move
-pub record PassTables (M : Move) (isBackward : Bool) (pages other : List ℕ) : Type 0 where
+-- What the steps of a pass are given: the tables of the move; or, where only few steps are taken, the sets by destination alone, and the rows of a set
+-- are filled when a page is written.
+pub record PassTables (M : Move) (few isBackward : Bool) (pages other : List ℕ) : Type 0 where
   pub accepted : AcceptedMove M
-  pub pages-tell : PagesTable M pages
-  pub other-tells : OtherTable M isBackward other
+  pub pages-tell : few ≡ false → PagesTable M pages
+  pub other-tells : OtherTable M (isBackward || few) other
   pub room : length other ≡ tableLength
+
+-- the set of a page that is written: its number, or the set of the original that the list sends there
+abbrev pub SetWritten : (M : Move) (isBackward : Bool) (block page set : ℕ) → Type 0
+SetWritten M isBackward block page set =
+    (isBackward ≡ false → set ≡ page) × (isBackward ≡ true → set ≡ setOf (M .sets) (sentTo M (numberAt (M .sizes .m) block page)))
 
 -- the slot of the last write, told by the step: its own, or that of the block's last page where the step is the erase behind it
 abbrev pub lastSlot : Sizes → (at : ℕ) → ℕ

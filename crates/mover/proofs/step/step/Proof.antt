@@ -1,21 +1,21 @@
 -- A step does the operation of its place, and counts it.
 use Rattle.flash.proofs.Kit.{refl, sym, _∙_, subst, Bool, _+_, _*_, _≤_, _<_, arith, needs}
 use Rattle.flash.proofs.Bounds.{slot-in-marks, slot-in-store, block-in-marks, block-in-store, product-le}
-use Rattle.method.specs.Move.{Move}
+use Rattle.method.specs.Move.{Move, moveOf}
 use Rattle.method.specs.Place.{write, erase, done, operationAt}
 use Rattle.method.specs.Step.{perform, tallied}
 use Rattle.places.specs.inner.Place.{passOf}
 use Rattle.places.proofs.StepTold.{IsWrite, is-write, IsErase, is-erase, told-done}
-use Rattle.mover.specs.inner.Steps.{moveBy, PassTables}
+use Rattle.mover.specs.inner.Steps.{PassTables}
 use Rattle.mover.proofs.StepLaws.{wrote, stepped, WriteKnown, write-known}
 use Rattle.mover.proofs.step.step.Statement.{statement}
 use Rattle.mover.proofs.step.step.Tie as tie
 
 abbrev start : tie.After-operation → tie.Start
-start c = c .before .before .before .before .before .before
+start c = c .before .before .before .before .before .before .before
 
 abbrev moved : tie.Start → Move
-moved c = moveBy (c .args .sizes) (c .args .list .now) (c .args .pages .now)
+moved c = moveOf (c .args .sizes) (c .args .list .now) (c .args .sets .now)
 
 operation-requires : tie.Need-operation-requires
 operation-requires c κs = search needs
@@ -50,7 +50,7 @@ write-slots-requires : tie.Need-write-slots-requires
 write-slots-requires c κs =
     let s = start (c .before .before .before .before) in
     let W = writes (c .before .before) in
-    let tables = subst (λ (t : Bool). PassTables (moved s) t (s .args .pages .now) (s .args .other .now)) (known (c .before .before) .pass-is) (s .pre .0) in
+    let tables = subst (λ (t : Bool). PassTables (moved s) (s .args .few) t (s .args .pages .now) (s .args .other .now)) (known (c .before .before) .pass-is) (s .pre .0) in
     (tables, (s .pre .1 .0, s .pre .1 .3, W .page-in, W .block-in, W .low, W .high))
 
 mul-slot : tie.Need-mul-slot
