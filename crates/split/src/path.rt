@@ -14,7 +14,8 @@ use crate::tables::swap;
 
 // Page k of the list has set a, and so has another page at its destination, the block where the path starts. Along the path a becomes
 // b at a destination and b becomes a at the next source: each block exchanges its two notes. Every source on it has a page of each set,
-// since it lies before that of page k; so the path ends at a destination, and only there do bits change.
+// since it lies before that of page k; so the path ends at a destination, and only there do bits change. The list and k are for the
+// contract alone: the tables lead.
 pub fn exchange_along_path(
     list: &[u16],
     m: usize,

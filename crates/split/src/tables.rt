@@ -1,5 +1,5 @@
 // The tables of the path, by set and block: of the page that has them, its block at the other end. `targets` is by source block and tells
-// destinations, `homes` is by destination block and tells sources. The blocks of a set lie together, so that a path stays among 128 cells.
+// destinations, `homes` is by destination block and tells sources. The blocks of a set lie together, so that a path stays among 128 cells of each.
 ghost use mathlib.Core.Path.{_≡_};
 ghost use Prim.Native.Nat.{_<_};
 ghost use lib.ListN.{length, getD, set as put};
