@@ -1,6 +1,8 @@
 // The exchange of two sets along an alternating path, whose pages have one and the other in turn.
 ghost use mathlib.Core.Path.{_≡_};
-ghost use Prim.Native.Nat.{_+_};
+ghost use Prim.Native.Nat.{_+_, _≤_, _<_};
+ghost use lib.ListN.{length};
+ghost use Rattle.flash.specs.inner.Reciprocal.{reciprocalOf};
 ghost use Rattle.split.specs.Rule.{destination};
 ghost use Rattle.split.specs.inner.Cells.{rowOf};
 ghost use Rattle.split.specs.inner.Work.{Working, Blocked};
@@ -11,16 +13,25 @@ use crate::tables::CELLS;
 use crate::tables::exchange;
 use crate::tables::noted;
 use crate::tables::swap;
+use flash::casts::entry;
+use flash::quotient::quotient;
 
-// Page k of the list has set a, and so has another page at its destination, the block where the path starts. Along the path a becomes
+// The block that original k goes to, counted from 0.
+pub fn target(list: &[u16], m: usize, reciprocal: usize, k: usize) -> usize
+    requires { ⌜ (1 ≤ m) × (m ≤ 64) × (reciprocal ≡ reciprocalOf m) × (k < length (now list)) ⌝ }
+    ensures { λ r. ⌜ r ≡ rowOf m (now (list .entry)) destination k ⌝ }
+{
+    quotient(entry(list[k]), m, reciprocal)
+}
+
+// Page k of the list has set a, and so has another page at its destination, where the path starts. Along the path a becomes
 // b at a destination and b becomes a at the next source: each block exchanges its two notes. Every source on it has a page of each set,
-// since it lies before that of page k; so the path ends at a destination, and only there do bits change. The list and k are for the
-// contract alone: the tables lead.
+// since it lies before that of page k; so the path ends at a destination, and only there do bits change.
 pub fn exchange_along_path(
     list: &[u16],
     m: usize,
+    reciprocal: usize,
     k: usize,
-    start: usize,
     a: usize,
     b: usize,
     numbers: &mut [u8],
@@ -29,11 +40,11 @@ pub fn exchange_along_path(
     destinations: &mut [u64; BLOCKS],
 )
     requires { ⌜ Blocked m (now list) k a b (now numbers) (now targets) (now homes) (now destinations) ⌝ }
-    requires { ⌜ start ≡ rowOf m (now list) destination k ⌝ }
+    requires { ⌜ reciprocal ≡ reciprocalOf m ⌝ }
     ensures { λ _. ⌜ Working m (now (list .entry)) (k + 1) (now (numbers .exit)) (now (targets .exit)) (now (homes .exit))
         (now (destinations .exit)) ⌝ }
 {
-    let mut block = start;
+    let mut block = target(list, m, reciprocal, k);
     while has(destinations[block], a) {
         let home = noted(homes, a, block);
         let next = noted(targets, b, home);

@@ -1,10 +1,9 @@
 // The split rule. Pages get their sets in the order of their numbers, so that the blocks before a page's own have all sets, and its
 // own has those below the page's number in it: that number is the lowest set unused there.
 ghost use mathlib.Core.Path.{_≡_};
-ghost use Prim.Native.Nat.{_+_, _*_, _≤_, _<_};
+ghost use Prim.Native.Nat.{_+_, _*_, _<_};
 ghost use lib.ListN.{length};
-ghost use Rattle.split.specs.Rule.{splitByRule, destination};
-ghost use Rattle.split.specs.inner.Cells.{rowOf};
+ghost use Rattle.split.specs.Rule.{splitByRule};
 ghost use Rattle.split.specs.inner.Rows.{Accepted};
 ghost use Rattle.flash.specs.inner.Reciprocal.{reciprocalOf};
 ghost use Rattle.split.specs.inner.Work.{Working};
@@ -13,20 +12,12 @@ use crate::mask::flip;
 use crate::mask::has;
 use crate::mask::lowest_free;
 use crate::path::exchange_along_path;
+use crate::path::target;
 use crate::tables::BLOCKS;
 use crate::tables::CELLS;
 use crate::tables::note;
-use flash::casts::entry;
 use flash::quotient::quotient;
 use flash::quotient::reciprocal;
-
-// The block that original k goes to, counted from 0.
-fn target(list: &[u16], m: usize, reciprocal: usize, k: usize) -> usize
-    requires { ⌜ (1 ≤ m) × (m ≤ 64) × (reciprocal ≡ reciprocalOf m) × (k < length (now list)) ⌝ }
-    ensures { λ r. ⌜ r ≡ rowOf m (now (list .entry)) destination k ⌝ }
-{
-    quotient(entry(list[k]), m, reciprocal)
-}
 
 // Gives page k its set.
 fn give(
@@ -57,8 +48,8 @@ fn give(
         exchange_along_path(
             list,
             m,
+            reciprocal,
             k,
-            block,
             a,
             b,
             numbers,

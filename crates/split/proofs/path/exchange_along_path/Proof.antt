@@ -8,17 +8,23 @@ use Rattle.split.proofs.path.exchange_along_path.Statement.{statement}
 use Rattle.split.proofs.path.exchange_along_path.Tie as tie
 
 abbrev Inv-loop : tie.InvT-loop
-Inv-loop list m k start a b numbers₀ targets₀ homes₀ destinations block₀ numbers targets homes block =
+Inv-loop list m reciprocal k a b numbers₀ targets₀ homes₀ destinations block₀ numbers targets homes block =
     Walking m list k a b numbers targets homes destinations block × (length numbers ≡ length numbers₀)
 
 abbrev μ-loop : tie.MeasureT-loop
-μ-loop list m k start a b numbers₀ targets₀ homes₀ destinations block₀ numbers targets homes block = unchanged numbers₀ numbers k
+μ-loop list m reciprocal k a b numbers₀ targets₀ homes₀ destinations block₀ numbers targets homes block = unchanged numbers₀ numbers k
+
+target-requires : tie.Need-target-requires Inv-loop μ-loop
+target-requires c κs =
+    let s = c .before .before in
+    let B = s .pre .0 in
+    (B .accepted .some-pages, B .accepted .m-fits, s .pre .1, omega (arith, B .inside, B .accepted .listed))
 
 loop-holds : tie.Need-loop-holds Inv-loop μ-loop
-loop-holds c = let s = c .before .before in (rw (s .pre .1) (path-starts _ _ _ _ _ _ _ _ _ (s .pre .0)), refl)
+loop-holds c = (rw (c .target .ensures) (path-starts _ _ _ _ _ _ _ _ _ (c .before .before .before .pre .0)), refl)
 
 abbrev start : tie.At-loop Inv-loop μ-loop → tie.Start Inv-loop μ-loop
-start l = l .before .before .before
+start l = l .before .before .before .before
 
 block-lt : (l : tie.At-loop Inv-loop μ-loop) → l .loop .block < 64
 block-lt l = row-lt _ _ _ _ _ _ _ _ _ _ (l .loop .inv .0)
@@ -132,6 +138,6 @@ returns c =
     (sym (e .before .has .ensures) ∙ e .if1 .left) (c .flip-both .ensures))
 
 pub exchange-along-path-spec : {M : Type 1} → statement M
-exchange-along-path-spec = tie.close (tie.spec Inv-loop μ-loop loop-holds mul-has element-copy-out-has has-requires noted-requires noted-requires-2
+exchange-along-path-spec = tie.close (tie.spec Inv-loop μ-loop target-requires loop-holds mul-has element-copy-out-has has-requires noted-requires noted-requires-2
     exchange-requires exchange-requires-2 mul-swap add-swap mul-swap-2 add-swap-2 swap-requires loop-less loop-again exchange-requires-3
     flip-both-requires same-length returns)

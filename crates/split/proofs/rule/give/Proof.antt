@@ -84,7 +84,7 @@ exchange-along-path-requires c κs =
     let s = start t in (
       blocked _ _ _ _ _ _ _ (s .pre .0) (more s) _ _ (t .before .quotient .ensures) (t .target .ensures) _ refl _ _ _ (e .note .ensures) _
           (l .lowest-free .ensures) (sym (h .has .ensures) ∙ l .before .if1 .taken) (n .note2 .ensures) (p .flip .ensures .1),
-      t .target .ensures,
+      s .pre .1 .0,
     )
 
 same-length : tie.Need-same-length

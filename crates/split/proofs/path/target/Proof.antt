@@ -2,8 +2,8 @@
 use Rattle.flash.proofs.Kit.{arith, needs, ap, _∙_, ℕ, _/_}
 use Rattle.split.specs.Split.{destBlock}
 use Rattle.split.specs.Rule.{blockAt}
-use Rattle.split.proofs.rule.target.Statement.{statement}
-use Rattle.split.proofs.rule.target.Tie as tie
+use Rattle.split.proofs.path.target.Statement.{statement}
+use Rattle.split.proofs.path.target.Tie as tie
 
 mul-entry : tie.Need-mul-entry
 mul-entry c = search needs
