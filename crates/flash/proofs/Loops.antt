@@ -1,8 +1,8 @@
 -- What one turn of a loop over bytes does.
-use Rattle.flash.proofs.Kit.{_≡_, sym, ap, _∙_, _≢_, ⊎-elim, Bool, false, cond, _&&_, and-true, List, [], _∷_, _++_, ℕ, suc, _+_, _≤_, _<_}
+use Rattle.flash.proofs.Kit.{[], _≡_, sym, ap, _∙_, _≢_, ⊎-elim, Bool, false, cond, _&&_, and-true, List, _∷_, _++_, ℕ, suc, _+_, _≤_, _<_}
 use Rattle.flash.proofs.Kit.{add-one, arith, bitOr, bitXor, or-add-and, or-zero-l, or-zero-r, and-le-l, and-le-r, xor-self, eqb, ltb, length}
-use Rattle.flash.proofs.Kit.{getD, set, take, drop, take-suc, drop-cons, append-snoc, getD-at, length-take-le, drop-set-lt, drop-drop, eqb-true}
-use Rattle.flash.proofs.Kit.{eq-eqb, ne-eqb, lt-ltb, le-ltb, set-at}
+use Rattle.flash.proofs.Kit.{getD, set, take, drop, take-suc, drop-cons, append-snoc, getD-at, length-take-le, drop-set-lt, drop-drop}
+use Rattle.flash.proofs.Kit.{eqb-true, eq-eqb, ne-eqb, lt-ltb, le-ltb, set-at}
 use Rattle.flash.specs.Lists.{all}
 use Rattle.flash.proofs.Bools.{bool-eq, both, and-both}
 use Rattle.flash.proofs.Comparisons.{eq-cases, lt-cases}

@@ -1,6 +1,6 @@
 -- What a step does: what a write sums, and the operation that a place has.
-use Rattle.flash.proofs.Kit.{_≡_, refl, sym, ap, _∙_, subst, ⊎-elim, Bool, true, false, cond, List, [], ℕ, _+_, _-_, _*_, _%_, _≤_, _<_, add-one}
-use Rattle.flash.proofs.Kit.{arith, length, getD, set, take, drop}
+use Rattle.flash.proofs.Kit.{[], _≡_, refl, sym, ap, _∙_, subst, ⊎-elim, Bool, true, false, cond, List, ℕ, _+_, _-_, _*_, _%_, _≤_, _<_, add-one, arith}
+use Rattle.flash.proofs.Kit.{getD, set, take, drop}
 use Rattle.flash.specs.Lists.{part, setPart}
 use Rattle.flash.specs.declared.sizes.Sizes.{Sizes}
 use Rattle.flash.specs.Geometry.{slot, numberAt}

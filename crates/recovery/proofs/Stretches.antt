@@ -1,11 +1,11 @@
 -- What the search of the marks knows of blocks that it looks at in one stretch: those below its start, and those above the change.
-use Rattle.flash.proofs.Kit.{_≡_, refl, sym, ap, _∙_, ⊎-elim, true, List, ℕ, _+_, _-_, _*_, _/_, _%_, _≤_, _<_, mul-le-mul-right, div-add-mod', mod-lt, arith}
-use Rattle.flash.proofs.Kit.{div-lt-iff-lt-mul, le-div-iff-mul-le, eqb, length, getD, take, drop, length-take, length-drop, getD-take, getD-drop, eqb-true}
-use Rattle.flash.proofs.Kit.{eq-eqb, lt-ltb}
+use Rattle.flash.proofs.Kit.{_≡_, refl, sym, ap, _∙_, ⊎-elim, true, List, ℕ, _+_, _-_, _*_, _/_, _%_, _≤_, _<_, mul-le-mul-right, div-add-mod'}
+use Rattle.flash.proofs.Kit.{mod-lt, arith, div-lt-iff-lt-mul, le-div-iff-mul-le, eqb, length, getD, take, drop, length-take, length-drop, getD-take}
+use Rattle.flash.proofs.Kit.{getD-drop, eqb-true, eq-eqb, lt-ltb}
 use Rattle.flash.specs.Lists.{all, range}
 use Rattle.flash.specs.declared.sizes.Sizes.{Sizes}
-use Rattle.flash.specs.Geometry.{isLetter, slot, letter}
-use Rattle.flash.specs.Chip.{isMark, markAt, isFull}
+use Rattle.flash.specs.Geometry.{isLetter, letter}
+use Rattle.flash.specs.Chip.{isMark, isFull}
 use Rattle.flash.proofs.Bools.{bool-eq}
 use Rattle.flash.proofs.Comparisons.{lt-cases}
 use Rattle.flash.proofs.Searches.{all-at, all-of}
@@ -17,7 +17,8 @@ use Rattle.recovery.proofs.Search.{Upto, LegalBelow}
 module _ (m : ℕ) (marks : List ℕ) (pages : 0 < m) where
   -- a stretch of marks that are all one letter is blocks full of it
   pub full-stretch : (from to letter : ℕ) → from ≤ to → to * m ≤ length marks
-      → all (λ mark. eqb mark letter) (take (to * m - from * m) (drop (from * m) marks)) ≡ all (λ block. isFull m marks block letter) (range from (to - from))
+      → all (λ mark. eqb mark letter) (take (to * m - from * m) (drop (from * m) marks)) ≡ all (λ block. isFull m marks block letter)
+      (range from (to - from))
   full-stretch from to letter h fits = bool-eq _ _
       (λ e. all-is (λ block. isFull m marks block letter) from (to - from) (λ b low high. full-of m marks b letter (λ page l.
       let f = part-fits b to m (omega arith) in
@@ -32,7 +33,8 @@ module _ (m : ℕ) (marks : List ℕ) (pages : 0 < m) where
       let low : from ≤ t / m = le-div-iff-mul-le pages .1 (omega arith) in
       let high : t / m < to = div-lt-iff-lt-mul pages .1 (omega arith) in
       let full = all-in (λ block. isFull m marks block letter) from (to - from) e (t / m) low (omega arith) in
-      let at : getD marks t 0 ≡ letter = sym (mark-is marks t (omega arith)) ∙ (rw (div-add-mod' t m) at (full-at m marks (t / m) letter (t % m) full (mod-lt t pages))) in
+      let at : getD marks t 0 ≡ letter = sym (mark-is marks t (omega arith))
+      ∙ (rw (div-add-mod' t m) at (full-at m marks (t / m) letter (t % m) full (mod-lt t pages))) in
       eq-eqb _ letter (there i j ∙ at)))
     where
       stretch : List ℕ
@@ -60,7 +62,8 @@ module _ (Z : Sizes) (pages : 0 < Z .m) (marks : List ℕ) where
       (lt-cases i (from * m))
 
   -- the blocks that the search passes over
-  pub upto-passed : (torn start : ℕ) → start ≤ n + 1 → ((j : ℕ) → j < start → isFull m marks j (letter Z 1) ≡ true) → Upto Z marks start 0 torn (letter Z 1) (n + 1)
+  pub upto-passed : (torn start : ℕ) → start ≤ n + 1 → ((j : ℕ) → j < start → isFull m marks j (letter Z 1) ≡ true) → Upto Z marks start 0 torn
+      (letter Z 1) (n + 1)
   upto-passed torn start h full = record {
     few = omega arith;
     torn-is = λ e. absurd (omega arith);

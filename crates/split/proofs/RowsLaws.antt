@@ -1,8 +1,8 @@
 -- The check of set bytes by rows: what the table by destination and the bits of a row tell, and that rows with each set make a split.
 use Rattle.flash.proofs.Kit.{_≡_, refl, sym, ap, _∙_, _≢_, ⊎-elim, Bool, true, _&&_, List, _++_, ℕ, _+_, _-_, _*_, _/_, _%_, _≤_, _<_, bitOr}
 use Rattle.flash.proofs.Kit.{below-more, div-lt-iff-lt-mul, div-add-mod', mod-lt, mod-eq-of-lt, arith, eqb, ltb, leb, length, getD, set, take}
-use Rattle.flash.proofs.Kit.{replicate, length-replicate, length-take, getD-take, getD-replicate, List·getD-append, getD-set-same, getD-set-other, eqb-true}
-use Rattle.flash.proofs.Kit.{eq-eqb, ltb-true, lt-ltb, leb-true, le-leb}
+use Rattle.flash.proofs.Kit.{replicate, length-replicate, length-take, getD-take, getD-replicate, List·getD-append, getD-set-same, getD-set-other}
+use Rattle.flash.proofs.Kit.{eqb-true, eq-eqb, ltb-true, lt-ltb, leb-true, le-leb}
 use Rattle.flash.specs.Lists.{range, all, any, part}
 use Rattle.flash.specs.Geometry.{blockOf}
 use Rattle.split.specs.OneToOne.{isOneToOne}
@@ -27,7 +27,8 @@ bits-none bytes start = record {
   only = λ number e. absurd (omega (arith, no-bits number));
 }
 
-pub bits-more : (bytes : List ℕ) (start k mask after bit : ℕ) → Bits bytes start k mask → start ≤ k → bit ≡ getD bytes k 0 % 64 → WithBit mask bit after
+pub bits-more : (bytes : List ℕ) (start k mask after bit : ℕ) → Bits bytes start k mask → start ≤ k → bit ≡ getD bytes k 0 % 64
+    → WithBit mask bit after
     → Bits bytes start (k + 1) after
 bits-more bytes start k mask after bit B low is w = record {
   marked = λ j a h. ⊎-elim
@@ -67,7 +68,8 @@ bits-tell m i bytes mask fits room B = bool-eq _ _
     let at = part-at m i bytes (r .0 - i * m) 0 j ∙ ap (λ (t : ℕ). getD bytes t 0) back in
     any-of (λ byte. eqb (byte % 64) x) (part m i bytes) (r .0 - i * m) 0 (omega (arith, long)) (rw at (eq-eqb _ x (r .3)))))
     (λ e. le-leb _ _ (lowest-above mask m fits (λ x l.
-    let r = any-find (λ byte. eqb (byte % 64) x) (part m i bytes) 0 (all-in (λ number. any (λ byte. eqb (byte % 64) number) (part m i bytes)) 0 m e x (omega arith) (omega arith)) in
+    let r = any-find (λ byte. eqb (byte % 64) x) (part m i bytes) 0
+    (all-in (λ number. any (λ byte. eqb (byte % 64) number) (part m i bytes)) 0 m e x (omega arith) (omega arith)) in
     let j : r .0 < m = omega (arith, long, r .1) in
     let at = part-at m i bytes (r .0) 0 j in
     rw (← eqb-true (getD (part m i bytes) (r .0) 0 % 64) x (r .2), at) (B .marked (i * m + r .0) (omega arith) (omega arith)))))
@@ -119,7 +121,8 @@ module _ (n m : ℕ) (bytes : List ℕ) (some : 1 ≤ m) (room : n * m ≤ lengt
           let z = row-length i h in
           let f = part-fits i n m h in
           let row = all-in (λ i. hasEach m (part m i bytes)) 0 n e i (omega arith) (omega arith) in
-          let r = any-find (λ byte. eqb (byte % 64) x) (part m i bytes) 0 (all-in (λ number. any (λ byte. eqb (byte % 64) number) (part m i bytes)) 0 m row x (omega arith) (omega arith)) in
+          let r = any-find (λ byte. eqb (byte % 64) x) (part m i bytes) 0
+          (all-in (λ number. any (λ byte. eqb (byte % 64) number) (part m i bytes)) 0 m row x (omega arith) (omega arith)) in
           let j : r .0 < m = omega (arith, r .1) in
           let at = part-at m i bytes (r .0) 0 j in
           let is = eqb-true (getD (part m i bytes) (r .0) 0 % 64) x (r .2) in
@@ -203,7 +206,8 @@ module _ (n m : ℕ) (list sets table : List ℕ) (A : Accepted n m list) (len :
           and-both _ _
           (and-both _ _
           (each-rows n m sets (A .some-pages) sets-room (A .m-fits)
-          (proper-each n m sets sets (A .some-pages) sets-room (λ k. k) (λ k h. h) (λ k h. refl) small (λ t h. (t, h, refl)) (page-from n m list sets split)))
+          (proper-each n m sets sets (A .some-pages) sets-room (λ k. k) (λ k h. h) (λ k h. refl) small (λ t h. (t, h, refl))
+          (page-from n m list sets split)))
           (all-of (λ set. ltb set 64) sets 0 (λ k h. lt-ltb _ 64 (low k (omega arith)))))
           (each-rows n m table (A .some-pages) room (A .m-fits)
           (proper-each n m sets table (A .some-pages) room (λ k. getD list k 0) entry-inside (small-of low) small
@@ -221,7 +225,8 @@ none-entered list sets table k none clear = record {
   from = λ x h l. absurd (omega (arith, clear x h));
 }
 
-pub one-entered : (list sets table : List ℕ) (k p v : ℕ) → Entered list sets k table → length table ≡ 4096 → p ≡ getD list k 0 % 4096 → v ≡ getD sets k 0 % 128
+pub one-entered : (list sets table : List ℕ) (k p v : ℕ) → Entered list sets k table → length table ≡ 4096 → p ≡ getD list k 0 % 4096
+    → v ≡ getD sets k 0 % 128
     → Entered list sets (k + 1) (set table p v)
 one-entered list sets table k p v E long at is = record {
   met = below-more (λ j. getD (set table p v) (getD list j 0 % 4096) 0 < 128) k
@@ -239,7 +244,8 @@ one-entered list sets table k p v E long at is = record {
     same : getD (set table p v) p 0 ≡ v
     same = getD-set-same table p v 0 (omega arith)
 
-module _ (originals : ℕ) (list sets table : List ℕ) (listed : length list ≡ originals) (few : originals ≤ 4096) (E : Entered list sets originals table) where
+module _ (originals : ℕ) (list sets table : List ℕ) (listed : length list ≡ originals) (few : originals ≤ 4096)
+    (E : Entered list sets originals table) where
   -- as many numbers as places: if each place is met, none is met twice, and no number is another
   pub one-to-one-by : originals ≤ length table
       → (all (λ number. ltb number 4096) list && all (λ byte. ltb byte 128) (take originals table)) ≡ isOneToOne originals list
@@ -261,7 +267,8 @@ module _ (originals : ℕ) (list sets table : List ℕ) (listed : length list �
       meets : (all (λ number. ltb number 4096) list && all (λ byte. ltb byte 128) (take originals table)) ≡ true
           → (x : ℕ) → x < originals → (j : ℕ) × (j < originals) × (getD list j 0 ≡ x)
       meets e x h =
-          let b = all-at (λ byte. ltb byte 128) (take originals table) x 0 (and-right (all (λ number. ltb number 4096) list) _ e) (omega (arith, front)) in
+          let b = all-at (λ byte. ltb byte 128) (take originals table) x 0 (and-right (all (λ number. ltb number 4096) list) _ e)
+          (omega (arith, front)) in
           let c : ltb (getD table x 0) 128 ≡ true = rw (← getD-take originals table x 0 h) b in
           let r = E .from x (omega arith) (ltb-true (getD table x 0) 128 c) in
           let s = ltb-true (getD list (r .0) 0) 4096 (all-at (λ number. ltb number 4096) list (r .0) 0 (and-left _ _ e) (omega (arith, r .1))) in

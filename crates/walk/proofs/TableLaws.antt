@@ -1,7 +1,7 @@
 -- Rows and tables that are filled entry by entry tell the pages and the sources of each set.
 use Rattle.flash.proofs.Kit.{_≡_, refl, sym, ap, _∙_, ⊎-elim, List, ℕ, zero, suc, _+_, _-_, _*_, _/_, _%_, _≤_, _<_, not-suc-le-zero, suc-mul}
-use Rattle.flash.proofs.Kit.{div-add-mod', div-lt-iff-lt-mul, mod-lt, add-one, arith, length, getD, set, take, drop, length-set, length-take, length-drop, getD-take}
-use Rattle.flash.proofs.Kit.{getD-drop, getD-set-same, getD-set-other}
+use Rattle.flash.proofs.Kit.{div-add-mod', div-lt-iff-lt-mul, mod-lt, add-one, arith, length, getD, set, take, drop, length-set, length-take}
+use Rattle.flash.proofs.Kit.{length-drop, getD-take, getD-drop, getD-set-same, getD-set-other}
 use Rattle.flash.specs.Lists.{part}
 use Rattle.flash.specs.declared.sizes.Sizes.{Sizes}
 use Rattle.flash.specs.Geometry.{numberAt}
@@ -19,7 +19,8 @@ use Rattle.walk.specs.inner.Rows.{pagesBy, sourcesBy}
 
 -- ---- one entry after the other
 module _ (at value : ℕ → ℕ) where
-  pub filled-more : (before table : List ℕ) (k i x : ℕ) → table ≡ filledBy at value k before → i ≡ at k → x ≡ value k → set table i x ≡ filledBy at value (k + 1) before
+  pub filled-more : (before table : List ℕ) (k i x : ℕ) → table ≡ filledBy at value k before → i ≡ at k → x ≡ value k
+      → set table i x ≡ filledBy at value (k + 1) before
   unfolding filledBy
   filled-more before table k i x e f g = rw (add-one k, e, f, g)
 
@@ -146,8 +147,10 @@ module _ (M : Move) (A : AcceptedMove M) where
         let at : ℕ = D M set (b + 1) - b * m in
         let whole : start + at ≡ D M set (b + 1) = omega (arith, r .0) in
         let v-in : DataBlock n (b + 1) = record { low = omega arith; high = omega arith } in
-        let there : (i : ℕ) → i < m → getD row i 0 ≡ getD sets (start + i) 0 = λ i l. (rw size (getD-take m (drop start sets) i 0 l) ∙ getD-drop start sets i 0) in
-        let here : page ≡ at = one at (omega (arith, r .1)) (there at (r .1) ∙ ap (setOf sets) whole ∙ D-page M A set set-ok (b + 1) v-in .in-set ∙ sym is) (λ i l e.
+        let there : (i : ℕ) → i < m → getD row i 0 ≡ getD sets (start + i) 0 = λ i l.
+        (rw size (getD-take m (drop start sets) i 0 l) ∙ getD-drop start sets i 0) in
+        let here : page ≡ at = one at (omega (arith, r .1))
+        (there at (r .1) ∙ ap (setOf sets) whole ∙ D-page M A set set-ok (b + 1) v-in .in-set ∙ sym is) (λ i l e.
         let low : i < m = omega arith in
         let block : (start + i) / m + 1 ≡ b + 1 = rw begins (ap (λ (x : ℕ). x + 1) (slot-div m b i low)) in
         let in-set : getD sets (start + i) 0 ≡ set = sym (there i low) ∙ e ∙ is in
@@ -169,12 +172,14 @@ module _ (M : Move) (A : AcceptedMove M) where
           pages-by (filledBy (λ b. b) (pageFrom M set) n row) (length-filled (λ b. b) (pageFrom M set) n row ∙ h)
           (λ v v-in.
           let e : v - 1 + 1 ≡ v = omega (arith, v-in .low) in
-          filled-at (λ b. b) (pageFrom M set) n row (λ j k l r q. omega arith) (λ k l. omega (arith, A .ranges .n-high)) (v - 1) (omega (arith, v-in .low, v-in .high))
+          filled-at (λ b. b) (pageFrom M set) n row (λ j k l r q. omega arith) (λ k l. omega (arith, A .ranges .n-high)) (v - 1)
+          (omega (arith, v-in .low, v-in .high))
           ∙ rw e (omega (arith, D-parts v v-in)))
 
       pub sources-row : SourcesRow M set (filledBy (goesTo M set) (λ b. b + 1) n row)
       sources-row =
-          let goes : (b : ℕ) → b < n → DataBlock n (dest M set (b + 1)) = λ b l. dest-in M A set set-ok (b + 1) (record { low = omega arith; high = omega arith }) in
+          let goes : (b : ℕ) → b < n → DataBlock n (dest M set (b + 1)) = λ b l. dest-in M A set set-ok (b + 1)
+          (record { low = omega arith; high = omega arith }) in
           sources-by (filledBy (goesTo M set) (λ b. b + 1) n row) (length-filled (goesTo M set) (λ b. b + 1) n row ∙ h)
           (λ v v-in.
           let u-in = pred-in M A set set-ok v v-in in
@@ -231,7 +236,8 @@ module _ (M : Move) (A : AcceptedMove M) where
           room = filled-length (λ k. k / m) (λ k. k % m) low one;
           row = λ set set-ok.
               pages-by set set-ok _ (room-for (λ k. k / m) (λ k. k % m) low one set set-ok)
-              (λ v v-in. (let p = D-page M A set set-ok v v-in in told (λ k. k / m) (λ k. k % m) low one set v (D M set v) v-in (p .inside) (p .in-set) (p .at-block)));
+              (λ v v-in. (let p = D-page M A set set-ok v v-in in told (λ k. k / m) (λ k. k % m) low one set v (D M set v) v-in (p .inside)
+              (p .in-set) (p .at-block)));
         }
 
     pub sources-tell : SourcesTable M (sourcesBy m list sets (n * m) table)
@@ -246,5 +252,6 @@ module _ (M : Move) (A : AcceptedMove M) where
               sources-by set set-ok _ (room-for (λ k. getD list k 0 / m) (λ k. k / m + 1) low one set set-ok)
               (λ v v-in.
               let p = D-page M A set set-ok (pred M set v) (pred-in M A set set-ok v v-in) in
-              told (λ k. getD list k 0 / m) (λ k. k / m + 1) low one set v (D M set (pred M set v)) v-in (p .inside) (p .in-set) (dest-pred M A set set-ok v v-in) ∙ p .at-block);
+              told (λ k. getD list k 0 / m) (λ k. k / m + 1) low one set v (D M set (pred M set v)) v-in (p .inside) (p .in-set)
+              (dest-pred M A set set-ok v v-in) ∙ p .at-block);
         }

@@ -18,7 +18,7 @@ pub record OtherTable (M : Move) (isBackward : Bool) (other : List ℕ) : Type 0
   pub sources-tell : isBackward ≡ false → SourcesTable M other
   pub sets-tell : isBackward ≡ true → ByDestination (M .list) (M .sets) other
 
--- What the steps of a pass are given: the tables of the move; or, where only few steps are taken, the sets by destination alone, and the rows of a set
+-- What the steps of a pass are given: the tables of the move; or, where few steps are taken, the sets by destination alone, and the rows of a set
 -- are filled when a page is written.
 pub record PassTables (M : Move) (few isBackward : Bool) (pages other : List ℕ) : Type 0 where
   pub accepted : AcceptedMove M

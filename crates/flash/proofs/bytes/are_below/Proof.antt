@@ -1,5 +1,5 @@
 -- `are_below` meets its contract: what is gathered tells whether each byte so far is below the limit.
-use Rattle.flash.proofs.Kit.{_≡_, refl, sym, ap, _∙_, Bool, _&&_, _≤_, _<_, _-_, arith, ltb, length, getD, take, take-length}
+use Rattle.flash.proofs.Kit.{_≡_, refl, _∙_, _≤_, _<_, _-_, arith, ltb, length, take, take-length}
 use Rattle.flash.specs.Lists.{all}
 use Rattle.flash.proofs.Loops.{all-more}
 use Rattle.flash.proofs.bytes.are_below.Statement.{statement}

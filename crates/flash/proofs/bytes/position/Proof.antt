@@ -37,4 +37,5 @@ returns : tie.Need-returns Inv-loop μ-loop
 returns c = let l = c .before .loop in λ at h e only. l .inv .1 .told at h e only ∙ rw (lt-ltb at (l .i) (omega arith))
 
 pub position-spec : {M : Type 1} → statement M
-position-spec = tie.close (tie.spec Inv-loop μ-loop loop-holds shared-slice-read-kept narrow-requires kept-requires add-i loop-less loop-again returns)
+position-spec = tie.close (tie.spec Inv-loop μ-loop loop-holds shared-slice-read-kept narrow-requires kept-requires add-i loop-less loop-again
+    returns)

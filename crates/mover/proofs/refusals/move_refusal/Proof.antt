@@ -1,5 +1,5 @@
 -- `move_refusal` gives the first number of rows 1 to 4 that fits, and leaves the sets by destination where none does.
-use Rattle.flash.proofs.Kit.{_≡_, sym, _∙_, false, cond, not, [], _*_, _≤_, arith, length, needs, not-true, not-false}
+use Rattle.flash.proofs.Kit.{[], _≡_, sym, _∙_, false, cond, not, _*_, _≤_, arith, length, needs, not-false}
 use Rattle.split.specs.Request.{requestOf}
 use Rattle.flash.specs.Tables.{refusal}
 use Rattle.flash.specs.Geometry.{Bounds, inRange}

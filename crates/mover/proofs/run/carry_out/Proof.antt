@@ -62,4 +62,5 @@ returns-2 : tie.Need-returns-2
 returns-2 c = search needs
 
 pub carry-out-spec : {M : Type 1} → statement M
-carry-out-spec = tie.close (tie.spec add-if1 take-steps-requires same-length same-length-2 same-length-3 returns pages-table-requires slice-aggregate-take-steps take-steps-requires-2 same-length-4 same-length-5 same-length-6 returns-2)
+carry-out-spec = tie.close (tie.spec add-if1 take-steps-requires same-length same-length-2 same-length-3 returns pages-table-requires
+    slice-aggregate-take-steps take-steps-requires-2 same-length-4 same-length-5 same-length-6 returns-2)

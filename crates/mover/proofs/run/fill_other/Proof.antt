@@ -1,5 +1,5 @@
 -- The table that a pass needs is there already, or is filled for it.
-use Rattle.flash.proofs.Kit.{Bool·beq, _≡_, refl, sym, _∙_, subst, Bool, true, false, _*_, _≤_, arith}
+use Rattle.flash.proofs.Kit.{Bool·beq, _≡_, refl, sym, subst, Bool, true, false, _*_, _≤_, arith}
 use Rattle.flash.proofs.Bools.{never-both}
 use Rattle.flash.proofs.Bounds.{product-le}
 use Rattle.split.proofs.RowsLaws.{by-destination}

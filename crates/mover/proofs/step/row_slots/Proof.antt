@@ -62,7 +62,8 @@ returns-2 c =
     let P = (rw own at (R .3)) in
     let S = (rw own at (R .4 no)) in
     let G = (rw own at (c .forward-slots .ensures)) in
-    let read = forward-read (a .sizes) (a .page) page-in _ (P .fits) (a .page) page-in _ (S .fits) (a .block) (record { low = omega arith; high = start .pre .1 .5 no }) in
+    let read = forward-read (a .sizes) (a .page) page-in _ (P .fits) (a .page) page-in _ (S .fits) (a .block)
+    (record { low = omega arith; high = start .pre .1 .5 no }) in
     let inside = among (Read (a .sizes) (a .page) (a .block)) _ _ (c .forward-slots .result) (omega (arith, G .2, G .3)) (G .0) read in
     rw no (
       (G .1, G .2, G .3, inside),

@@ -1,5 +1,5 @@
 -- The slots of a write, by rows that are in the tables or are filled for it.
-use Rattle.flash.proofs.Kit.{_≡_, refl, _∙_, ⊎-elim, true, false, _+_, _-_, _*_, _<_, arith, needs, length}
+use Rattle.flash.proofs.Kit.{_≡_, refl, _∙_, ⊎-elim, true, false, _-_, _<_, arith, needs}
 use Rattle.flash.proofs.Bools.{bool-cases}
 use Rattle.flash.proofs.Bounds.{product-le}
 use Rattle.flash.specs.Geometry.{numberAt}
@@ -26,8 +26,15 @@ set-written-requires c κs =
       omega (arith, start .pre .1 .3, B .n-high),
       start .pre .1 .2,
       λ yes.
-          (let low = start .pre .1 .4 yes in
-          (low, omega (arith, T .room, slot-lt (a .sizes .m) (a .block - 1) (a .page) (a .sizes .n) (omega (arith, start .pre .1 .3)) (start .pre .1 .2)))),
+          (let low = start .pre .1 .4 yes in (
+            low,
+            omega (
+              arith,
+              T .room,
+              slot-lt (a .sizes .m) (a .block - 1) (a .page) (a .sizes .n) (omega (arith, start .pre .1 .3))
+                  (start .pre .1 .2),
+            ),
+          )),
     )
 
 -- it is the set of the page
@@ -94,11 +101,21 @@ row-slots-requires-2 c κs =
     let T = start .pre .0 in
     let many = c .before .before .before .if1 .left in
     let set-in = told w .1 in
-    let set = w .set-written .result in
-    ((T .accepted, set-in, told w .0, rw (c .before .before .row .ensures, row-is) (T .pages-tell many .row set set-in), λ no. rw (c .before .row2 .ensures, row-is) (T .other-tells .sources-tell (rw (no, many)) .row set set-in)), start .pre .1)
+    let set = w .set-written .result in (
+      (
+        T .accepted,
+        set-in,
+        told w .0,
+        rw (c .before .before .row .ensures, row-is) (T .pages-tell many .row set set-in),
+        λ no. rw
+            (c .before .row2 .ensures, row-is) (T .other-tells .sources-tell (rw (no, many)) .row set set-in),
+      ),
+      start .pre .1,
+    )
 
 returns-2 : tie.Need-returns-2
 returns-2 c = search needs
 
 pub write-slots-spec : {M : Type 1} → statement M
-write-slots-spec = tie.close (tie.spec set-written-requires set-rows-requires slice-aggregate-row-slots slice-aggregate-row-slots-2 row-slots-requires returns row-requires row-requires-2 row-slots-requires-2 returns-2)
+write-slots-spec = tie.close (tie.spec set-written-requires set-rows-requires slice-aggregate-row-slots slice-aggregate-row-slots-2
+    row-slots-requires returns row-requires row-requires-2 row-slots-requires-2 returns-2)

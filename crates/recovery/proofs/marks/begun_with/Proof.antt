@@ -14,7 +14,8 @@ loop-holds : tie.Need-loop-holds Inv-loop μ-loop
 loop-holds c = (omega arith, omega arith)
 
 -- the middle block lies within the marks
-middle-fits : (c : tie.In-loop Inv-loop μ-loop) → (let a = c .before .before .args in let middle = (c .before .loop .low + c .before .loop .high) / 2 in
+middle-fits : (c : tie.In-loop Inv-loop μ-loop)
+    → (let a = c .before .before .args in let middle = (c .before .loop .low + c .before .loop .high) / 2 in
     middle * a .m + a .m ≤ length (a .marks .now))
 middle-fits c =
     let s = c .before .before in
@@ -49,4 +50,5 @@ returns : tie.Need-returns Inv-loop μ-loop
 returns c = search needs
 
 pub begun-with-spec : {M : Type 1} → statement M
-begun-with-spec = tie.close (tie.spec Inv-loop μ-loop loop-holds add-middle mul-if1 shared-slice-read-if1 add-low loop-less loop-again loop-less-2 loop-again-2 returns)
+begun-with-spec = tie.close (tie.spec Inv-loop μ-loop loop-holds add-middle mul-if1 shared-slice-read-if1 add-low loop-less loop-again loop-less-2
+    loop-again-2 returns)

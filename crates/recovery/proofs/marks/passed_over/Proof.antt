@@ -1,5 +1,5 @@
 -- `passed_over` counts blocks that are full of a letter.
-use Rattle.flash.proofs.Kit.{_≡_, sym, _∙_, _+_, _-_, _*_, _≤_, mul-le-mul-right, arith, needs}
+use Rattle.flash.proofs.Kit.{sym, _∙_, _-_, _≤_, mul-le-mul-right, arith, needs}
 use Rattle.flash.proofs.Ranges.{all-in}
 use Rattle.flash.specs.Chip.{isFull}
 use Rattle.recovery.proofs.marks.passed_over.Statement.{statement}

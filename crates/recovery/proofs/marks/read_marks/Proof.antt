@@ -1,5 +1,6 @@
 -- `read_marks` meets its contract: the search knows what it has met, and what that tells at its end.
-use Rattle.flash.proofs.Kit.{needs, _≡_, sym, _∙_, ⊎-elim, true, false, ℕ, _+_, _-_, _*_, _≤_, _<_, mul-le-mul-right, arith, length, getD, not-true, not-false}
+use Rattle.flash.proofs.Kit.{needs, _≡_, sym, _∙_, ⊎-elim, true, false, ℕ, _+_, _-_, _*_, _≤_, _<_, mul-le-mul-right, arith, length, getD, not-true}
+use Rattle.flash.proofs.Kit.{not-false}
 use Rattle.flash.specs.Geometry.{letter}
 use Rattle.flash.specs.Chip.{isMark, isFull}
 use Rattle.flash.proofs.Ranges.{all-in}
@@ -48,7 +49,8 @@ search-holds c =
       omega arith,
       omega arith,
       rw upper (upto-passed sizes (omega arith) marks 0 r (omega arith) full),
-      legal-over sizes (omega arith) marks (letter sizes 1) 0 r (omega arith) (omega (arith, start .pre .1)) (λ i h. absurd (omega arith)) (λ j a h. full j h),
+      legal-over sizes (omega arith) marks (letter sizes 1) 0 r (omega arith) (omega (arith, start .pre .1)) (λ i h. absurd (omega arith))
+          (λ j a h. full j h),
     )
 
 -- the block that is looked at lies within the marks
@@ -98,8 +100,10 @@ returns c =
     let a = b .before .before .before .before .before .args in
     let sizes = a .sizes in
     let pages : 0 < a .sizes .m = omega arith in
-    let illegal : isMark (getD (a .marks .now) (o .block * a .sizes .m + l .page) 0) ≡ false = sym (c .before .is-mark .ensures) ∙ not-true _ (c .if1 .taken) in
-    tells-none sizes pages (a .marks .now) (reads-illegal sizes pages (a .marks .now) (o .block * a .sizes .m + l .page) (omega (arith, room b)) illegal)
+    let illegal : isMark (getD (a .marks .now) (o .block * a .sizes .m + l .page) 0) ≡ false = sym (c .before .is-mark .ensures) ∙ not-true _
+    (c .if1 .taken) in
+    tells-none sizes pages (a .marks .now)
+    (reads-illegal sizes pages (a .marks .now) (o .block * a .sizes .m + l .page) (omega (arith, room b)) illegal)
 
 add-unfinished : tie.Need-add-unfinished Inv-loop μ-loop Inv-search μ-search
 add-unfinished c =
@@ -163,7 +167,12 @@ add-are-full : tie.Need-add-are-full Inv-loop μ-loop Inv-search μ-search
 add-are-full c = search needs
 
 are-full-requires : tie.Need-are-full-requires Inv-loop μ-loop Inv-search μ-search
-are-full-requires c κs = (omega arith, omega arith, omega (arith, c .before .before .before .before .before .before .before .before .before .before .before .pre .1))
+are-full-requires c κs = (
+  omega arith,
+  omega arith,
+  omega
+      (arith, c .before .before .before .before .before .before .before .before .before .before .before .pre .1),
+)
 
 add-block : tie.Need-add-block Inv-loop μ-loop Inv-search μ-search
 add-block c = search needs
@@ -244,12 +253,14 @@ returns-3 c =
     let h : o .block ≤ a .sizes .n = omega arith in
     let U = block-changes sizes pages marks (o .block) (l .page) _ _ _ _ _ h (v .4 .left) (o .inv .2) (l .inv .1) (omega arith) (v .5 .taken) in
     let all = sym (v .7 .ensures) ∙ v .8 .taken in
-    let rest : (j : ℕ) → o .block + 1 ≤ j → j < a .sizes .n + 1 → isFull (a .sizes .m) marks j (getD marks (o .block * a .sizes .m) 0) ≡ true = λ j low high.
+    let rest : (j : ℕ) → o .block + 1 ≤ j → j < a .sizes .n + 1 → isFull (a .sizes .m) marks j
+    (getD marks (o .block * a .sizes .m) 0) ≡ true = λ j low high.
     all-in (λ b. isFull (a .sizes .m) marks b (getD marks (o .block * a .sizes .m) 0)) (o .block + 1) _ all j low (omega arith) in
     let so-far : LegalBelow sizes marks ((o .block + 1) * a .sizes .m) = λ i k. l .inv .2 i (omega arith) in
     let over = legal-over sizes pages marks _ (o .block + 1) (a .sizes .n + 1) (U .upper-is h .1) (omega (arith, start .pre .1)) so-far rest in
     rw (v .9, v .10, v .11, v .12, final)
-    (tells sizes pages marks _ _ _ _ (upto-rest sizes pages marks _ _ _ _ _ U (omega arith) h rest) (legal-all sizes marks (rw (start .pre .1) over))))
+    (tells sizes pages marks _ _ _ _ (upto-rest sizes pages marks _ _ _ _ _ U (omega arith) h rest)
+    (legal-all sizes marks (rw (start .pre .1) over))))
     w)
     (c .before .before .search-test .came))
 

@@ -49,9 +49,11 @@ loop-again c =
     let w = c .before .before .before in
     let l = w .before .before .before .before .loop in
     let a = w .before .before .before .before .before .before .args in
-    let more = bits-more (a .bytes .now) (a .start) (l .k) _ _ _ (l .inv .2) (l .inv .0) (w .before .wide .ensures) (with-one (l .one) (l .two) _ _ (w .with-bit .ensures)) in
+    let more = bits-more (a .bytes .now) (a .start) (l .k) _ _ _ (l .inv .2) (l .inv .0) (w .before .wide .ensures)
+    (with-one (l .one) (l .two) _ _ (w .with-bit .ensures)) in
     let next : l .k + 1 + 1 ≡ l .k + 2 = omega arith in
-    let both = bits-more (a .bytes .now) (a .start) (l .k + 1) _ _ _ more (omega arith) (c .before .wide2 .ensures) (with-two (w .with-bit .result) (l .two) _ _ (c .with-bit2 .ensures)) in
+    let both = bits-more (a .bytes .now) (a .start) (l .k + 1) _ _ _ more (omega arith) (c .before .wide2 .ensures)
+    (with-two (w .with-bit .result) (l .two) _ _ (c .with-bit2 .ensures)) in
     (omega arith, omega arith, rw next at both)
 
 shared-slice-read-wide-3 : tie.Need-shared-slice-read-wide-3 Inv-loop μ-loop
@@ -76,4 +78,6 @@ returns c =
     (c .before .if1 .came)
 
 pub bits-spec : {M : Type 1} → statement M
-bits-spec = tie.close (tie.spec Inv-loop μ-loop loop-holds sub-loop shared-slice-read-wide wide-requires with-bit-requires add-wide shared-slice-read-wide-2 wide-requires-2 with-bit-requires-2 add-k loop-less loop-again shared-slice-read-wide-3 wide-requires-3 with-bit-requires-3 returns)
+bits-spec = tie.close (tie.spec Inv-loop μ-loop loop-holds sub-loop shared-slice-read-wide wide-requires with-bit-requires add-wide
+    shared-slice-read-wide-2 wide-requires-2 with-bit-requires-2 add-k loop-less loop-again shared-slice-read-wide-3 wide-requires-3
+    with-bit-requires-3 returns)

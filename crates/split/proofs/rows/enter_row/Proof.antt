@@ -6,7 +6,8 @@ use Rattle.split.proofs.rows.enter_row.Statement.{statement}
 use Rattle.split.proofs.rows.enter_row.Tie as tie
 
 abbrev Inv-loop : tie.InvT-loop
-Inv-loop list sets start end table₀ met₀ k₀ table met k = (start ≤ k) × (k ≤ end) × Entered list sets k table × Bits sets start k met × (length table ≡ length table₀)
+Inv-loop list sets start end table₀ met₀ k₀ table met k = (start ≤ k) × (k ≤ end) × Entered list sets k table × Bits sets start k met
+    × (length table ≡ length table₀)
 
 abbrev μ-loop : tie.MeasureT-loop
 μ-loop list sets start end table₀ met₀ k₀ table met k = end - k
@@ -62,4 +63,5 @@ returns c =
     rw end (l .inv .2, l .inv .3)
 
 pub enter-row-spec : {M : Type 1} → statement M
-enter-row-spec = tie.close (tie.spec Inv-loop μ-loop loop-holds shared-slice-read-set mul-entry shared-slice-read-entry entry-requires slice-write-table wide-requires with-bit-requires add-k loop-less loop-again same-length returns)
+enter-row-spec = tie.close (tie.spec Inv-loop μ-loop loop-holds shared-slice-read-set mul-entry shared-slice-read-entry entry-requires
+    slice-write-table wide-requires with-bit-requires add-k loop-less loop-again same-length returns)

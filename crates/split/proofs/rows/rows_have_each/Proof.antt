@@ -1,5 +1,5 @@
 -- `rows_have_each` tells whether each row has each number below m.
-use Rattle.flash.proofs.Kit.{length, _+_, _-_, _*_, _≤_, _≡_, sym, _∙_, arith, needs}
+use Rattle.flash.proofs.Kit.{length, _+_, _-_, _*_, _≤_, _≡_, sym, arith, needs}
 use Rattle.flash.proofs.Parts.{part-fits}
 use Rattle.split.specs.inner.Rows.{rowsHaveEach}
 use Rattle.split.proofs.RowsLaws.{no-rows, row-more}
@@ -18,7 +18,12 @@ loop-holds c = (omega arith, sym (no-rows _ _))
 -- the row lies within the bytes
 fits : (c : tie.In-loop Inv-loop μ-loop) → (let m = c .before .before .before .args .m in
     c .before .loop .i * m + m ≤ length (c .before .before .before .args .bytes .now))
-fits c = omega (arith, part-fits (c .before .loop .i) (c .before .before .before .args .n) (c .before .before .before .args .m) (c .loop-test .taken), c .before .before .before .pre .1)
+fits c = omega (
+  arith,
+  part-fits (c .before .loop .i) (c .before .before .before .args .n) (c .before .before .before .args .m)
+      (c .loop-test .taken),
+  c .before .before .before .pre .1,
+)
 
 mul-start : tie.Need-mul-start Inv-loop μ-loop
 mul-start c = record { fits = omega (arith, fits c) }
@@ -42,8 +47,11 @@ loop-again : tie.Need-loop-again Inv-loop μ-loop
 loop-again c =
     let t = c .before .before in
     let a = t .before .before .before .args in
-    let l = t .before .loop in
-    (omega arith, row-more (a .m) (l .i) (a .bytes .now) (l .each) _ _ (omega arith) (fits t) (l .inv .1) (c .before .bits .ensures) (c .lowest-free .ensures))
+    let l = t .before .loop in (
+      omega arith,
+      row-more (a .m) (l .i) (a .bytes .now) (l .each) _ _ (omega arith) (fits t) (l .inv .1) (c .before .bits .ensures)
+          (c .lowest-free .ensures),
+    )
 
 returns : tie.Need-returns Inv-loop μ-loop
 returns c =
@@ -52,4 +60,5 @@ returns c =
     rw end at (l .inv .1)
 
 pub rows-have-each-spec : {M : Type 1} → statement M
-rows-have-each-spec = tie.close (tie.spec Inv-loop μ-loop loop-holds mul-start add-bits bits-requires lowest-free-requires add-i loop-less loop-again returns)
+rows-have-each-spec = tie.close (tie.spec Inv-loop μ-loop loop-holds mul-start add-bits bits-requires lowest-free-requires add-i loop-less
+    loop-again returns)

@@ -7,7 +7,8 @@ use Rattle.split.proofs.rows.sets_by_destination.Statement.{statement}
 use Rattle.split.proofs.rows.sets_by_destination.Tie as tie
 
 abbrev Inv-loop : tie.InvT-loop
-Inv-loop n m list sets table₀ each₀ i₀ table each i = (i ≤ n) × Entered list sets (i * m) table × (each ≡ rowsHaveEach i m sets) × (length table ≡ length table₀)
+Inv-loop n m list sets table₀ each₀ i₀ table each i = (i ≤ n) × Entered list sets (i * m) table × (each ≡ rowsHaveEach i m sets)
+    × (length table ≡ length table₀)
 
 abbrev μ-loop : tie.MeasureT-loop
 μ-loop n m list sets table₀ each₀ i₀ table each i = n - i
@@ -34,7 +35,8 @@ loop-holds c =
     let count = a .n * a .m in
     let part : length (take (count - 0) (drop 0 (a .table .now))) ≡ count = simp (length-take, length-drop) (omega arith) in (
       omega arith,
-      none-entered (a .list .now) (a .sets .now) _ _ (omega arith) (rw (f .before .before .before .before .before .pre .2) (clear-front (f .fill .last .0) _ count 255 (rw part at (f .fill .ensures)))),
+      none-entered (a .list .now) (a .sets .now) _ _ (omega arith)
+          (rw (f .before .before .before .before .before .pre .2) (clear-front (f .fill .last .0) _ count 255 (rw part at (f .fill .ensures)))),
       sym (no-rows _ _),
       refl,
     )
@@ -42,7 +44,8 @@ loop-holds c =
 -- the row lies within list and sets
 fits : (c : tie.In-loop Inv-loop μ-loop) → (let a = c .before .before .before .before .before .before .before .before .before .args in
     c .before .loop .i * a .m + a .m ≤ a .n * a .m)
-fits c = let a = c .before .before .before .before .before .before .before .before .before .args in part-fits (c .before .loop .i) (a .n) (a .m) (c .loop-test .taken)
+fits c = let a = c .before .before .before .before .before .before .before .before .before .args in part-fits (c .before .loop .i) (a .n) (a .m)
+    (c .loop-test .taken)
 
 mul-start : tie.Need-mul-start Inv-loop μ-loop
 mul-start c = record { fits = omega (arith, fits c) }
@@ -73,7 +76,8 @@ loop-again c =
     let next : (l .i + 1) * a .m ≡ l .i * a .m + a .m = rw (add-one (l .i)) (suc-mul (l .i) (a .m)) in (
       omega arith,
       rw next (e .enter-row .ensures .0),
-      row-more (a .m) (l .i) (a .sets .now) (l .each) _ _ (omega arith) (omega (arith, fits t)) (l .inv .2) (e .enter-row .ensures .1) (c .lowest-free .ensures),
+      row-more (a .m) (l .i) (a .sets .now) (l .each) _ _ (omega arith) (omega (arith, fits t)) (l .inv .2) (e .enter-row .ensures .1)
+          (c .lowest-free .ensures),
       omega (arith, e .enter-row .kept),
     )
 
@@ -87,4 +91,5 @@ returns c =
     rw end (l .inv .1, l .inv .2)
 
 pub sets-by-destination-spec : {M : Type 1} → statement M
-sets-by-destination-spec = tie.close (tie.spec Inv-loop μ-loop mul-fill sub-fill part-fill-start part-fill-end fill-requires loop-holds mul-start add-enter-row enter-row-requires lowest-free-requires add-i loop-less loop-again same-length returns)
+sets-by-destination-spec = tie.close (tie.spec Inv-loop μ-loop mul-fill sub-fill part-fill-start part-fill-end fill-requires loop-holds mul-start
+    add-enter-row enter-row-requires lowest-free-requires add-i loop-less loop-again same-length returns)

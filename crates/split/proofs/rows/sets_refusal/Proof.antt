@@ -1,9 +1,8 @@
 -- `sets_refusal` tells whether the list is one-to-one and the sets a split of it, and then leaves the sets by destination.
-use Rattle.flash.proofs.Kit.{_≡_, sym, ap₂, _∙_, false, _&&_, _-_, _*_, _≤_, length, needs, not-true, not-false, arith}
+use Rattle.flash.proofs.Kit.{_≡_, sym, ap₂, _∙_, _&&_, _-_, _*_, _≤_, needs, not-true, not-false, arith}
 use Rattle.flash.proofs.Bounds.{product-le}
 use Rattle.split.specs.OneToOne.{isOneToOne}
 use Rattle.split.specs.Split.{isSplit}
-use Rattle.split.specs.inner.Rows.{Accepted}
 use Rattle.split.proofs.RowsLaws.{one-to-one-by, by-destination, rows-split}
 use Rattle.split.proofs.rows.sets_refusal.Statement.{statement}
 use Rattle.split.proofs.rows.sets_refusal.Tie as tie
@@ -102,4 +101,6 @@ returns-3 c =
     (rw (one, yes), λ z. by-destination _ _ _ _ (s .pre .1 .0) (few s) (b .sets-by-destination .ensures .0) one)
 
 pub sets-refusal-spec : {M : Type 1} → statement M
-sets-refusal-spec = tie.close (tie.spec sets-by-destination-requires are-places-requires mul-are-below sub-are-below part-are-below-start part-are-below-end are-below-requires same-length returns are-below-requires-2 rows-have-each-requires same-length-2 returns-2 same-length-3 returns-3)
+sets-refusal-spec = tie.close (tie.spec sets-by-destination-requires are-places-requires mul-are-below sub-are-below part-are-below-start
+    part-are-below-end are-below-requires same-length returns are-below-requires-2 rows-have-each-requires same-length-2 returns-2 same-length-3
+    returns-3)

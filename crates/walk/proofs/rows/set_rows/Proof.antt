@@ -1,5 +1,5 @@
 -- The rows of one set are filled block by block.
-use Rattle.flash.proofs.Kit.{_≡_, refl, ap, _∙_, ℕ, _+_, _-_, _*_, _/_, _≤_, _<_, suc-mul, add-one, arith, length, getD, length-take, length-drop, needs}
+use Rattle.flash.proofs.Kit.{_≡_, refl, ap, _∙_, ℕ, _+_, _-_, _*_, _/_, _≤_, suc-mul, add-one, arith, length, getD, length-take, length-drop, needs}
 use Rattle.flash.proofs.Bounds.{product-le}
 use Rattle.flash.proofs.Parts.{part-fits}
 use Rattle.method.specs.Move.{moveOf}
@@ -53,30 +53,36 @@ part-position-end : tie.Need-part-position-end Inv-loop μ-loop
 part-position-end c = fits c .0
 
 position-requires : tie.Need-position-requires Inv-loop μ-loop
-position-requires c κs = simp (length-take, length-drop) (omega (arith, c .before .before .before .before .before .before .before .before .pre .0 .ranges .m-high))
+position-requires c κs = simp (length-take, length-drop)
+    (omega (arith, c .before .before .before .before .before .before .before .before .pre .0 .ranges .m-high))
 
 element-write-pages : tie.Need-element-write-pages Inv-loop μ-loop
 element-write-pages c = omega (arith, entered (c .before .before) .pre .0 .ranges .n-high)
 
 -- the original that is found
 this : (c : tie.After-position Inv-loop μ-loop) → (let t = c .before .before in let a = entered t .args in
-    Found (moveOf (a .sizes) (a .list .now) (a .sets .now)) (a .set) (t .before .before .loop .block) (t .before .before .loop .start + c .position .result))
+    Found (moveOf (a .sizes) (a .list .now) (a .sets .now)) (a .set) (t .before .before .loop .block)
+    (t .before .before .loop .start + c .position .result))
 this c =
     let t = c .before .before in
     let l = t .before .before .loop in
-    found _ (entered t .pre .0) (entered t .args .set) (omega arith) (l .block) (l .start) _ _ (omega arith) (l .inv .2) (t .before .before .before .narrow .ensures) (c .position .ensures)
+    found _ (entered t .pre .0) (entered t .args .set) (omega arith) (l .block) (l .start) _ _ (omega arith) (l .inv .2)
+    (t .before .before .before .narrow .ensures) (c .position .ensures)
 
 wide-requires : tie.Need-wide-requires Inv-loop μ-loop
 wide-requires c κs = search needs
 
 add-entry : tie.Need-add-entry Inv-loop μ-loop
-add-entry c = let t = c .before .before .before in record { fits = omega (arith, fits t, c .wide .ensures, this (c .before) .page-lt, t .before .before .loop .inv .2) }
+add-entry c = let t = c .before .before .before in record
+    { fits = omega (arith, fits t, c .wide .ensures, this (c .before) .page-lt, t .before .before .loop .inv .2) }
 
 mul-entry : tie.Need-mul-entry Inv-loop μ-loop
-mul-entry c = let t = c .before .before .before in record { fits = omega (arith, fits t, c .wide .ensures, this (c .before) .page-lt, t .before .before .loop .inv .2) }
+mul-entry c = let t = c .before .before .before in record
+    { fits = omega (arith, fits t, c .wide .ensures, this (c .before) .page-lt, t .before .before .loop .inv .2) }
 
 shared-slice-read-entry : tie.Need-shared-slice-read-entry Inv-loop μ-loop
-shared-slice-read-entry c = let w = c .before in let t = w .before .before .before in omega (arith, fits t .1, w .wide .ensures, this (w .before) .page-lt, t .before .before .loop .inv .2)
+shared-slice-read-entry c = let w = c .before in let t = w .before .before .before in omega
+    (arith, fits t .1, w .wide .ensures, this (w .before) .page-lt, t .before .before .loop .inv .2)
 
 entry-requires : tie.Need-entry-requires Inv-loop μ-loop
 entry-requires c κs = search needs
@@ -88,7 +94,8 @@ quotient-requires c κs =
     let start = entered t in
     let R = start .pre .0 .ranges in
     let F = fits t in
-    let to = entry-in _ (start .pre .0) (t .before .before .loop .start + w .wide .result) (omega (arith, F .1, start .pre .0 .list-length, w .wide .ensures, this (w .before) .page-lt, t .before .before .loop .inv .2)) in
+    let to = entry-in _ (start .pre .0) (t .before .before .loop .start + w .wide .result)
+    (omega (arith, F .1, start .pre .0 .list-length, w .wide .ensures, this (w .before) .page-lt, t .before .before .loop .inv .2)) in
     let few = product-le (start .args .sizes .n) (start .args .sizes .m) {c = 64} {d = 64} (R .n-high) (R .m-high) in
     (omega (arith, c .entry .ensures, to), R .m-low, R .m-high, t .before .before .before .before .reciprocal .ensures)
 
@@ -105,7 +112,9 @@ target c =
     let w = c .before .before .before in
     let t = w .before .before .before in
     let m = entered t .args .sizes .m in
-    c .quotient .ensures ∙ ap (λ (x : ℕ). x / m) (c .before .entry .ensures ∙ ap (λ (x : ℕ). getD (entered t .args .list .now) (t .before .before .loop .start + x) 0) (w .wide .ensures)) ∙ this (w .before) .target-is
+    c .quotient .ensures ∙ ap (λ (x : ℕ). x / m)
+    (c .before .entry .ensures ∙ ap (λ (x : ℕ). getD (entered t .args .list .now) (t .before .before .loop .start + x) 0) (w .wide .ensures))
+    ∙ this (w .before) .target-is
 
 element-write-sources : tie.Need-element-write-sources Inv-loop μ-loop
 element-write-sources c =
@@ -138,7 +147,13 @@ returns c =
     let a = start .args in
     let l = c .before .before .loop in
     let all : l .block ≡ a .sizes .n = omega arith in
-    rw (l .inv .0, l .inv .1, all) (pages-row _ (start .pre .0) (a .set) (omega arith) (a .pages .now) (start .pre .2), sources-row _ (start .pre .0) (a .set) (omega arith) (a .sources .now) (start .pre .3))
+    rw (l .inv .0, l .inv .1, all) (
+      pages-row _ (start .pre .0) (a .set) (omega arith) (a .pages .now) (start .pre .2),
+      sources-row _ (start .pre .0) (a .set) (omega arith)
+          (a .sources .now) (start .pre .3),
+    )
 
 pub set-rows-spec : {M : Type 1} → statement M
-set-rows-spec = tie.close (tie.spec Inv-loop μ-loop reciprocal-requires narrow-requires loop-holds add-position sub-position part-position-start part-position-end position-requires element-write-pages wide-requires add-entry mul-entry shared-slice-read-entry entry-requires quotient-requires add-block narrow-requires-2 element-write-sources add-start loop-less loop-again returns)
+set-rows-spec = tie.close (tie.spec Inv-loop μ-loop reciprocal-requires narrow-requires loop-holds add-position sub-position part-position-start
+    part-position-end position-requires element-write-pages wide-requires add-entry mul-entry shared-slice-read-entry entry-requires
+    quotient-requires add-block narrow-requires-2 element-write-sources add-start loop-less loop-again returns)
