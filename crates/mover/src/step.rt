@@ -7,15 +7,15 @@ ghost use Prim.Native.Nat.{ℕ, _+_, _-_, _*_, _≤_, _<_};
 ghost use lib.ListN.{length, getD, take, drop};
 ghost use Rattle.flash.specs.Geometry.{slotCount, storeLength, marksLength};
 ghost use Rattle.flash.specs.inner.Reciprocal.{reciprocalOf};
-ghost use Rattle.method.specs.Move.{moveOf, AcceptedMove};
+ghost use Rattle.method.specs.Move.{moveOf};
 ghost use Rattle.method.specs.Place.{marksOf, operationAt};
 ghost use Rattle.method.specs.Step as method;
 ghost use Rattle.method.specs.Step.{runningOf, writeSlots, tallied};
 ghost use Rattle.walk.specs.inner.Moments.{Tells, momentIn};
-ghost use Rattle.walk.specs.inner.Rows.{rowLength, tableLength, PagesRow, SourcesRow};
+ghost use Rattle.walk.specs.inner.Rows.{rowLength, tableLength, ListIn, PagesIn, BlocksIn};
 ghost use Rattle.walk.specs.inner.Slots.{slotsLength, SumsAs};
 ghost use Rattle.places.specs.inner.Place.{passOf, placeOf};
-ghost use Rattle.mover.specs.inner.Steps.{PassTables, SetWritten};
+ghost use Rattle.mover.specs.inner.Steps.{PassTables, SetRows};
 use flash::block::erase_block;
 use flash::casts::wide;
 use flash::sizes::Sizes;
@@ -56,7 +56,6 @@ fn row_slots(
     sizes: Sizes,
     reciprocal: usize,
     list: &[u16],
-    sets: &[u8],
     set: usize,
     pages: &[u8],
     sources: &[u8],
@@ -65,17 +64,16 @@ fn row_slots(
     page: usize,
     slots: &mut [usize; SLOTS],
 ) -> usize
-    requires { ⌜ AcceptedMove (moveOf sizes (now list) (now sets)) × (set < sizes .m)
-        × SetWritten (moveOf sizes (now list) (now sets)) backward block page set × PagesRow (moveOf sizes (now list) (now sets)) set (now pages)
-        × (backward ≡ false → SourcesRow (moveOf sizes (now list) (now sets)) set (now sources)) ⌝ }
+    requires { ⌜ ListIn (sizes .n) (sizes .m) (now list) × (set < sizes .m) × PagesIn (sizes .n) (sizes .m) (now pages)
+        × (backward ≡ false → (set ≡ page) × BlocksIn (sizes .n) (now sources)) × (sizes .n ≤ 64) × (sizes .m ≤ 64) ⌝ }
     requires { ⌜ (reciprocal ≡ reciprocalOf (sizes .m)) × (length (now slots) ≡ slotsLength) × (page < sizes .m) × (block ≤ sizes .n)
         × (backward ≡ true → 1 ≤ block) × (backward ≡ false → block + 1 ≤ sizes .n) ⌝ }
     ensures { λ r. ⌜ (1 ≤ r) × (r ≤ slotsLength) × (length (now (slots .exit)) ≡ slotsLength)
         × ((j : ℕ) → j < r → (getD (now (slots .exit)) j 0 < slotCount sizes) × (getD (now (slots .exit)) j 0 ≢ block * sizes .m + page)) ⌝ }
-    ensures { λ r. ⌜ ((marks : List ℕ)
-        → Tells (moveOf sizes (now (list .entry)) (now (sets .entry))) marks (momentIn backward (sizes .n) block (block + 1))
-        → SumsAs (take r (now (slots .exit)))
-        (writeSlots (moveOf sizes (now (list .entry)) (now (sets .entry))) (passOf backward) block page marks)) ⌝ }
+    ensures { λ r. ⌜ ((sets marks : List ℕ)
+        → SetRows (moveOf sizes (now (list .entry)) sets) backward block page set (now (pages .entry)) (now (sources .entry))
+        → Tells (moveOf sizes (now (list .entry)) sets) marks (momentIn backward (sizes .n) block (block + 1))
+        → SumsAs (take r (now (slots .exit))) (writeSlots (moveOf sizes (now (list .entry)) sets) (passOf backward) block page marks)) ⌝ }
 {
     if backward {
         return backward_slots(sizes, reciprocal, list, set, pages, block, slots);
@@ -116,7 +114,6 @@ fn write_slots(
             sizes,
             reciprocal,
             list,
-            sets,
             set,
             &own_pages,
             &sources,
@@ -132,7 +129,6 @@ fn write_slots(
         sizes,
         reciprocal,
         list,
-        sets,
         set,
         row_of_pages,
         sources,

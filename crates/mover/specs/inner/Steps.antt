@@ -11,7 +11,7 @@ use Rattle.split.specs.inner.Rows.{ByDestination}
 use Rattle.method.specs.Move.{Move, AcceptedMove}
 use Rattle.method.specs.Cycle.{sentTo}
 use Rattle.method.specs.Place.{filling, filled}
-use Rattle.walk.specs.inner.Rows.{tableLength, PagesTable, SourcesTable}
+use Rattle.walk.specs.inner.Rows.{tableLength, PagesTable, SourcesTable, PagesRow, SourcesRow}
 
 -- the table that a pass needs besides that of the pages: the sources, or the sets by destination
 pub record OtherTable (M : Move) (isBackward : Bool) (other : List ℕ) : Type 0 where
@@ -30,6 +30,13 @@ pub record PassTables (M : Move) (few isBackward : Bool) (pages other : List ℕ
 abbrev pub SetWritten : (M : Move) (isBackward : Bool) (block page set : ℕ) → Type 0
 SetWritten M isBackward block page set =
     (isBackward ≡ false → set ≡ page) × (isBackward ≡ true → set ≡ setOf (M .sets) (sentTo M (numberAt (M .sizes .m) block page)))
+
+-- the rows of that set
+pub record SetRows (M : Move) (isBackward : Bool) (block page set : ℕ) (pages sources : List ℕ) : Type 0 where
+  pub accepted : AcceptedMove M
+  pub written : SetWritten M isBackward block page set
+  pub pages-tell : PagesRow M set pages
+  pub sources-tell : isBackward ≡ false → SourcesRow M set sources
 
 -- the slot of the last write, told by the step: its own, or that of the block's last page where the step is the erase behind it
 abbrev pub lastSlot : Sizes → (at : ℕ) → ℕ

@@ -7,7 +7,8 @@ use Rattle.split.specs.Split.{setOf}
 use Rattle.method.specs.Move.{Move, moveOf}
 use Rattle.method.specs.Cycle.{sentTo}
 use Rattle.method.proofs.basics.Indexes.{slot-lt}
-use Rattle.mover.specs.inner.Steps.{SetWritten}
+use Rattle.walk.proofs.TableLaws.{list-in}
+use Rattle.mover.specs.inner.Steps.{SetWritten, SetRows}
 use Rattle.mover.proofs.StepLaws.{set-sent, row-is}
 use Rattle.mover.proofs.step.write_slots.Statement.{statement}
 use Rattle.mover.proofs.step.write_slots.Tie as tie
@@ -79,10 +80,19 @@ row-slots-requires c κs =
     let w = c .before .before .before .before .before .before .before in
     let start = w .before .before .before .before .before in
     let R = c .before .before .before .set-rows .ensures in
-    ((start .pre .0 .accepted, told w .1, told w .0, R .0, λ no. R .1), start .pre .1)
+    let A = start .pre .0 .accepted in
+    ((list-in (moved start) A, told w .1, R .0 .fits, λ no. (told w .0 .0 no, R .1 .fits), A .ranges .n-high, A .ranges .m-high), start .pre .1)
 
 returns : tie.Need-returns
-returns c = search needs
+returns c =
+    let w = c .before .before .before .before .before .before .before .before in
+    let start = w .before .before .before .before .before in
+    let R = c .before .before .before .before .set-rows .ensures in
+    let G = c .row-slots .ensures in (
+      G .0,
+      λ marks T. G .1 (start .args .sets .now) marks
+          (record { accepted = start .pre .0 .accepted; written = told w .0; pages-tell = R .0; sources-tell = λ no. R .1 }) T,
+    )
 
 row-requires : tie.Need-row-requires
 row-requires c κs =
@@ -94,27 +104,35 @@ row-requires-2 c κs =
     let start = c .before .before .before .before .before .before .before in
     (omega (arith, told (c .before .before) .1, start .pre .0 .accepted .ranges .m-high), start .pre .0 .room)
 
+-- the rows are those of its set
+rows-tell : (c : tie.After-row2) → (let w = c .before .before .before in let start = w .before .before .before .before .before in let a = start .args in
+    SetRows (moved start) (a .backward) (a .block) (a .page) (w .set-written .result) (c .before .row .result .now) (c .row2 .result .now))
+rows-tell c =
+    let w = c .before .before .before in
+    let start = w .before .before .before .before .before in
+    let T = start .pre .0 in
+    let many = c .before .before .if1 .left in
+    let set-in = told w .1 in
+    let set = w .set-written .result in record {
+      accepted = T .accepted;
+      written = told w .0;
+      pages-tell = rw (c .before .row .ensures, row-is) (T .pages-tell many .row set set-in);
+      sources-tell = λ no. rw (c .row2 .ensures, row-is) (T .other-tells .sources-tell (rw (no, many)) .row set set-in);
+    }
+
 row-slots-requires-2 : tie.Need-row-slots-requires-2
 row-slots-requires-2 c κs =
     let w = c .before .before .before .before in
     let start = w .before .before .before .before .before in
-    let T = start .pre .0 in
-    let many = c .before .before .before .if1 .left in
-    let set-in = told w .1 in
-    let set = w .set-written .result in (
-      (
-        T .accepted,
-        set-in,
-        told w .0,
-        rw (c .before .before .row .ensures, row-is) (T .pages-tell many .row set set-in),
-        λ no. rw
-            (c .before .row2 .ensures, row-is) (T .other-tells .sources-tell (rw (no, many)) .row set set-in),
-      ),
-      start .pre .1,
-    )
+    let A = start .pre .0 .accepted in
+    let S = rows-tell (c .before) in
+    ((list-in (moved start) A, told w .1, S .pages-tell .fits, λ no. (told w .0 .0 no, S .sources-tell no .fits), A .ranges .n-high, A .ranges .m-high), start .pre .1)
 
 returns-2 : tie.Need-returns-2
-returns-2 c = search needs
+returns-2 c =
+    let G = c .row-slots2 .ensures in
+    let start = c .before .before .before .before .before .before .before .before .before .before in
+    (G .0, λ marks T. G .1 (start .args .sets .now) marks (rows-tell (c .before .before)) T)
 
 pub write-slots-spec : {M : Type 1} → statement M
 write-slots-spec = tie.close (tie.spec set-written-requires set-rows-requires slice-aggregate-row-slots slice-aggregate-row-slots-2
