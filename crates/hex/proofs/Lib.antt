@@ -1,0 +1,17 @@
+pub mod RangeLaws
+pub mod Digits
+pub mod Lines
+pub mod Lengths
+pub mod Back
+pub mod Prints
+pub mod Writes
+pub mod Pairs
+pub mod Ends
+pub mod Turns
+pub mod Given
+pub mod Words
+pub mod Windows
+pub mod Passing
+pub mod Placing
+pub mod Judged
+pub mod Exampled
