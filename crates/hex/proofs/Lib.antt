@@ -5,6 +5,7 @@ pub mod Lengths
 pub mod Back
 pub mod Prints
 pub mod Writes
+pub mod CallLaws
 pub mod Pairs
 pub mod Ends
 pub mod Turns

@@ -1,94 +1,85 @@
-// A record printed into a lent part, from a position on. Each function answers the next position.
+// A record printed into a lent part, from a position on.
 ghost use mathlib.Core.Path.{_≡_};
 ghost use mathlib.Core.List.{[], _∷_, _++_};
-ghost use Prim.Native.Nat.{_+_, _*_, _/_, _%_, _≤_, _<_};
-ghost use lib.ListN.{length};
+ghost use Prim.Native.Nat.{_+_, _-_, _*_, _/_, _%_, _≤_, _<_};
+ghost use lib.ListN.{length, drop};
 ghost use Rattle.flash.specs.Lists.{concatMap};
-ghost use Rattle.hex.specs.Records.{digitOf, hex, total, recordText};
-ghost use Rattle.hex.specs.Writing.{Printed};
-use flash::casts::wide;
-
-const COLON: u8 = 58;
+ghost use Rattle.listing.specs.Digits.{capitals, digitOf, hex};
+ghost use Rattle.listing.specs.Lines.{Printed};
+ghost use Rattle.hex.specs.Records.{total, recordText};
+use flash::bytes::copy;
+use listing::digits::put_text;
 
 const LINE_FEED: u8 = 10;
 
-fn digit_of(d: usize) -> u8
+// Room for what stands in front of a checksum, 4 fields and 16 bytes, in whole words of 8: the loop over it is compiled to vector
+// instructions.
+const ROOM: usize = 24;
+
+fn digit_of(d: u8) -> u8
     requires { ⌜ d < 16 ⌝ }
-    ensures { λ r. ⌜ r ≡ digitOf d ⌝ }
+    ensures { λ r. ⌜ r ≡ digitOf capitals d ⌝ }
 {
-    if d < 10 { 48 + d as u8 } else { 55 + d as u8 }
+    if d < 10 { 48 + d } else { 55 + d }
 }
 
-fn put_code(text: &mut [u8], at: usize, code: u8) -> usize
-    requires { ⌜ at < length (now text) ⌝ }
-    ensures { λ r. ⌜ Printed (code ∷ []) (now (text .entry)) at (now (text .exit)) r ⌝ }
+// What stands in front of the checksum is put into an area; behind it the area stays.
+fn gather(area: &mut [u8], kind: u8, address: usize, bytes: &[u8])
+    requires { ⌜ (length (now area) ≡ 24) × (address < 65536) × (length (now bytes) ≤ 16) ⌝ }
+    ensures { λ _. ⌜ now (area .exit) ≡ length (now (bytes .entry)) ∷ address / 256 ∷ address % 256 ∷ kind
+        ∷ (now (bytes .entry) ++ drop (4 + length (now (bytes .entry))) (now (area .entry))) ⌝ }
 {
-    text[at] = code;
-    at + 1
+    let size = bytes.len();
+    let count = size as u8;
+    let high = (address / 256) as u8;
+    let low = (address % 256) as u8;
+    let end = 4 + size;
+    area[0] = count;
+    area[1] = high;
+    area[2] = low;
+    area[3] = kind;
+    copy(&mut area[4..end], bytes);
 }
 
-fn put_byte(text: &mut [u8], at: usize, byte: usize) -> usize
-    requires { ⌜ (byte < 256) × (at + 2 ≤ length (now text)) ⌝ }
-    ensures { λ r. ⌜ Printed (hex byte) (now (text .entry)) at (now (text .exit)) r ⌝ }
+// The digits of all bytes of an area, and their sum.
+fn spell(area: &[u8], digits: &mut [u8]) -> u32
+    requires { ⌜ (length (now area) ≡ 24) × (length (now digits) ≡ 48) ⌝ }
+    ensures { λ r. ⌜ (now (digits .exit) ≡ concatMap (hex capitals) (now (area .entry))) × (r ≡ total (now (area .entry))) ⌝ }
 {
-    let next = put_code(text, at, digit_of(byte / 16));
-    put_code(text, next, digit_of(byte % 16))
-}
-
-fn put_bytes(text: &mut [u8], at: usize, bytes: &[u8]) -> usize
-    requires { ⌜ at + 2 * length (now bytes) ≤ length (now text) ⌝ }
-    ensures { λ r. ⌜ Printed (concatMap hex (now (bytes .entry))) (now (text .entry)) at (now (text .exit)) r ⌝ }
-{
-    let mut next = at;
+    let mut sum: u32 = 0;
     let mut i = 0;
-    while i < bytes.len() {
-        next = put_byte(text, next, wide(bytes[i]));
-        i += 1;
-    }
-    next
-}
-
-fn total_of(bytes: &[u8]) -> usize
-    requires { ⌜ length (now bytes) < 256 ⌝ }
-    ensures { λ r. ⌜ (r ≡ total (now (bytes .entry))) × (r ≤ 65025) ⌝ }
-{
-    let mut sum: usize = 0;
-    let mut i = 0;
-    while i < bytes.len() {
-        sum += wide(bytes[i]);
+    while i < ROOM {
+        let byte = area[i];
+        digits[2 * i] = digit_of(byte / 16);
+        digits[2 * i + 1] = digit_of(byte % 16);
+        sum += byte as u32;
         i += 1;
     }
     sum
 }
 
-// A colon, the number of bytes, the address and the type.
-fn put_head(text: &mut [u8], at: usize, size: usize, address: usize, kind: usize) -> usize
-    requires { ⌜ (size < 256) × (address < 65536) × (kind < 256) × (at + 9 ≤ length (now text)) ⌝ }
-    ensures { λ r. ⌜ Printed (58 ∷ concatMap hex (size ∷ address / 256 ∷ address % 256 ∷ kind ∷ [])) (now (text .entry)) at (now (text .exit)) r ⌝ }
+// The checksum of what was summed, and the line feed.
+fn put_tail(text: &mut [u8], at: usize, sum: u32) -> usize
+    requires { ⌜ at + 3 ≤ length (now text) ⌝ }
+    ensures { λ r. ⌜ Printed (hex capitals ((256 - sum % 256) % 256) ++ (10 ∷ [])) (now (text .entry)) at (now (text .exit)) r ⌝ }
 {
-    let past_colon = put_code(text, at, COLON);
-    let past_size = put_byte(text, past_colon, size);
-    let past_high = put_byte(text, past_size, address / 256);
-    let past_low = put_byte(text, past_high, address % 256);
-    put_byte(text, past_low, kind)
+    let check = ((256 - sum % 256) % 256) as u8;
+    let high = digit_of(check / 16);
+    let low = digit_of(check % 16);
+    put_text(text, at, &[high, low, LINE_FEED])
 }
 
-// The bytes, the checksum and the line feed.
-fn put_tail(text: &mut [u8], at: usize, bytes: &[u8], sum: usize) -> usize
-    requires { ⌜ (sum < 256) × (at + 2 * length (now bytes) + 3 ≤ length (now text)) ⌝ }
-    ensures { λ r. ⌜ Printed (concatMap hex (now (bytes .entry)) ++ hex sum ++ (10 ∷ [])) (now (text .entry)) at (now (text .exit)) r ⌝ }
+pub fn put_record(text: &mut [u8], at: usize, kind: u8, address: usize, bytes: &[u8]) -> usize
+    requires { ⌜ (address < 65536) × (length (now bytes) ≤ 16) × (at + 2 * length (now bytes) + 12 ≤ length (now text)) ⌝ }
+    ensures { λ r. ⌜ Printed (recordText (record { kind = kind; address = address; bytes = now (bytes .entry) }))
+        (now (text .entry)) at (now (text .exit)) r ⌝ }
 {
-    let past_bytes = put_bytes(text, at, bytes);
-    let past_sum = put_byte(text, past_bytes, sum);
-    put_code(text, past_sum, LINE_FEED)
-}
-
-pub fn put_record(text: &mut [u8], at: usize, kind: usize, address: usize, bytes: &[u8]) -> usize
-    requires { ⌜ (length (now bytes) < 256) × (address < 65536) × (kind < 256) × (at + 2 * length (now bytes) + 12 ≤ length (now text)) ⌝ }
-    ensures { λ r. ⌜ Printed (recordText (record { kind = kind; address = address; bytes = now (bytes .entry) })) (now (text .entry)) at (now (text .exit)) r ⌝ }
-{
-    let size = bytes.len();
-    let sum = size + address / 256 + address % 256 + kind + total_of(bytes);
-    let past_head = put_head(text, at, size, address, kind);
-    put_tail(text, past_head, bytes, (256 - sum % 256) % 256)
+    let mut area = [0u8; ROOM];
+    gather(&mut area, kind, address, bytes);
+    let mut digits = [0u8; 48];
+    let sum = spell(&area, &mut digits);
+    let count = 8 + 2 * bytes.len();
+    let past_colon = put_text(text, at, b":");
+    let past_digits = put_text(text, past_colon, &digits[..count]);
+    put_tail(text, past_digits, sum)
 }
