@@ -8,10 +8,11 @@ use Rattle.flash.specs.Geometry.{inRange, Bounds, originalCount, slotCount, sto
 use Rattle.flash.specs.Chip.{Chip, erased}
 use Rattle.flash.proofs.Bools.{or-false-left, or-false-right}
 use Rattle.flash.proofs.Bounds.{product-le}
+use Rattle.method.specs.State.{atRest, originalsIn}
 use Rattle.method.specs.Answers.{badChip, isElsewhere}
 use Rattle.hex.specs.Writing.{hexText, hexLength}
 use Rattle.hex.specs.Reading.{hexNumber, hexImage, Read}
-use Rattle.hex.specs.Answers.{restSizes, spareLength, imageLength, imageOf, chipOf, hexWriteRows, hexReadRows, HexWriteAnswer, hexWriteAnswer, HexReadAnswer, hexReadAnswer}
+use Rattle.hex.specs.Answers.{restSizes, spareLength, imageLength, hexWriteRows, hexReadRows, HexWriteAnswer, hexWriteAnswer, HexReadAnswer, hexReadAnswer}
 
 same-length : (x y : ℕ) → not (eqb x y) ≡ false → x ≡ y
 same-length x y e = eqb-true x y (not-false (eqb x y) e)
@@ -63,12 +64,10 @@ module _ (Z : Sizes) (store : List ℕ) (e : length store ≡ storeLength Z) whe
   pub spare-fits : spareLength Z ≤ length store
   spare-fits = omega (arith, spare-and-image Z)
 
-  pub image-is : image ≡ imageOf Z store
-  unfolding imageOf
+  pub image-is : image ≡ drop (spareLength Z) store
   image-is = take-all (length store - spareLength Z) (drop (spareLength Z) store) (omega (arith, length-drop (spareLength Z) store))
 
   pub image-length : length image ≡ imageLength Z
-  unfolding imageOf
   image-length = ap length image-is ∙ length-drop (spareLength Z) store ∙ omega (arith, spare-and-image Z)
 
   -- an image put back behind the spare
@@ -121,7 +120,7 @@ module _ (n m p : ℕ) (chip : Chip) (text : List ℕ) where
     unfolding hexWriteAnswer hexWriteRows refusal firstFit numberOr0
     write-5 e f = rw (r, e, ← f)
 
-    pub write-0 : badWrite ≡ false → false ≡ isElsewhere Z chip 0 → (after : List ℕ) → after ≡ hexText (imageOf Z (chip .store)) → Wrote 0 after
+    pub write-0 : badWrite ≡ false → false ≡ isElsewhere Z chip 0 → (after : List ℕ) → after ≡ hexText (originalsIn Z chip) → Wrote 0 after
     unfolding hexWriteAnswer hexWriteRows refusal firstFit numberOr0
     write-0 e f after t = rw (r, e, ← f, t)
 
@@ -136,7 +135,7 @@ module _ (n m p : ℕ) (chip : Chip) (text : List ℕ) where
 
     pub read-0 : badChip Z chip ≡ false → hexNumber (imageLength Z) text ≡ 0 → (store marks : List ℕ)
         → store ≡ replicate (spareLength Z) erased ++ hexImage (imageLength Z) text → marks ≡ replicate m erased ++ replicate (originalCount Z) 0 → Left 0 store marks
-    unfolding hexReadAnswer hexReadRows refusal firstFit numberOr0 chipOf
+    unfolding hexReadAnswer hexReadRows refusal firstFit numberOr0 atRest
     read-0 e q store marks s t = rw (r, e, q, s, t)
 
 -- ---- what the reader sets beside the image

@@ -6,6 +6,9 @@ pub mod Back
 pub mod Prints
 pub mod Writes
 pub mod CallLaws
+pub mod RestLaws
+pub mod Uppers
+pub mod Answered
 pub mod Pairs
 pub mod Ends
 pub mod Turns

@@ -1,13 +1,14 @@
 -- Rules 10.2, 10.5 and 10.6: the refusals of the two calls, and the whole answer of each.
-use mathlib.Core.Bool.{Bool, cond, _||_, not}
-use mathlib.Core.List.{List, [], _∷_, _++_}
+use mathlib.Core.Bool.{cond, _||_, not}
+use mathlib.Core.List.{List, [], _∷_}
 use Prim.Native.Nat.{ℕ, _*_}
 use lib.Dec.{eqb}
-use lib.ListN.{length, drop, replicate}
+use lib.ListN.{length}
 use Rattle.flash.specs.Tables.{Row, refusal}
 use Rattle.flash.specs.declared.sizes.Sizes.{Sizes}
 use Rattle.flash.specs.Geometry.{inRange, originalCount}
-use Rattle.flash.specs.Chip.{Chip, erased}
+use Rattle.flash.specs.Chip.{Chip}
+use Rattle.method.specs.State.{atRest, originalsIn}
 use Rattle.method.specs.Answers.{badChip, isElsewhere}
 use Rattle.hex.specs.Writing.{hexText, hexLength}
 use Rattle.hex.specs.Reading.{hexNumber, hexImage}
@@ -16,22 +17,12 @@ use Rattle.hex.specs.Reading.{hexNumber, hexImage}
 abbrev pub restSizes : (n m p : ℕ) → Sizes
 restSizes n m p = record { n = n; m = m; p = p; s = 0 }
 
--- the spare's bytes stand first, and the image is behind them
+-- the image is all originals, block after block; the spare's bytes stand in front of it
 abbrev pub spareLength : Sizes → ℕ
 spareLength Z = Z .m * Z .p
 
 abbrev pub imageLength : Sizes → ℕ
 imageLength Z = originalCount Z * Z .p
-
-unfoldable pub imageOf : Sizes → (store : List ℕ) → List ℕ
-imageOf Z store = drop (spareLength Z) store
-
--- the chip at rest that has an image
-unfoldable pub chipOf : Sizes → (image : List ℕ) → Chip
-chipOf Z image = record {
-  store = replicate (spareLength Z) erased ++ image;
-  marks = replicate (Z .m) erased ++ replicate (originalCount Z) 0;
-}
 
 -- number 5 is a run's at place 0
 unfoldable pub hexWriteRows : Sizes → Chip → (text : List ℕ) → List (Row ℕ)
@@ -58,7 +49,7 @@ unfoldable pub hexWriteAnswer : (n m p : ℕ) → Chip → (text : List ℕ) →
 hexWriteAnswer n m p chip text =
     let Z = restSizes n m p in
     let number = refusal (hexWriteRows Z chip text) in
-    record { number = number; text = cond (eqb number 0) (hexText (imageOf Z (chip .store))) text }
+    record { number = number; text = cond (eqb number 0) (hexText (originalsIn Z chip)) text }
 
 -- what the reader returns and leaves
 pub record HexReadAnswer : Type 0 where
@@ -69,4 +60,4 @@ unfoldable pub hexReadAnswer : (n m p : ℕ) → (text : List ℕ) → Chip → 
 hexReadAnswer n m p text chip =
     let Z = restSizes n m p in
     let number = refusal (hexReadRows Z text chip) in
-    record { number = number; chip = cond (eqb number 0) (chipOf Z (hexImage (imageLength Z) text)) chip }
+    record { number = number; chip = cond (eqb number 0) (atRest Z (hexImage (imageLength Z) text)) chip }

@@ -5,7 +5,7 @@ use Rattle.flash.specs.Chip.{erased}
 use Rattle.flash.proofs.Bounds.{in-range}
 use Rattle.method.specs.Answers.{badChip}
 use Rattle.hex.specs.Reading.{hexNumber}
-use Rattle.hex.specs.Answers.{restSizes, spareLength, imageLength, chipOf}
+use Rattle.hex.specs.Answers.{restSizes, spareLength}
 use Rattle.hex.proofs.CallLaws.{chip-lengths, pages-fit, other-pages, image-small, spare-small, spare-fits, image-length, putBack, put-same, put-behind, put-length}
 use Rattle.hex.proofs.CallLaws.{read-1, read-2, read-text, read-0}
 use Rattle.hex.proofs.call.read.Statement.{statement}

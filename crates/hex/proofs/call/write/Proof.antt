@@ -2,6 +2,7 @@
 use Rattle.flash.proofs.Kit.{_≡_, sym, ap, _∙_, true, false, _||_, not, _*_, _≤_, arith, eqb, length, not-true, not-false, needs}
 use Rattle.flash.specs.Geometry.{inRange, slotCount, storeLength}
 use Rattle.flash.proofs.Bounds.{in-range}
+use Rattle.method.specs.State.{originalsIn}
 use Rattle.method.specs.Answers.{badChip}
 use Rattle.hex.specs.Writing.{hexText, hexLength}
 use Rattle.hex.specs.Answers.{restSizes, imageLength}
@@ -88,6 +89,7 @@ same-length : tie.Need-same-length
 same-length c = search needs
 
 returns-4 : tie.Need-returns-4
+unfolding originalsIn
 returns-4 c =
     let k = c .before .before .before .before .before .before .before in
     let a = k .before .before .before .before .before .before .before .before .before .args in
