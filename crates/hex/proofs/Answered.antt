@@ -1,9 +1,9 @@
 -- Every store that the writer takes comes back from its text, and texts differ where the data bytes do.
-use Rattle.flash.proofs.Kit.{_≡_, sym, ap, ap₂, _∙_, true, false, List, _++_, ℕ, _+_, _≤_, arith, eqb, ltb, length, take, drop, replicate}
-use Rattle.flash.proofs.Kit.{length-drop, take-append-drop, eq-eqb, not-false}
+use Rattle.flash.proofs.Kit.{_≡_, sym, ap, ap₂, _∙_, true, false, List, _++_, ℕ, _+_, arith, ltb, length, take, drop, replicate, length-drop}
+use Rattle.flash.proofs.Kit.{take-append-drop, eq-eqb, not-false}
 use Rattle.flash.specs.Lists.{all}
 use Rattle.flash.specs.declared.sizes.Sizes.{Sizes}
-use Rattle.flash.specs.Geometry.{inRange, Bounds, slotCount, storeLength}
+use Rattle.flash.specs.Geometry.{inRange, slotCount, storeLength}
 use Rattle.flash.specs.Chip.{Chip, erased}
 use Rattle.flash.proofs.Bools.{and-right}
 use Rattle.flash.proofs.Searches.{all-append}
@@ -12,11 +12,11 @@ use Rattle.flash.proofs.Bounds.{in-range}
 use Rattle.method.specs.State.{atRest, originalsIn}
 use Rattle.method.specs.Answers.{badChip}
 use Rattle.method.proofs.basics.AcceptedCalls.{StandsAt, stands-at}
-use Rattle.hex.specs.Writing.{hexText, hexLength}
-use Rattle.hex.specs.Reading.{hexNumber, hexImage}
+use Rattle.hex.specs.Writing.{hexText}
+use Rattle.hex.specs.Reading.{hexImage}
 use Rattle.hex.specs.Answers.{restSizes, spareLength, imageLength, hexWriteRows, hexWriteAnswer, hexReadAnswer}
-use Rattle.hex.specs.Claims.{IsImage, Written, RoundTrip, SameTexts, TextsDiffer}
-use Rattle.hex.proofs.Back.{Back, back}
+use Rattle.hex.specs.Claims.{IsImage, Written, RoundTrip, TextsDiffer}
+use Rattle.hex.proofs.Back.{back}
 use Rattle.hex.proofs.CallLaws.{write-lengths, spare-and-image, image-small, read-0}
 use Rattle.hex.proofs.RestLaws.{at-rest}
 

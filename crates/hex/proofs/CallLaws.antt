@@ -1,7 +1,7 @@
 -- The two calls' whole answers, case by case of the table, and the parts of the store that they lend on.
-use Rattle.flash.proofs.Kit.{_≡_, refl, sym, ap, ap₂, _∙_, Bool, true, false, cond, _||_, not, List, [], _++_, append-nil, ℕ, _+_, _-_, _*_, _≤_, arith}
-use Rattle.flash.proofs.Kit.{eqb, length, take, drop, replicate, length-append, length-take, length-drop, length-replicate, take-append-drop, take-all}
-use Rattle.flash.proofs.Kit.{take-at, drop-at, drop-of-length-le, length-take-le, eqb-true, eq-eqb, ne-eqb, not-false, add-mul, mul-assoc}
+use Rattle.flash.proofs.Kit.{_≡_, ap, _∙_, Bool, true, false, _||_, not, List, [], _++_, append-nil, ℕ, _+_, _-_, _*_, _≤_, arith, eqb, length, take}
+use Rattle.flash.proofs.Kit.{drop, replicate, length-append, length-drop, length-replicate, take-append-drop, take-all, take-at, drop-at}
+use Rattle.flash.proofs.Kit.{drop-of-length-le, length-take-le, eqb-true, ne-eqb, not-false, add-mul}
 use Rattle.flash.specs.Tables.{firstFit, numberOr0, refusal}
 use Rattle.flash.specs.declared.sizes.Sizes.{Sizes}
 use Rattle.flash.specs.Geometry.{inRange, Bounds, originalCount, slotCount, storeLength}
@@ -11,8 +11,8 @@ use Rattle.flash.proofs.Bounds.{product-le}
 use Rattle.method.specs.State.{atRest, originalsIn}
 use Rattle.method.specs.Answers.{badChip, isElsewhere}
 use Rattle.hex.specs.Writing.{hexText, hexLength}
-use Rattle.hex.specs.Reading.{hexNumber, hexImage, Read}
-use Rattle.hex.specs.Answers.{restSizes, spareLength, imageLength, hexWriteRows, hexReadRows, HexWriteAnswer, hexWriteAnswer, HexReadAnswer, hexReadAnswer}
+use Rattle.hex.specs.Reading.{hexNumber, hexImage}
+use Rattle.hex.specs.Answers.{restSizes, spareLength, imageLength, hexWriteRows, hexReadRows, hexWriteAnswer, hexReadAnswer}
 
 same-length : (x y : ℕ) → not (eqb x y) ≡ false → x ≡ y
 same-length x y e = eqb-true x y (not-false (eqb x y) e)

@@ -1,14 +1,6 @@
 -- The length of the written text, and of each start of it.
-use mathlib.Core.Path.{_≡_, refl, sym, ap, _∙_}
-use mathlib.Core.Bool.{true, false}
-use mathlib.Core.Logic.{⊎-elim}
-use mathlib.Core.List.{List, [], _∷_, _++_, append-nil, append-assoc}
-use Prim.Native.Nat.{ℕ, zero, suc, _+_, _-_, _*_, _/_, _≤_, _<_, min}
-use native.Mathlib.Numerals.{add-one}
-use native.Mathlib.Omega.{arith}
-use lib.Dec.{eqb}
-use lib.ListN.{length, length-append, length-take, length-drop}
-use borrow.Author.Tests.{eqb-true, eqb-false}
+use Rattle.flash.proofs.Kit.{_≡_, refl, sym, ap, _∙_, true, false, ⊎-elim, List, [], _∷_, _++_, append-nil, append-assoc, ℕ, zero, suc, _+_, _-_, _*_}
+use Rattle.flash.proofs.Kit.{_≤_, min, add-one, arith, eqb, length, length-append, length-take, length-drop, eqb-true, eqb-false}
 use Rattle.flash.specs.Lists.{range, concatMap, part}
 use Rattle.flash.proofs.Bools.{bool-cases}
 use Rattle.hex.proofs.RangeLaws.{range-more}

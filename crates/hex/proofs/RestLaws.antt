@@ -1,14 +1,14 @@
 -- A chip that stands at place 0 is one at rest: its spare is blank, and the data blocks have one letter.
-use Rattle.flash.proofs.Kit.{_≡_, sym, ap, _∙_, subst, List, _++_, ℕ, zero, suc, _+_, _*_, _≤_, _<_, suc-mul, add-mul, add-zero, mod-eq-of-lt, _%_, arith}
-use Rattle.flash.proofs.Kit.{length, getD, take, drop, replicate, length-append, length-replicate, take-append-drop, replicate-append-replicate}
-use Rattle.flash.proofs.Kit.{take-add, List·getD-append, getD-append-add, getD-replicate, mul-le-mul-right}
+use Rattle.flash.proofs.Kit.{_≡_, sym, ap, _∙_, subst, List, _++_, ℕ, zero, suc, _+_, _*_, _≤_, _<_, suc-mul, add-mul, add-zero, mod-eq-of-lt, _%_}
+use Rattle.flash.proofs.Kit.{arith, length, getD, take, drop, replicate, length-append, length-replicate, take-append-drop}
+use Rattle.flash.proofs.Kit.{replicate-append-replicate, take-add, List·getD-append, getD-append-add, getD-replicate}
 use Rattle.flash.specs.Lists.{part}
 use Rattle.flash.specs.declared.sizes.Sizes.{Sizes}
 use Rattle.flash.specs.Geometry.{letter, Bounds, slot, originalCount, slotCount, storeLength}
-use Rattle.flash.specs.Chip.{Chip, erased, markAt, pageAt}
+use Rattle.flash.specs.Chip.{Chip, erased, markAt}
 use Rattle.flash.proofs.Bounds.{slot-in-store}
 use Rattle.flash.proofs.Chips.{chip-eq, page-is, blank-page}
-use Rattle.method.specs.Place.{forward, plain, blank, above, heldAt, heldMark}
+use Rattle.method.specs.Place.{forward, blank, above, heldAt, heldMark}
 use Rattle.method.specs.State.{atRest, originalsIn}
 use Rattle.method.proofs.basics.AcceptedCalls.{StandsAt}
 use Rattle.method.proofs.basics.Indexes.{slot-lt}

@@ -1,6 +1,6 @@
 -- A record of type 04 stands exactly where the upper half changes, and addresses rise without a gap.
-use Rattle.flash.proofs.Kit.{_≡_, refl, sym, ap, _∙_, ⊎-elim, true, false, _&&_, List, [], _∷_, _++_, append-assoc, ℕ, zero, suc, _+_, _-_, _*_, _/_, _%_, _≤_}
-use Rattle.flash.proofs.Kit.{min, arith, eqb, length, eq-eqb, ne-eqb, eqb-true, eqb-false}
+use Rattle.flash.proofs.Kit.{_≡_, refl, ap, _∙_, ⊎-elim, true, false, List, [], _∷_, _++_, append-assoc, ℕ, zero, suc, _+_, _-_, _*_, _/_, _%_, _≤_}
+use Rattle.flash.proofs.Kit.{arith, eqb, length, eq-eqb, eqb-true}
 use Rattle.flash.specs.Lists.{range, concatMap, part}
 use Rattle.flash.proofs.Bools.{bool-cases}
 use Rattle.hex.specs.Records.{Record}

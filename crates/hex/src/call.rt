@@ -25,7 +25,7 @@ pub fn write(n: usize, m: usize, p: usize, store: &[u8], marks: &[u8], text: &mu
     if !in_range(sizes) {
         return 1;
     }
-    let spare = m * p;
+    let first = m * p;
     if (store.len() != store_length(sizes))
         | (marks.len() != slot_count(sizes))
         | (text.len() != length_of(n * m * p))
@@ -35,7 +35,7 @@ pub fn write(n: usize, m: usize, p: usize, store: &[u8], marks: &[u8], text: &mu
     if is_elsewhere(sizes, store, marks, 0) {
         return 5;
     }
-    put_image(&store[spare..], text);
+    put_image(&store[first..], text);
     0
 }
 

@@ -1,12 +1,13 @@
 -- `read` meets its contract: each of its ways out is a case of the answer.
-use Rattle.flash.proofs.Kit.{_≡_, sym, ap, _∙_, true, _||_, not, List, _++_, ℕ, _-_, arith, eqb, length, replicate, ne-eqb, eq-eqb, not-true, not-false, needs}
+use Rattle.flash.proofs.Kit.{_≡_, sym, ap, _∙_, true, _||_, not, List, _++_, ℕ, _-_, arith, eqb, length, replicate, ne-eqb, eq-eqb, not-true}
+use Rattle.flash.proofs.Kit.{not-false, needs}
 use Rattle.flash.specs.Geometry.{inRange, slotCount, storeLength}
 use Rattle.flash.specs.Chip.{erased}
 use Rattle.flash.proofs.Bounds.{in-range}
 use Rattle.method.specs.Answers.{badChip}
 use Rattle.hex.specs.Reading.{hexNumber}
 use Rattle.hex.specs.Answers.{restSizes, spareLength}
-use Rattle.hex.proofs.CallLaws.{chip-lengths, pages-fit, other-pages, image-small, spare-small, spare-fits, image-length, putBack, put-same, put-behind, put-length}
+use Rattle.hex.proofs.CallLaws.{chip-lengths, pages-fit, other-pages, image-small, spare-fits, image-length, putBack, put-same, put-behind, put-length}
 use Rattle.hex.proofs.CallLaws.{read-1, read-2, read-text, read-0}
 use Rattle.hex.proofs.call.read.Statement.{statement}
 use Rattle.hex.proofs.call.read.Tie as tie

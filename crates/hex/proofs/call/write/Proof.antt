@@ -1,5 +1,5 @@
 -- `write` meets its contract: each of its ways out is a case of the answer.
-use Rattle.flash.proofs.Kit.{_≡_, sym, ap, _∙_, true, false, _||_, not, _*_, _≤_, arith, eqb, length, not-true, not-false, needs}
+use Rattle.flash.proofs.Kit.{_≡_, sym, ap, _∙_, true, _||_, not, arith, eqb, length, not-true, not-false, needs}
 use Rattle.flash.specs.Geometry.{inRange, slotCount, storeLength}
 use Rattle.flash.proofs.Bounds.{in-range}
 use Rattle.method.specs.State.{originalsIn}
@@ -20,8 +20,8 @@ returns c = write-1 _ _ _ _ _ (sym (c .before .in-range .ensures) ∙ not-true _
 in-ranges : (c : tie.Else1) → (let a = c .before .before .before .before .before .args in inRange (restSizes (a .n) (a .m) (a .p)) ≡ true)
 in-ranges c = sym (c .before .in-range .ensures) ∙ not-false _ (c .if1 .left)
 
-mul-spare : tie.Need-mul-spare
-mul-spare c = omega (arith, spare-small _ (in-range _ (in-ranges c)))
+mul-first : tie.Need-mul-first
+mul-first c = omega (arith, spare-small _ (in-range _ (in-ranges c)))
 
 store-length-requires : tie.Need-store-length-requires
 store-length-requires c κs = let b = in-range _ (in-ranges c) in (b .n-high, b .m-high, b .p-high)
@@ -102,7 +102,7 @@ write-spec =
     (tie.spec
     in-range-requires
     returns
-    mul-spare
+    mul-first
     store-length-requires
     slot-count-requires
     mul-length-of

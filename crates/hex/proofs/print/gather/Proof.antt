@@ -1,5 +1,5 @@
 -- `gather` puts the fields and the bytes of a record into an area.
-use Rattle.flash.proofs.Kit.{_≡_, ap, _∙_, List, ℕ, _+_, _-_, arith, length, length-set, needs}
+use Rattle.flash.proofs.Kit.{_≡_, ap, _∙_, _+_, _-_, arith, length, length-set, needs}
 use Rattle.hex.proofs.Prints.{gathered, gathered-length}
 use Rattle.hex.proofs.print.gather.Statement.{statement}
 use Rattle.hex.proofs.print.gather.Tie as tie

@@ -1,6 +1,6 @@
 -- `spell` gives the digits of each byte of an area, and their sum.
-use Rattle.flash.proofs.Kit.{_≡_, refl, _∙_, append-nil, _+_, _*_, _-_, _≤_, _<_, arith, length, getD, take, length-set, take-length}
-use Rattle.flash.proofs.Kit.{drop-of-length-le, take-all, needs}
+use Rattle.flash.proofs.Kit.{_≡_, refl, _∙_, append-nil, _*_, _-_, _≤_, _<_, arith, length, getD, take, length-set, drop-of-length-le, take-all}
+use Rattle.flash.proofs.Kit.{needs}
 use Rattle.flash.specs.Lists.{concatMap}
 use Rattle.hex.specs.Records.{total}
 use Rattle.hex.proofs.Prints.{spelled, spelled-more, total-more}

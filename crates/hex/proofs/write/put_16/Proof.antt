@@ -1,6 +1,5 @@
 -- `put_16` prints a data record of 16 bytes, behind its record of type 04.
-use Rattle.flash.proofs.Kit.{_≡_, refl, ap, _∙_, _*_, _-_, _+_, _/_, arith, length, take, drop, needs}
-use Rattle.flash.specs.Lists.{part}
+use Rattle.flash.proofs.Kit.{refl, ap, _∙_, _*_, _-_, _+_, arith, length, needs}
 use Rattle.listing.proofs.PrintLaws.{printed-then}
 use Rattle.hex.specs.Writing.{dataRecord}
 use Rattle.hex.proofs.Lengths.{length-part, text-at, length-at, data-length}

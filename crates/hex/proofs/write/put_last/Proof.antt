@@ -1,6 +1,5 @@
 -- `put_last` prints the last data record, if it is shorter than 16 bytes.
-use Rattle.flash.proofs.Kit.{_≡_, ap, _∙_, _*_, _-_, _+_, _/_, arith, length, take, drop, needs}
-use Rattle.flash.specs.Lists.{part}
+use Rattle.flash.proofs.Kit.{ap, _∙_, _-_, _/_, arith, length, needs}
 use Rattle.listing.proofs.PrintLaws.{printed-then, nothing-printed}
 use Rattle.hex.specs.Writing.{dataRecord}
 use Rattle.hex.proofs.Lengths.{length-part, text-at, length-at, data-length}
