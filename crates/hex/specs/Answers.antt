@@ -1,4 +1,4 @@
--- Rules 10.2, 10.5 and 10.6: the refusals of the two calls, and the whole answer of each.
+-- Rules 11.6 and 11.7: the refusals of the two calls, and the whole answer of each.
 use mathlib.Core.Bool.{cond, _||_, not}
 use mathlib.Core.List.{List, [], _∷_}
 use Prim.Native.Nat.{ℕ, _*_}
