@@ -67,7 +67,8 @@ module _ (n m p : ℕ) where
         let bytes = rw size-is at (b .image-is) in
         let rest = at-rest Z (in-range Z (looked .0)) chip (looked .1) (looked .3) in
         sym (read-0 n m p other (hexText image) (looked .0) good number (chip .store) (chip .marks)
-        (ap (λ (c : Chip). c .store) rest ∙ ap (λ (l : List ℕ). replicate (spareLength Z) erased ++ l) (sym bytes)) (ap (λ (c : Chip). c .marks) rest))
+        (ap (λ (c : Chip). c .store) rest ∙ ap (λ (l : List ℕ). replicate (spareLength Z) erased ++ l) (sym bytes))
+        (ap (λ (c : Chip). c .marks) rest))
 
 pub round-trip : RoundTrip
 unfolding RoundTrip

@@ -25,8 +25,10 @@ module _ (Z : Sizes) (chip : Chip) where
   pub chip-lengths : badChip Z chip ≡ false → (length store ≡ storeLength Z) × (length (chip .marks) ≡ slotCount Z)
   unfolding badChip
   chip-lengths e = (
-    same-length (length store) (storeLength Z) (or-false-left (not (eqb (length store) (storeLength Z))) (not (eqb (length (chip .marks)) (slotCount Z))) e),
-    same-length (length (chip .marks)) (slotCount Z) (or-false-right (not (eqb (length store) (storeLength Z))) (not (eqb (length (chip .marks)) (slotCount Z))) e),
+    same-length (length store) (storeLength Z)
+        (or-false-left (not (eqb (length store) (storeLength Z))) (not (eqb (length (chip .marks)) (slotCount Z))) e),
+    same-length (length (chip .marks)) (slotCount Z)
+        (or-false-right (not (eqb (length store) (storeLength Z))) (not (eqb (length (chip .marks)) (slotCount Z))) e),
   )
 
   pub write-lengths : (text : List ℕ) → (badChip Z chip || not (eqb (length text) (hexLength (imageLength Z)))) ≡ false
@@ -81,7 +83,8 @@ module _ (Z : Sizes) (store : List ℕ) (e : length store ≡ storeLength Z) whe
   put-behind after =
       let n = length-take-le (spareLength Z) store spare-fits in
       let d = drop-of-length-le (drop (spareLength Z) store) {i = length store - spareLength Z} (omega (arith, length-drop (spareLength Z) store)) in
-      drop-at (take (spareLength Z) store) (after ++ drop (length store - spareLength Z) (drop (spareLength Z) store)) (spareLength Z) n ∙ rw (d, append-nil)
+      drop-at (take (spareLength Z) store) (after ++ drop (length store - spareLength Z) (drop (spareLength Z) store)) (spareLength Z) n
+      ∙ rw (d, append-nil)
 
   pub put-length : (after : List ℕ) → length (putBack after) ≡ spareLength Z + length after
   put-length after =
@@ -134,7 +137,8 @@ module _ (n m p : ℕ) (chip : Chip) (text : List ℕ) where
     read-text e number q f store s = rw (r, e, ← q, ne-eqb number 0 f, s) (rw (ne-eqb number 0 f))
 
     pub read-0 : badChip Z chip ≡ false → hexNumber (imageLength Z) text ≡ 0 → (store marks : List ℕ)
-        → store ≡ replicate (spareLength Z) erased ++ hexImage (imageLength Z) text → marks ≡ replicate m erased ++ replicate (originalCount Z) 0 → Left 0 store marks
+        → store ≡ replicate (spareLength Z) erased ++ hexImage (imageLength Z) text → marks ≡ replicate m erased ++ replicate (originalCount Z) 0
+        → Left 0 store marks
     unfolding hexReadAnswer hexReadRows refusal firstFit numberOr0 atRest
     read-0 e q store marks s t = rw (r, e, q, s, t)
 

@@ -7,7 +7,8 @@ use Rattle.hex.proofs.RangeLaws.{range-more}
 use Rattle.listing.specs.Digits.{capitals, hex}
 use Rattle.listing.proofs.PrintLaws.{length-hex}
 use Rattle.hex.specs.Records.{Record, checksum, fields, lineOf, recordText}
-use Rattle.hex.specs.Writing.{dataRecord, upperRecord, endRecord, upperOf, upperAt, recordsAt, recordsFrom, recordCount, recordsOf, textOf, hexText, hexLength}
+use Rattle.hex.specs.Writing.{dataRecord, upperRecord, endRecord, upperOf, upperAt, recordsAt, recordsFrom, recordCount, recordsOf, textOf}
+use Rattle.hex.specs.Writing.{hexText, hexLength}
 use Rattle.hex.specs.Claims.{TextLength}
 
 pub concatMap-append : {A B : Type 0} (f : A → List B) (a b : List A) → concatMap f (a ++ b) ≡ concatMap f a ++ concatMap f b
@@ -81,7 +82,8 @@ module _ (image : List ℕ) where
       rw (← add-one k, u)
       (ap length (text-more k) ∙ length-append (textOf (recordsFrom image 0 k)) (textOf (recordsAt image k))
       ∙ rw (length-to k, length-at k, upper-length k, data-length k)
-      (step-sum k (min (k * 16) (length image)) (min 16 (length image - k * 16)) (min ((k + 1) * 16) (length image)) (upperOf k) (upperOf (k - 1)) (min-more k (length image)) (omega arith)))
+      (step-sum k (min (k * 16) (length image)) (min 16 (length image - k * 16))
+      (min ((k + 1) * 16) (length image)) (upperOf k) (upperOf (k - 1)) (min-more k (length image)) (omega arith)))
 
   -- the text is that of the data records, and the end's
   pub text-is : hexText image ≡ textOf (recordsFrom image 0 (recordCount (length image))) ++ recordText endRecord

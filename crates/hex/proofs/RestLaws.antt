@@ -32,7 +32,8 @@ module _ (Z : Sizes) (B : Bounds Z) where
 
   spare-mark : (q : ℕ) → q < m → getD restMarks q erased ≡ erased
   spare-mark q k =
-      List·getD-append (replicate m erased) (replicate (originalCount Z) s) erased q (omega (arith, length-replicate m erased)) ∙ getD-replicate m q erased erased k
+      List·getD-append (replicate m erased) (replicate (originalCount Z) s) erased q (omega (arith, length-replicate m erased))
+      ∙ getD-replicate m q erased erased k
 
   data-mark : (j : ℕ) → j < originalCount Z → getD restMarks (m + j) erased ≡ s
   data-mark j k =
@@ -43,7 +44,8 @@ module _ (Z : Sizes) (B : Bounds Z) where
   unfolding markAt heldMark above
   mark-is zero q h k =
       let z : 0 * m + q ≡ q = omega arith in
-      ap (λ (x : ℕ). getD restMarks x erased) z ∙ spare-mark q k ∙ sym (ap (heldMark Z) (held-blank Z 0 0 q (sym (start .block-is)) (omega (arith, start .pages-is))))
+      ap (λ (x : ℕ). getD restMarks x erased) z ∙ spare-mark q k
+      ∙ sym (ap (heldMark Z) (held-blank Z 0 0 q (sym (start .block-is)) (omega (arith, start .pages-is))))
   mark-is (suc b) q h k =
       let z : suc b * m + q ≡ m + (b * m + q) = omega (arith, suc-mul b m) in
       ap (λ (x : ℕ). getD restMarks x erased) z ∙ data-mark (b * m + q) (slot-lt m b q n h k) ∙ sym letter-0
@@ -72,8 +74,11 @@ module _ (Z : Sizes) (B : Bounds Z) where
     unfolding part
     pages-blank zero h = let z : 0 * P ≡ 0 = omega arith in rw z
     pages-blank (suc k) h =
-        rw (suc-mul k P, take-add (k * P) P (chip .store), pages-blank k (omega arith), page-blank k (omega arith)) (replicate-append-replicate (k * P) P erased)
+        rw (suc-mul k P, take-add (k * P) P (chip .store), pages-blank k (omega arith), page-blank k (omega arith))
+        (replicate-append-replicate (k * P) P erased)
 
     pub at-rest : chip ≡ atRest Z (originalsIn Z chip)
     unfolding atRest originalsIn
-    at-rest = chip-eq (sym (take-append-drop (m * P) (chip .store)) ∙ ap (λ (l : List ℕ). l ++ drop (m * P) (chip .store)) (pages-blank m (omega arith))) marks-are
+    at-rest =
+        let blank = ap (λ (l : List ℕ). l ++ drop (m * P) (chip .store)) (pages-blank m (omega arith)) in
+        chip-eq (sym (take-append-drop (m * P) (chip .store)) ∙ blank) marks-are

@@ -29,13 +29,15 @@ unfolding goOnAt endRecord
 end-taken upper next = refl
 
 module _ (image : List ℕ) where
-  go-on : (k i next : ℕ) → i + k ≡ recordCount (length image) → (1 ≤ k → next ≡ i * 16) → goOnAt (upperOf (i - 1)) next (recordsFrom image i k ++ (endRecord ∷ [])) ≡ true
+  go-on : (k i next : ℕ) → i + k ≡ recordCount (length image) → (1 ≤ k → next ≡ i * 16)
+      → goOnAt (upperOf (i - 1)) next (recordsFrom image i k ++ (endRecord ∷ [])) ≡ true
   unfolding recordsFrom concatMap range recordsAt
   go-on zero i next e f = end-taken (upperOf (i - 1)) next
   go-on (suc k) i next e f =
       let rest : List Record = recordsFrom image (suc i) k ++ (endRecord ∷ []) in
       let parts : recordsFrom image i (suc k) ++ (endRecord ∷ []) ≡ upperAt i ++ (dataRecord image i ∷ rest) =
-      append-assoc (upperAt i ++ (dataRecord image i ∷ [])) (recordsFrom image (suc i) k) (endRecord ∷ []) ∙ append-assoc (upperAt i) (dataRecord image i ∷ []) rest in
+      append-assoc (upperAt i ++ (dataRecord image i ∷ [])) (recordsFrom image (suc i) k) (endRecord ∷ [])
+      ∙ append-assoc (upperAt i) (dataRecord image i ∷ []) rest in
       let u : suc i - 1 ≡ i = omega arith in
       rw (f (omega arith)) (ap (goOnAt (upperOf (i - 1)) (i * 16)) parts ∙ upper-then i (dataRecord image i ∷ rest) ∙ data-then image i rest
       ∙ rw u at (go-on k (suc i) (i * 16 + length (part 16 i image)) (omega arith) (λ h. omega (arith, length-part i image))))

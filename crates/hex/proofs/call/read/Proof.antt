@@ -7,7 +7,8 @@ use Rattle.flash.proofs.Bounds.{in-range}
 use Rattle.method.specs.Answers.{badChip}
 use Rattle.hex.specs.Reading.{hexNumber}
 use Rattle.hex.specs.Answers.{restSizes, spareLength}
-use Rattle.hex.proofs.CallLaws.{chip-lengths, pages-fit, other-pages, image-small, spare-fits, image-length, putBack, put-same, put-behind, put-length}
+use Rattle.hex.proofs.CallLaws.{chip-lengths, pages-fit, other-pages, image-small, spare-fits, image-length, putBack, put-same, put-behind}
+use Rattle.hex.proofs.CallLaws.{put-length}
 use Rattle.hex.proofs.CallLaws.{read-1, read-2, read-text, read-0}
 use Rattle.hex.proofs.call.read.Statement.{statement}
 use Rattle.hex.proofs.call.read.Tie as tie
@@ -52,10 +53,14 @@ mul-spare : tie.Need-mul-spare
 mul-spare c = search needs
 
 sub-read : tie.Need-sub-read
-sub-read c = let a = c .before .before .before .before .before .before .before .before .args in spare-fits (restSizes (a .n) (a .m) (a .p)) (a .store .now) (fit c .0)
+sub-read c =
+    let a =
+    c .before .before .before .before .before .before .before .before .args in spare-fits (restSizes (a .n) (a .m) (a .p)) (a .store .now) (fit c .0)
 
 part-read-start : tie.Need-part-read-start
-part-read-start c = let a = c .before .before .before .before .before .before .before .before .args in spare-fits (restSizes (a .n) (a .m) (a .p)) (a .store .now) (fit c .0)
+part-read-start c =
+    let a =
+    c .before .before .before .before .before .before .before .before .args in spare-fits (restSizes (a .n) (a .m) (a .p)) (a .store .now) (fit c .0)
 
 part-read-end : tie.Need-part-read-end
 part-read-end c = search needs
@@ -85,10 +90,12 @@ returns-3 c =
 
 set-rest-requires : tie.Need-set-rest-requires
 set-rest-requires c κs =
-    let a = c .before .before .before .before .before .before .before .before .before .before .before .before .before .before .before .args in
+    let r = c .before .before .before .before .before in
+    let k = r .before .before in
+    let a = k .before .before .before .before .before .before .before .before .args in
     let Z = restSizes (a .n) (a .m) (a .p) in
-    let L = fit (c .before .before .before .before .before .before .before) in
-    (omega (arith, put-length Z (a .store .now) (L .0) (c .before .before .before .before .before .read .last .1 .0)), omega (arith, L .1, pages-fit Z))
+    let L = fit k in
+    (omega (arith, put-length Z (a .store .now) (L .0) (r .read .last .1 .0)), omega (arith, L .1, pages-fit Z))
 
 same-length-2 : tie.Need-same-length-2
 same-length-2 c = search needs
@@ -98,19 +105,22 @@ same-length-3 c = search needs
 
 returns-4 : tie.Need-returns-4
 returns-4 c =
-    let k = c .before .before .before .before .before .before .before .before .before .before .before .before in
-    let a = c .before .before .before .before .before .before .before .before .before .before .before .before .before .before .before .before .before .before .before .before .args in
+    let done = c .before .before .before .before in
+    let passed = done .before .before .before in
+    let r = passed .before .before .before in
+    let k = r .before .before in
+    let a = k .before .before .before .before .before .before .before .before .args in
     let text = a .text .now in
     let L = fit k in
     let Z = restSizes (a .n) (a .m) (a .p) in
-    let r = c .before .before .before .before .before .before .before .before .before .before .read in
-    let done = c .before .before .before .before .set-rest .ensures in
-    let zero = c .before .before .before .before .before .before .before .if3 .left in
+    let zero = passed .if3 .left in
     let n = image-length Z (a .store .now) (L .0) in
-    let number = sym (r .ensures .number-is ∙ ap (λ (size : ℕ). hexNumber size text) n) ∙ zero in
-    let image = (rw (eq-eqb (r .result) 0 zero, n) at (r .ensures .image-is)) in
-    let store = done .0 ∙ ap (λ (l : List ℕ). replicate (spareLength Z) erased ++ l) (put-behind Z (a .store .now) (L .0) _ ∙ image) in
-    let marks = done .1 ∙ ap (λ (x : ℕ). replicate (a .m) erased ++ replicate x 0) (ap (λ (x : ℕ). x - a .m) (L .1) ∙ other-pages Z) in
+    let number = sym (r .read .ensures .number-is ∙ ap (λ (size : ℕ). hexNumber size text) n) ∙ zero in
+    let image = (rw (eq-eqb (r .read .result) 0 zero, n) at (r .read .ensures .image-is)) in
+    let behind = put-behind Z (a .store .now) (L .0) _ ∙ image in
+    let store = done .set-rest .ensures .0 ∙ ap (λ (l : List ℕ). replicate (spareLength Z) erased ++ l) behind in
+    let pages = ap (λ (x : ℕ). x - a .m) (L .1) ∙ other-pages Z in
+    let marks = done .set-rest .ensures .1 ∙ ap (λ (x : ℕ). replicate (a .m) erased ++ replicate x 0) pages in
     read-0 _ _ _ _ _ (in-ranges (k .before .before .before)) (sym (lengths (k .before)) ∙ k .if2 .left) number _ _ store marks
 
 pub read-spec : {M : Type 1} → statement M

@@ -18,7 +18,8 @@ slice-relend-prefix-fill-2 : tie.Need-slice-relend-prefix-fill-2
 slice-relend-prefix-fill-2 c = search needs
 
 slice-aggregate-fill-2 : tie.Need-slice-aggregate-fill-2
-slice-aggregate-fill-2 c = let a = c .before .before .before .before .before .before .before .args in sym (length-take-le (a .pages) (a .marks .now) (omega arith))
+slice-aggregate-fill-2 c =
+    let a = c .before .before .before .before .before .before .before .args in sym (length-take-le (a .pages) (a .marks .now) (omega arith))
 
 fill-requires-2 : tie.Need-fill-requires-2
 fill-requires-2 c κs = search needs
@@ -43,9 +44,14 @@ same-length-2 c = search needs
 
 returns : tie.Need-returns
 returns c =
-    let a = c .before .before .before .before .before .before .before .before .before .before .before .before .before .before .args in (
-      ap (λ front. front ++ drop (a .spare) (a .store .now)) (c .before .before .before .before .before .before .before .before .before .before .fill .ensures ∙ ap (λ (x : ℕ). replicate x erased) (length-take-le (a .spare) (a .store .now) (omega arith))),
-      rest-marks (a .marks .now) (c .before .before .before .before .before .before .fill2 .last .0) (c .before .before .fill3 .last .0) (a .pages) (omega arith) (c .before .before .before .before .before .before .fill2 .ensures) (c .before .before .fill3 .ensures),
+    let zeros = c .before .before in
+    let ones = zeros .before .before .before .before in
+    let spare = ones .before .before .before .before in
+    let a = spare .before .before .before .before .args in
+    let few = ap (λ (x : ℕ). replicate x erased) (length-take-le (a .spare) (a .store .now) (omega arith)) in (
+      ap (λ front. front ++ drop (a .spare) (a .store .now)) (spare .fill .ensures ∙ few),
+      rest-marks (a .marks .now) (ones .fill2 .last .0) (zeros .fill3 .last .0) (a .pages) (omega arith) (ones .fill2 .ensures)
+          (zeros .fill3 .ensures),
     )
 
 pub set-rest-spec : {M : Type 1} → statement M

@@ -6,7 +6,8 @@ use Rattle.method.specs.State.{originalsIn}
 use Rattle.method.specs.Answers.{badChip}
 use Rattle.hex.specs.Writing.{hexText, hexLength}
 use Rattle.hex.specs.Answers.{restSizes, imageLength}
-use Rattle.hex.proofs.CallLaws.{write-lengths, image-small, spare-small, spare-fits, image-is, image-length, write-1, write-2, write-5, write-0}
+use Rattle.hex.proofs.CallLaws.{write-lengths, image-small, spare-small, spare-fits, image-is, image-length, write-1, write-2, write-5}
+use Rattle.hex.proofs.CallLaws.{write-0}
 use Rattle.hex.proofs.call.write.Statement.{statement}
 use Rattle.hex.proofs.call.write.Tie as tie
 
@@ -42,7 +43,8 @@ length-of-requires c κs = image-small _ (in-range _ (in-ranges (c .before .befo
 lengths : (c : tie.After-length-of)
     → (let a = c .before .before .before .before .before .before .before .before .args in
     let Z = restSizes (a .n) (a .m) (a .p) in
-    (not (eqb (length (a .store .now)) (c .before .before .store-length .result)) || not (eqb (length (a .marks .now)) (c .before .slot-count .result)) || not (eqb (length (a .text .now)) (c .length-of .result)))
+    (not (eqb (length (a .store .now)) (c .before .before .store-length .result))
+    || not (eqb (length (a .marks .now)) (c .before .slot-count .result)) || not (eqb (length (a .text .now)) (c .length-of .result)))
     ≡ (badChip Z (record { store = a .store .now; marks = a .marks .now }) || not (eqb (length (a .text .now)) (hexLength (imageLength Z)))))
 unfolding badChip
 lengths c = rw (c .before .before .store-length .ensures, c .before .slot-count .ensures, c .length-of .ensures)
@@ -65,13 +67,21 @@ is-elsewhere-requires c κs =
     (in-range _ (in-ranges (c .before .before .before .before)), L .1, L .0)
 
 returns-3 : tie.Need-returns-3
-returns-3 c = write-5 _ _ _ _ _ (in-ranges (c .before .before .before .before .before .before)) (sym (lengths (c .before .before .before)) ∙ c .before .before .if2 .left) (sym (c .if3 .taken) ∙ c .before .is-elsewhere .ensures)
+returns-3 c =
+    write-5 _ _ _ _ _ (in-ranges (c .before .before .before .before .before .before))
+    (sym (lengths (c .before .before .before)) ∙ c .before .before .if2 .left) (sym (c .if3 .taken) ∙ c .before .is-elsewhere .ensures)
 
 sub-put-image : tie.Need-sub-put-image
-sub-put-image c = let a = c .before .before .before .before .before .before .before .before .before .before .before .args in spare-fits (restSizes (a .n) (a .m) (a .p)) (a .store .now) (fit (c .before .before) .0)
+sub-put-image c =
+    let a =
+    c .before .before .before .before .before .before .before .before .before .before .before .args in spare-fits (restSizes (a .n) (a .m) (a .p))
+    (a .store .now) (fit (c .before .before) .0)
 
 part-put-image-start : tie.Need-part-put-image-start
-part-put-image-start c = let a = c .before .before .before .before .before .before .before .before .before .before .before .args in spare-fits (restSizes (a .n) (a .m) (a .p)) (a .store .now) (fit (c .before .before) .0)
+part-put-image-start c =
+    let a =
+    c .before .before .before .before .before .before .before .before .before .before .before .args in spare-fits (restSizes (a .n) (a .m) (a .p))
+    (a .store .now) (fit (c .before .before) .0)
 
 part-put-image-end : tie.Need-part-put-image-end
 part-put-image-end c = search needs
@@ -93,7 +103,8 @@ unfolding originalsIn
 returns-4 c =
     let k = c .before .before .before .before .before .before .before in
     let a = k .before .before .before .before .before .before .before .before .before .args in
-    write-0 _ _ _ _ _ (in-ranges (k .before .before .before .before)) (sym (lengths (k .before)) ∙ k .if2 .left) (sym (c .before .before .before .before .before .if3 .left) ∙ c .before .before .before .before .before .before .is-elsewhere .ensures) _
+    write-0 _ _ _ _ _ (in-ranges (k .before .before .before .before)) (sym (lengths (k .before)) ∙ k .if2 .left)
+    (sym (c .before .before .before .before .before .if3 .left) ∙ c .before .before .before .before .before .before .is-elsewhere .ensures) _
     (c .before .before .put-image .ensures ∙ ap hexText (image-is (restSizes (a .n) (a .m) (a .p)) (a .store .now) (fit k .0)))
 
 pub write-spec : {M : Type 1} → statement M

@@ -8,7 +8,8 @@ use Rattle.hex.proofs.print.spell.Statement.{statement}
 use Rattle.hex.proofs.print.spell.Tie as tie
 
 abbrev Inv-loop : tie.InvT-loop
-Inv-loop area digits₀ sum₀ i₀ digits sum i = (digits ≡ spelled area digits₀ i) × (sum ≡ total (take i area)) × (sum ≤ 255 * i) × (i ≤ 24) × (length digits ≡ length digits₀)
+Inv-loop area digits₀ sum₀ i₀ digits sum i =
+    (digits ≡ spelled area digits₀ i) × (sum ≡ total (take i area)) × (sum ≤ 255 * i) × (i ≤ 24) × (length digits ≡ length digits₀)
 
 abbrev μ-loop : tie.MeasureT-loop
 μ-loop area digits₀ sum₀ i₀ digits sum i = 24 - i
@@ -59,7 +60,8 @@ loop-again c =
     let a = c .before .before .before .before .before .before .before .args in
     let byte = c .before .before .shared-slice-known2 .given (l .i) in
     let small : getD (a .area .now) (l .i) 0 < 256 = omega (arith, byte) in (
-      rw (c .before .digit-of .ensures, c .digit-of2 .ensures, l .inv .0) (spelled-more (a .area .now) (a .digits .now) (l .i) (omega arith) (omega arith) small),
+      rw (c .before .digit-of .ensures, c .digit-of2 .ensures, l .inv .0)
+          (spelled-more (a .area .now) (a .digits .now) (l .i) (omega arith) (omega arith) small),
       omega (arith, total-more (a .area .now) (l .i) (omega arith)),
       omega (arith, byte),
       omega arith,

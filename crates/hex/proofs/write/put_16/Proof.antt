@@ -30,7 +30,8 @@ put-record-requires c κs =
     let a = c .before .before .before .before .before .before .before .before .args in
     let image = a .image .now in
     let cut = ap length (part-cut image (a .i) (a .i * 16 + 16) (omega arith) (omega arith) (omega arith) (λ h. refl)) ∙ length-part (a .i) image in
-    (omega arith, omega (arith, cut), omega (arith, cut, length-at image (a .i), data-length image (a .i), c .before .before .before .before .put-upper .ensures .next-is))
+    let upper = c .before .before .before .before .put-upper .ensures .next-is in
+    (omega arith, omega (arith, cut), omega (arith, cut, length-at image (a .i), data-length image (a .i), upper))
 
 same-length : tie.Need-same-length
 same-length c = search needs
@@ -41,7 +42,9 @@ returns c =
     let a = c .before .before .before .before .before .before .before .before .before .before .before .args in
     let image = a .image .now in
     let cut = part-cut image (a .i) (a .i * 16 + 16) (omega arith) (omega arith) (omega arith) (λ h. refl) in
-    rw (text-at image (a .i)) (printed-then (c .before .before .before .before .before .before .before .put-upper .ensures) (rw cut at (c .before .before .put-record .ensures)))
+    let upper = c .before .before .before .before .before .before .before in
+    rw (text-at image (a .i))
+    (printed-then (upper .put-upper .ensures) (rw cut at (c .before .before .put-record .ensures)))
 
 pub put-16-spec : {M : Type 1} → statement M
 put-16-spec =

@@ -14,7 +14,9 @@ slice-aggregate-put-record : tie.Need-slice-aggregate-put-record
 slice-aggregate-put-record c = search needs
 
 put-record-requires : tie.Need-put-record-requires
-put-record-requires c κs = (omega arith, omega arith, omega (arith, c .before .before .before .before .put-data .ensures .next-is, end-room (c .before .before .before .before .before .before .before .before .args .image .now)))
+put-record-requires c κs =
+    let d = c .before .before .before .before in
+    (omega arith, omega arith, omega (arith, d .put-data .ensures .next-is, end-room (d .before .before .before .before .args .image .now)))
 
 same-length : tie.Need-same-length
 same-length c = search needs
@@ -22,9 +24,11 @@ same-length c = search needs
 returns : tie.Need-returns
 unfolding endRecord
 returns c =
-    let a = c .before .before .before .before .before .before .before .before .before .before .before .args in
+    let d = c .before .before .before .before .before .before .before in
+    let a = d .before .before .before .before .args in
     let image = a .image .now in
-    all-printed image (a .text .now) _ _ (rw (← text-is image) at (printed-then (c .before .before .before .before .before .before .before .put-data .ensures) (c .before .before .put-record .ensures))) (omega arith)
+    let whole = printed-then (d .put-data .ensures) (c .before .before .put-record .ensures) in
+    all-printed image (a .text .now) _ _ (rw (← text-is image) at whole) (omega arith)
 
 pub put-image-spec : {M : Type 1} → statement M
 put-image-spec =

@@ -34,8 +34,10 @@ put-record-requires c κs =
     let image = c .before .before .before .before .before .before .before .before .before .args .image .now in
     let i = length image / 16 in
     let more = c .before .before .before .before .before .before .if1 .left in
-    let cut = ap length (part-cut image i (length image) (omega arith) (omega arith) (omega arith) (λ h. absurd (omega arith))) ∙ length-part i image in
-    (omega arith, omega (arith, cut), omega (arith, cut, ap length (one-last image more), length-at image i, data-length image i, c .before .before .before .before .put-upper .ensures .next-is))
+    let cut =
+    ap length (part-cut image i (length image) (omega arith) (omega arith) (omega arith) (λ h. absurd (omega arith))) ∙ length-part i image in
+    let upper = c .before .before .before .before .put-upper .ensures .next-is in
+    (omega arith, omega (arith, cut), omega (arith, cut, ap length (one-last image more), length-at image i, data-length image i, upper))
 
 same-length : tie.Need-same-length
 same-length c = search needs
@@ -47,7 +49,9 @@ returns-2 c =
     let i = length image / 16 in
     let more = c .before .before .before .before .before .before .before .before .before .if1 .left in
     let cut = part-cut image i (length image) (omega arith) (omega arith) (omega arith) (λ h. absurd (omega arith)) in
-    rw (one-last image more, text-at image i) (printed-then (c .before .before .before .before .before .before .before .put-upper .ensures) (rw cut at (c .before .before .put-record .ensures)))
+    let upper = c .before .before .before .before .before .before .before in
+    rw (one-last image more, text-at image i)
+    (printed-then (upper .put-upper .ensures) (rw cut at (c .before .before .put-record .ensures)))
 
 pub put-last-spec : {M : Type 1} → statement M
 put-last-spec =
