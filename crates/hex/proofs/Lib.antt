@@ -10,7 +10,10 @@ pub mod RestLaws
 pub mod Uppers
 pub mod Answered
 pub mod Pairs
-pub mod Ends
+pub mod WeightLaws
+pub mod GoodLines
+pub mod PutLaws
+pub mod HeadLaws
 pub mod Turns
 pub mod Given
 pub mod Words

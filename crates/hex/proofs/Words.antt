@@ -18,7 +18,7 @@ use Rattle.flash.proofs.Bools.{bool-cases, never-both}
 use Rattle.flash.proofs.Comparisons.{eq-cases}
 use Rattle.flash.proofs.Ranges.{any-is}
 use Rattle.hex.proofs.RangeLaws.{any-more}
-use Rattle.hex.specs.Passes.{isSet, SetIs, MarkIs}
+use Rattle.hex.specs.inner.Bits.{isSet, SetIs, MarkIs}
 
 abbrev bitAt : ℕ → ℕ → ℕ
 bitAt n k = n / 2 ^ k % 2
