@@ -3,7 +3,7 @@ use Rattle.flash.proofs.Kit.{_≡_, refl, sym, ap, _∙_, ⊎-elim, Bool, true,
 use Rattle.flash.proofs.Bools.{never-both}
 use Rattle.flash.proofs.Comparisons.{eq-cases}
 use Rattle.hex.specs.Reading.{isType}
-use Rattle.hex.specs.inner.Lines.{weightFrom, byteFrom, wordFrom, sizeAt, addressAt, kindAt, nextFrom, stopAt, AreDigits, Good, GoodIs}
+use Rattle.hex.specs.inner.Lines.{weightFrom, byteFrom, wordFrom, sizeAt, addressAt, kindAt, nextFrom, stopAt, AreDigits, Framed, Good, GoodIs}
 use Rattle.hex.specs.inner.Passes.{halfAt, placeAt, countAt}
 use Rattle.hex.proofs.WeightLaws.{digits-part, digits-weigh, weigh-digits, byte-weight, byte-small}
 use Rattle.hex.proofs.GoodLines.{type-upper, next-carried, next-other, next-again}
@@ -14,9 +14,6 @@ module _ (text : List ℕ) (at : ℕ) where
 
   -- ---- of a record that is good
   module _ (G : Good text at) where
-    pub head-room : at + 11 + 2 * sizeAt text at < length text
-    head-room = G .inside
-
     part : (from count : ℕ) → at + 1 ≤ from → from + count ≤ at + 11 + 2 * sizeAt text at → AreDigits text from count
     part from count l h = digits-part text (at + 1) (10 + 2 * sizeAt text at) (G .digits) from count l (omega arith)
 
@@ -63,25 +60,34 @@ module _ (text : List ℕ) (at : ℕ) where
   first-is first size e h s =
       s ∙ e ∙ byte-weight text (at + 1) (weigh-digits text (at + 1) 1 (omega arith))
 
-  module _ (size sum : ℕ) (s : size ≡ sizeAt text at) (w : sum ≡ weightFrom text (at + 1) (5 + size)) (light : sum < 131072) where
-    pub judged-digits : AreDigits text (at + 1) (10 + 2 * size)
-    judged-digits i h = weigh-digits text (at + 1) (5 + size) (omega arith) i (omega arith)
+  module _ (size sum : ℕ) (F : Framed text at size) (w : sum ≡ weightFrom text (at + 1) (5 + size)) where
+    sum-is : sum ≡ weightFrom text (at + 1) (5 + sizeAt text at)
+    sum-is = w ∙ ap (λ (x : ℕ). weightFrom text (at + 1) (5 + x)) (F .size-is)
 
-    pub judged-is : getD text at 0 ≡ 58 → at + 11 + 2 * size < length text → (nextFrom text (at + 11 + 2 * size) ≡ 0 → ⊥) → sum % 256 ≡ 0
-        → (kind address : ℕ) (r : Bool) → kind ≡ kindAt text at → address ≡ addressAt text at → r ≡ isType kind address size → GoodIs text at r
-    judged-is colon inside ends mult kind address r k a t =
-        let e : r ≡ isType (kindAt text at) (addressAt text at) (sizeAt text at) = t ∙ rw (k, a, s) in
-        record {
-          good = λ yes. record {
-            colon = colon;
-            inside = rw s at inside;
-            ends = rw s at ends;
-            digits = rw s at judged-digits;
-            sums = ap (λ (x : ℕ). x % 256) (rw (← s) (sym w)) ∙ mult;
-            known = sym e ∙ yes;
-          };
-          bad = λ no G. never-both (G .known) (sym e ∙ no);
-        }
+    pub heavy : 131072 ≤ sum → GoodIs text at false
+    heavy h = not-good (λ G. omega (arith, sum-is, all-light G))
+
+    pub uneven : (sum % 256 ≡ 0 → ⊥) → GoodIs text at false
+    uneven f = not-good (λ G. f (ap (λ (x : ℕ). x % 256) sum-is ∙ G .sums))
+
+    module _ (light : sum < 131072) where
+      pub framed-digits : (from count : ℕ) → at + 1 ≤ from → from + count ≤ at + 11 + 2 * size → AreDigits text from count
+      framed-digits from count l h = digits-part text (at + 1) (2 * (5 + size)) (weigh-digits text (at + 1) (5 + size) (omega arith)) from count l (omega arith)
+
+      pub sound-is : sum % 256 ≡ 0 → (kind address : ℕ) (r : Bool) → kind ≡ kindAt text at → address ≡ addressAt text at → r ≡ isType kind address size → GoodIs text at r
+      sound-is mult kind address r k a t =
+          let e : r ≡ isType (kindAt text at) (addressAt text at) (sizeAt text at) = t ∙ rw (k, a, F .size-is) in
+          record {
+            good = λ yes. record {
+              colon = F .colon;
+              inside = rw (F .size-is) at (F .inside);
+              ends = rw (F .size-is) at (F .ends);
+              digits = rw (F .size-is) at (framed-digits (at + 1) (10 + 2 * size) (omega arith) (omega arith));
+              sums = ap (λ (x : ℕ). x % 256) (sym sum-is) ∙ mult;
+              known = sym e ∙ yes;
+            };
+            bad = λ no G. never-both (G .known) (sym e ∙ no);
+          }
 
   -- ---- what a record does, by its type
   pub half-upper : (upper : ℕ) → kindAt text at ≡ 4 → halfAt text at upper ≡ wordFrom text (at + 9)

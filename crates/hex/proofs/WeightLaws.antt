@@ -93,11 +93,6 @@ module _ (text : List ℕ) where
       let e : from + (at + i - from) ≡ at + i = omega arith in
       ap (λ (x : ℕ). isDigit (getD text x 0)) (sym e) ∙ D (at + i - from) (omega arith)
 
-  first-digit : (from count : ℕ) → AreDigits text from count → 1 ≤ count → isDigit (getD text from 0) ≡ true
-  first-digit from count D h =
-      let e : from + 0 ≡ from = omega arith in
-      ap (λ (x : ℕ). isDigit (getD text x 0)) (sym e) ∙ D 0 (omega arith)
-
   module _ (from : ℕ) where
     digit-at : (k i : ℕ) → AreDigits text from (2 * suc k) → i < 2 * suc k → digitValue (getD text (from + i) 0) < 16
     digit-at k i D h = digit-small (getD text (from + i) 0) (D i h)

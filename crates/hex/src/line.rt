@@ -1,9 +1,9 @@
 // A line is judged where it stands: its end is not looked for, since its first byte says where that must be.
 ghost use mathlib.Core.Path.{_≡_};
-ghost use Prim.Native.Nat.{_<_};
+ghost use Prim.Native.Nat.{_≤_, _<_};
 ghost use lib.ListN.{length};
 ghost use Rattle.hex.specs.Reading.{isType};
-ghost use Rattle.hex.specs.inner.Lines.{Weights, nextFrom, GoodIs};
+ghost use Rattle.hex.specs.inner.Lines.{Weights, nextFrom, Framed, GoodIs};
 use crate::weights::NO_DIGIT;
 use crate::weights::byte_at;
 use crate::weights::weight_from;
@@ -42,31 +42,12 @@ fn is_type(kind: usize, address: usize, size: usize) -> bool
         | ((kind == 4) & (address == 0) & (size == 2))
 }
 
-// Whether a record stands at a position that is not malformed.
-pub fn is_good(weights: &[u32], text: &[u8], at: usize) -> bool
-    requires { ⌜ Weights (now weights) × (at < length (now text)) ⌝ }
+// Whether a record that is framed has nothing but digits, a sum that is a multiple of 256, and a known type.
+fn is_sound(weights: &[u32], text: &[u8], at: usize, size: usize) -> bool
+    requires { ⌜ Weights (now weights) × Framed (now text) at size × (size ≤ 255) ⌝ }
     ensures { λ r. ⌜ GoodIs (now (text .entry)) at r ⌝ }
 {
-    if text.len() - at < 12 {
-        return false;
-    }
-    if text[at] != COLON {
-        return false;
-    }
-    let from = at + 1;
-    let first = weight_from(weights, text, from, 1);
-    if 255 < first {
-        return false;
-    }
-    let size = word(first);
-    let stop = at + 11 + 2 * size;
-    if text.len() <= stop {
-        return false;
-    }
-    if next_from(text, stop) == 0 {
-        return false;
-    }
-    let sum = weight_from(weights, text, from, 5 + size);
+    let sum = weight_from(weights, text, at + 1, 5 + size);
     if NO_DIGIT <= sum {
         return false;
     }
@@ -78,4 +59,30 @@ pub fn is_good(weights: &[u32], text: &[u8], at: usize) -> bool
         word_at(weights, text, at + 3),
         size,
     )
+}
+
+// Whether a record stands at a position that is not malformed.
+pub fn is_good(weights: &[u32], text: &[u8], at: usize) -> bool
+    requires { ⌜ Weights (now weights) × (at < length (now text)) ⌝ }
+    ensures { λ r. ⌜ GoodIs (now (text .entry)) at r ⌝ }
+{
+    if text.len() - at < 12 {
+        return false;
+    }
+    if text[at] != COLON {
+        return false;
+    }
+    let first = weight_from(weights, text, at + 1, 1);
+    if 255 < first {
+        return false;
+    }
+    let size = word(first);
+    let stop = at + 11 + 2 * size;
+    if text.len() <= stop {
+        return false;
+    }
+    if next_from(text, stop) == 0 {
+        return false;
+    }
+    is_sound(weights, text, at, size)
 }

@@ -60,6 +60,13 @@ nextFrom text stop =
     cond (eqb (getD text stop 0) 10) (stop + 1) (cond (eqb (getD text stop 0) 13 && eqb (getD text (stop + 1) 0) 10) (stop + 2) 0)
 
 -- ---- the record at a position is not malformed
+-- the line begins with a colon, and ends where its first byte says
+pub record Framed (text : List ℕ) (at size : ℕ) : Type 0 where
+  pub colon : getD text at 0 ≡ 58
+  pub size-is : size ≡ sizeAt text at
+  pub inside : at + 11 + 2 * size < length text
+  pub ends : nextFrom text (at + 11 + 2 * size) ≡ 0 → ⊥
+
 pub record Good (text : List ℕ) (at : ℕ) : Type 0 where
   pub colon : getD text at 0 ≡ 58
   pub inside : stopAt text at < length text

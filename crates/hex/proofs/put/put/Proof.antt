@@ -14,7 +14,9 @@ abbrev μ-loop : tie.MeasureT-loop
 μ-loop text from count image₀ place i₀ image i = count - i
 
 loop-holds : tie.Need-loop-holds Inv-loop μ-loop
-loop-holds c = (paste-zero (c .before .before .args .image .now) (c .before .before .args .place) (bytesFrom (c .before .before .args .text .now) (c .before .before .args .from) (c .before .before .args .count)), omega arith, refl)
+loop-holds c =
+    let a = c .before .before .args in
+    (paste-zero (a .image .now) (a .place) (bytesFrom (a .text .now) (a .from) (a .count)), omega arith, refl)
 
 add-loop : tie.Need-add-loop Inv-loop μ-loop
 add-loop c = search needs

@@ -19,46 +19,49 @@ loop-holds c =
     let s = c .before .before .before .before .before .before .before in
     let e = c .before .before .fill .ensures in
     let n = s .pre .1 .1 in
-    (rw (e, n) (placing-start (s .args .text .now) (s .args .found) (s .pre .0 .1)), ap length e ∙ length-replicate (length (s .args .image .now)) 255 ∙ n)
+    (rw (e, n) (placing-start _ _ (s .pre .0 .1)), ap length e ∙ length-replicate (length (s .args .image .now)) 255 ∙ n)
 
 count-at-requires : tie.Need-count-at-requires Inv-loop μ-loop
-count-at-requires c κs = (c .before .before .before .before .before .before .before .before .before .before .pre .0 .0, placing-step (c .before .before .before .before .before .before .before .before .before .before .args .text .now) (c .before .before .before .before .before .before .before .before .before .before .args .found) (c .before .before .loop .image) (c .before .before .loop .at) (c .before .before .loop .upper) (c .before .before .loop .inv .0) (c .if1 .taken) .good)
+count-at-requires c κs = (c .before .before .before .before .before .before .before .before .before .before .pre .0 .0, placing-step (c .before .before .loop .inv .0) (c .if1 .taken) .good)
 
 place-at-requires : tie.Need-place-at-requires Inv-loop μ-loop
-place-at-requires c κs = (c .before .before .before .before .before .before .before .before .before .before .before .pre .0 .0, placing-step (c .before .before .before .before .before .before .before .before .before .before .before .args .text .now) (c .before .before .before .before .before .before .before .before .before .before .before .args .found) (c .before .before .before .loop .image) (c .before .before .before .loop .at) (c .before .before .before .loop .upper) (c .before .before .before .loop .inv .0) (c .before .if1 .taken) .good, c .before .before .before .loop .inv .0 .low)
+place-at-requires c κs = (c .before .before .before .before .before .before .before .before .before .before .before .pre .0 .0, placing-step (c .before .before .before .loop .inv .0) (c .before .if1 .taken) .good, c .before .before .before .loop .inv .0 .low)
 
 add-put : tie.Need-add-put Inv-loop μ-loop
-add-put c = omega (arith, placing-step (c .before .before .before .before .before .before .before .before .before .before .before .before .args .text .now) (c .before .before .before .before .before .before .before .before .before .before .before .before .args .found) (c .before .before .before .before .loop .image) (c .before .before .before .before .loop .at) (c .before .before .before .before .loop .upper) (c .before .before .before .before .loop .inv .0) (c .before .before .if1 .taken) .good .inside)
+add-put c = omega (arith, placing-step (c .before .before .before .before .loop .inv .0) (c .before .before .if1 .taken) .good .inside)
 
 put-requires : tie.Need-put-requires Inv-loop μ-loop
 put-requires c κs =
-    let S = placing-step (c .before .before .before .before .before .before .before .before .before .before .before .before .before .args .text .now) (c .before .before .before .before .before .before .before .before .before .before .before .before .before .args .found) (c .before .before .before .before .before .loop .image) (c .before .before .before .before .before .loop .at) (c .before .before .before .before .before .loop .upper) (c .before .before .before .before .before .loop .inv .0) (c .before .before .before .if1 .taken) in
+    let l = c .before .before .before .before .before .loop in
+    let text = c .before .before .before .before .before .before .before .before .before .before .before .before .before .args .text .now in
+    let S = placing-step (c .before .before .before .before .before .loop .inv .0) (c .before .before .before .if1 .taken) in
     let n = c .before .before .count-at .ensures in
     let p = c .before .place-at .ensures in
-    let z = count-size (c .before .before .before .before .before .before .before .before .before .before .before .before .before .args .text .now) (c .before .before .before .before .before .loop .at) in
-    (omega (arith, S .good .inside), data-digits (c .before .before .before .before .before .before .before .before .before .before .before .before .before .args .text .now) (c .before .before .before .before .before .loop .at) (S .good) _ (omega arith), omega (arith, S .goes .fits, c .before .before .before .before .before .loop .inv .1))
+    let z = count-size text (l .at) in
+    (omega (arith, S .good .inside), data-digits text (l .at) (S .good) _ (omega arith), omega (arith, S .goes .fits, l .inv .1))
 
 half-at-requires : tie.Need-half-at-requires Inv-loop μ-loop
-half-at-requires c κs = (c .before .before .before .before .before .before .before .before .before .before .before .before .before .before .before .before .pre .0 .0, placing-step (c .before .before .before .before .before .before .before .before .before .before .before .before .before .before .before .before .args .text .now) (c .before .before .before .before .before .before .before .before .before .before .before .before .before .before .before .before .args .found) (c .before .before .before .before .before .before .before .before .loop .image) (c .before .before .before .before .before .before .before .before .loop .at) (c .before .before .before .before .before .before .before .before .loop .upper) (c .before .before .before .before .before .before .before .before .loop .inv .0) (c .before .before .before .before .before .before .if1 .taken) .good)
+half-at-requires c κs = (c .before .before .before .before .before .before .before .before .before .before .before .before .before .before .before .before .pre .0 .0, placing-step (c .before .before .before .before .before .before .before .before .loop .inv .0) (c .before .before .before .before .before .before .if1 .taken) .good)
 
 next-at-requires : tie.Need-next-at-requires Inv-loop μ-loop
-next-at-requires c κs = (c .before .before .before .before .before .before .before .before .before .before .before .before .before .before .before .before .before .pre .0 .0, placing-step (c .before .before .before .before .before .before .before .before .before .before .before .before .before .before .before .before .before .args .text .now) (c .before .before .before .before .before .before .before .before .before .before .before .before .before .before .before .before .before .args .found) (c .before .before .before .before .before .before .before .before .before .loop .image) (c .before .before .before .before .before .before .before .before .before .loop .at) (c .before .before .before .before .before .before .before .before .before .loop .upper) (c .before .before .before .before .before .before .before .before .before .loop .inv .0) (c .before .before .before .before .before .before .before .if1 .taken) .good)
+next-at-requires c κs = (c .before .before .before .before .before .before .before .before .before .before .before .before .before .before .before .before .before .pre .0 .0, placing-step (c .before .before .before .before .before .before .before .before .before .loop .inv .0) (c .before .before .before .before .before .before .before .if1 .taken) .good)
 
 loop-less : tie.Need-loop-less Inv-loop μ-loop
 loop-less c =
-    let G = placing-step (c .before .before .before .before .before .before .before .before .before .before .before .before .before .before .before .before .before .before .args .text .now) (c .before .before .before .before .before .before .before .before .before .before .before .before .before .before .before .before .before .before .args .found) (c .before .before .before .before .before .before .before .before .before .before .loop .image) (c .before .before .before .before .before .before .before .before .before .before .loop .at) (c .before .before .before .before .before .before .before .before .before .before .loop .upper) (c .before .before .before .before .before .before .before .before .before .before .loop .inv .0) (c .before .before .before .before .before .before .before .before .if1 .taken) .goes in
+    let G = placing-step (c .before .before .before .before .before .before .before .before .before .before .loop .inv .0) (c .before .before .before .before .before .before .before .before .if1 .taken) .goes in
     omega (arith, G .inside, G .ends, c .next-at .ensures)
 
 loop-again : tie.Need-loop-again Inv-loop μ-loop
 loop-again c =
+    let l = c .before .before .before .before .before .before .before .before .before .before .loop in
     let e = rw (c .before .before .before .before .before .before .place-at .ensures, c .before .before .before .before .before .before .before .count-at .ensures) at (c .before .before .before .before .put .ensures) in
-    (rw (e, c .next-at .ensures, c .before .half-at .ensures) (placing-on (c .before .before .before .before .before .before .before .before .before .before .before .before .before .before .before .before .before .before .args .text .now) (c .before .before .before .before .before .before .before .before .before .before .before .before .before .before .before .before .before .before .args .found) (c .before .before .before .before .before .before .before .before .before .before .loop .image) (c .before .before .before .before .before .before .before .before .before .before .loop .at) (c .before .before .before .before .before .before .before .before .before .before .loop .upper) (c .before .before .before .before .before .before .before .before .before .before .loop .inv .0) (c .before .before .before .before .before .before .before .before .if1 .taken)), omega (arith, c .before .before .before .before .before .before .before .before .before .before .loop .inv .1))
+    (rw (e, c .next-at .ensures, c .before .half-at .ensures) (placing-on (l .inv .0) (c .before .before .before .before .before .before .before .before .if1 .taken)), omega (arith, l .inv .1))
 
 same-length : tie.Need-same-length Inv-loop μ-loop
 same-length c = omega (arith, c .before .before .loop .inv .1, c .before .before .before .before .before .before .before .before .before .before .pre .1 .1)
 
 returns : tie.Need-returns Inv-loop μ-loop
-returns c = placing-stop (c .before .before .before .before .before .before .before .before .before .before .args .text .now) (c .before .before .before .before .before .before .before .before .before .before .args .found) (c .before .before .loop .image) (c .before .before .loop .at) (c .before .before .loop .upper) (c .before .before .loop .inv .0) (omega (arith, c .if1 .left)) (c .before .before .before .before .before .before .before .before .before .before .pre .1 .0)
+returns c = placing-stop (c .before .before .loop .inv .0) (omega (arith, c .if1 .left)) (c .before .before .before .before .before .before .before .before .before .before .pre .1 .0)
 
 pub put-all-spec : {M : Type 1} → statement M
 put-all-spec =

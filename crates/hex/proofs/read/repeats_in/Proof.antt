@@ -12,23 +12,23 @@ abbrev μ-loop : tie.MeasureT-loop
 μ-loop weights text found w words₀ at₀ upper₀ words at upper = length text - at
 
 loop-holds : tie.Need-loop-holds Inv-loop μ-loop
-loop-holds c = (looking-start (c .before .before .args .text .now) (c .before .before .args .found) (c .before .before .args .w) (c .before .before .pre .1), refl)
+loop-holds c = (looking-start _ _ _ (c .before .before .pre .1), refl)
 
 half-at-requires : tie.Need-half-at-requires Inv-loop μ-loop
-half-at-requires c κs = (c .before .before .before .before .before .pre .0, looking-good (c .before .before .before .before .before .args .text .now) (c .before .before .before .before .before .args .found) (c .before .before .before .before .before .args .w) (c .before .before .loop .words) (c .before .before .loop .at) (c .before .before .loop .upper) (c .before .before .loop .inv .0) (c .if1 .taken))
+half-at-requires c κs = (c .before .before .before .before .before .pre .0, looking-good (c .before .before .loop .inv .0) (c .if1 .taken))
 
 place-at-requires : tie.Need-place-at-requires Inv-loop μ-loop
-place-at-requires c κs = (c .before .before .before .before .before .before .pre .0, looking-good (c .before .before .before .before .before .before .args .text .now) (c .before .before .before .before .before .before .args .found) (c .before .before .before .before .before .before .args .w) (c .before .before .before .loop .words) (c .before .before .before .loop .at) (c .before .before .before .loop .upper) (c .before .before .before .loop .inv .0) (c .before .if1 .taken), c .before .before .before .loop .inv .0 .low)
+place-at-requires c κs = (c .before .before .before .before .before .before .pre .0, looking-good (c .before .before .before .loop .inv .0) (c .before .if1 .taken), c .before .before .before .loop .inv .0 .low)
 
 slice-aggregate-look : tie.Need-slice-aggregate-look Inv-loop μ-loop
 slice-aggregate-look c = search needs
 
 count-at-requires : tie.Need-count-at-requires Inv-loop μ-loop
-count-at-requires c κs = (c .before .before .before .before .before .before .before .before .pre .0, looking-good (c .before .before .before .before .before .before .before .before .args .text .now) (c .before .before .before .before .before .before .before .before .args .found) (c .before .before .before .before .before .before .before .before .args .w) (c .before .before .before .before .before .loop .words) (c .before .before .before .before .before .loop .at) (c .before .before .before .before .before .loop .upper) (c .before .before .before .before .before .loop .inv .0) (c .before .before .before .if1 .taken))
+count-at-requires c κs = (c .before .before .before .before .before .before .before .before .pre .0, looking-good (c .before .before .before .before .before .loop .inv .0) (c .before .before .before .if1 .taken))
 
 look-requires : tie.Need-look-requires Inv-loop μ-loop
 look-requires c κs =
-    let G = looking-goes (c .before .before .before .before .before .before .before .before .before .args .text .now) (c .before .before .before .before .before .before .before .before .before .args .found) (c .before .before .before .before .before .before .before .before .before .args .w) (c .before .before .before .before .before .before .loop .words) (c .before .before .before .before .before .before .loop .at) (c .before .before .before .before .before .before .loop .upper) (c .before .before .before .before .before .before .loop .inv .0) (c .before .before .before .before .if1 .taken) in
+    let G = looking-goes (c .before .before .before .before .before .before .loop .inv .0) (c .before .before .before .before .if1 .taken) in
     let h = c .before .before .before .half-at .ensures in
     let p = c .before .before .place-at .ensures in
     let n = c .count-at .ensures in
@@ -36,25 +36,25 @@ look-requires c κs =
 
 returns : tie.Need-returns Inv-loop μ-loop
 returns c =
-    record {
-      repeated = λ _. looking-hit (c .before .before .before .before .before .before .before .before .before .before .before .before .args .text .now) (c .before .before .before .before .before .before .before .before .before .before .before .before .args .found) (c .before .before .before .before .before .before .before .before .before .before .before .before .args .w) (c .before .before .before .before .before .before .before .before .before .loop .words) (c .before .before .before .before .before .before .before .before .before .loop .at) (c .before .before .before .before .before .before .before .before .before .loop .upper) (c .before .before .before .before .before .before .before .before .before .loop .inv .0) (c .before .before .before .before .before .before .before .if1 .taken) _ _ (rw (c .before .before .before .before .before .before .half-at .ensures, c .before .before .before .before .before .place-at .ensures, c .before .before .before .count-at .ensures) at (c .before .before .look .ensures)) (c .if2 .taken);
-      none = λ e. absurd (never-both refl e);
-    }
+    let K = rw (c .before .before .before .before .before .before .half-at .ensures, c .before .before .before .before .before .place-at .ensures, c .before .before .before .count-at .ensures) at (c .before .before .look .ensures) in
+    record { repeated = λ _. looking-hit (c .before .before .before .before .before .before .before .before .before .loop .inv .0) (c .before .before .before .before .before .before .before .if1 .taken) K (c .if2 .taken); none = λ e. absurd (never-both refl e) }
 
 next-at-requires : tie.Need-next-at-requires Inv-loop μ-loop
-next-at-requires c κs = (c .before .before .before .before .before .before .before .before .before .before .before .before .pre .0, looking-good (c .before .before .before .before .before .before .before .before .before .before .before .before .args .text .now) (c .before .before .before .before .before .before .before .before .before .before .before .before .args .found) (c .before .before .before .before .before .before .before .before .before .before .before .before .args .w) (c .before .before .before .before .before .before .before .before .before .loop .words) (c .before .before .before .before .before .before .before .before .before .loop .at) (c .before .before .before .before .before .before .before .before .before .loop .upper) (c .before .before .before .before .before .before .before .before .before .loop .inv .0) (c .before .before .before .before .before .before .before .if1 .taken))
+next-at-requires c κs = (c .before .before .before .before .before .before .before .before .before .before .before .before .pre .0, looking-good (c .before .before .before .before .before .before .before .before .before .loop .inv .0) (c .before .before .before .before .before .before .before .if1 .taken))
 
 loop-less : tie.Need-loop-less Inv-loop μ-loop
 loop-less c =
-    let G = looking-goes (c .before .before .before .before .before .before .before .before .before .before .before .before .before .args .text .now) (c .before .before .before .before .before .before .before .before .before .before .before .before .before .args .found) (c .before .before .before .before .before .before .before .before .before .before .before .before .before .args .w) (c .before .before .before .before .before .before .before .before .before .before .loop .words) (c .before .before .before .before .before .before .before .before .before .before .loop .at) (c .before .before .before .before .before .before .before .before .before .before .loop .upper) (c .before .before .before .before .before .before .before .before .before .before .loop .inv .0) (c .before .before .before .before .before .before .before .before .if1 .taken) in
+    let G = looking-goes (c .before .before .before .before .before .before .before .before .before .before .loop .inv .0) (c .before .before .before .before .before .before .before .before .if1 .taken) in
     omega (arith, G .inside, G .ends, c .next-at .ensures)
 
 loop-again : tie.Need-loop-again Inv-loop μ-loop
 loop-again c =
-    (rw (c .next-at .ensures, c .before .before .before .before .before .before .before .half-at .ensures) (looking-on (c .before .before .before .before .before .before .before .before .before .before .before .before .before .args .text .now) (c .before .before .before .before .before .before .before .before .before .before .before .before .before .args .found) (c .before .before .before .before .before .before .before .before .before .before .before .before .before .args .w) (c .before .before .before .before .before .before .before .before .before .before .loop .words) (c .before .before .before .before .before .before .before .before .before .before .loop .at) (c .before .before .before .before .before .before .before .before .before .before .loop .upper) (c .before .before .before .before .before .before .before .before .before .before .loop .inv .0) (c .before .before .before .before .before .before .before .before .if1 .taken) _ _ (rw (c .before .before .before .before .before .before .before .half-at .ensures, c .before .before .before .before .before .before .place-at .ensures, c .before .before .before .before .count-at .ensures) at (c .before .before .before .look .ensures)) (c .before .if2 .left)), omega (arith, c .before .before .before .before .before .before .before .before .before .before .loop .inv .1))
+    let l = c .before .before .before .before .before .before .before .before .before .before .loop in
+    let K = rw (c .before .before .before .before .before .before .before .half-at .ensures, c .before .before .before .before .before .before .place-at .ensures, c .before .before .before .before .count-at .ensures) at (c .before .before .before .look .ensures) in
+    (rw (c .next-at .ensures, c .before .before .before .before .before .before .before .half-at .ensures) (looking-on (l .inv .0) (c .before .before .before .before .before .before .before .before .if1 .taken) K (c .before .if2 .left)), omega (arith, l .inv .1))
 
 returns-2 : tie.Need-returns-2 Inv-loop μ-loop
-returns-2 c = record { repeated = λ e. absurd (never-both e refl); none = λ _. looking-stop (c .before .before .before .before .before .args .text .now) (c .before .before .before .before .before .args .found) (c .before .before .before .before .before .args .w) (c .before .before .loop .words) (c .before .before .loop .at) (c .before .before .loop .upper) (c .before .before .loop .inv .0) (omega (arith, c .if1 .left)) }
+returns-2 c = record { repeated = λ e. absurd (never-both e refl); none = λ _. looking-stop (c .before .before .loop .inv .0) (omega (arith, c .if1 .left)) }
 
 pub repeats-in-spec : {M : Type 1} → statement M
 repeats-in-spec =

@@ -1,5 +1,5 @@
 -- `survey` judges each record, and notes which spans' records rise.
-use Rattle.flash.proofs.Kit.{_≡_, sym, _∙_, _-_, arith, length, needs}
+use Rattle.flash.proofs.Kit.{_≡_, _-_, arith, length, needs}
 use Rattle.hex.proofs.Passing.{Surveying, surveying-start, surveying-stop, surveying-on}
 use Rattle.hex.proofs.survey.survey.Statement.{statement}
 use Rattle.hex.proofs.survey.survey.Tie as tie
@@ -11,7 +11,7 @@ abbrev μ-loop : tie.MeasureT-loop
 μ-loop weights text size tops₀ at₀ upper₀ tops at upper = length text - at
 
 loop-holds : tie.Need-loop-holds Inv-loop μ-loop
-loop-holds c = (surveying-start (c .before .before .before .args .text .now) (c .before .before .before .args .size) (c .before .before .before .args .tops .now), c .before .before .before .pre .2)
+loop-holds c = (surveying-start _ _ _, c .before .before .before .pre .2)
 
 judge-at-requires : tie.Need-judge-at-requires Inv-loop μ-loop
 judge-at-requires c κs = (c .before .before .before .before .pre .0, c .loop .inv .0 .inside, c .loop .inv .0 .low)
@@ -20,10 +20,7 @@ same-length : tie.Need-same-length Inv-loop μ-loop
 same-length c = omega (arith, c .before .before .loop .inv .1, c .before .before .before .before .before .before .pre .2)
 
 returns : tie.Need-returns Inv-loop μ-loop
-returns c =
-    let l = c .before .before .loop in
-    let a = c .before .before .before .before .before .before .args in
-    surveying-stop (a .text .now) (a .size) (l .at) (l .upper) (l .tops) (l .inv .0) _ (c .before .judge-at .ensures .stops (c .if1 .taken))
+returns c = surveying-stop (c .before .before .loop .inv .0) _ (c .before .judge-at .ensures .stops (c .if1 .taken))
 
 half-at-requires : tie.Need-half-at-requires Inv-loop μ-loop
 half-at-requires c κs = (c .before .before .before .before .before .before .pre .0, (c .before .judge-at .ensures .steps (c .if1 .left)) .good)
@@ -53,9 +50,8 @@ loop-less c =
 loop-again : tie.Need-loop-again Inv-loop μ-loop
 loop-again c =
     let l = c .before .before .before .before .before .before .before .before .before .before .loop in
-    let a = c .before .before .before .before .before .before .before .before .before .before .before .before .before .before .args in
     let K = rw (c .before .before .before .before .before .before .before .half-at .ensures, c .before .before .before .before .before .place-at .ensures, c .before .before .before .before .count-at .ensures) at (c .before .before .before .note .ensures) in
-    (rw (c .next-at .ensures, c .before .before .before .before .before .before .before .half-at .ensures) (surveying-on (a .text .now) (a .size) (l .at) (l .upper) (l .tops) (l .inv .0) (c .before .before .before .before .before .before .before .before .before .judge-at .ensures .steps (c .before .before .before .before .before .before .before .before .if1 .left)) _ K (c .before .before .before .before .before .before .before .before .before .before .before .before .before .before .pre .1)), omega (arith, l .inv .1))
+    (rw (c .next-at .ensures, c .before .before .before .before .before .before .before .half-at .ensures) (surveying-on (l .inv .0) (c .before .before .before .before .before .before .before .before .before .judge-at .ensures .steps (c .before .before .before .before .before .before .before .before .if1 .left)) K (c .before .before .before .before .before .before .before .before .before .before .before .before .before .before .pre .1)), omega (arith, l .inv .1))
 
 pub survey-spec : {M : Type 1} → statement M
 survey-spec =

@@ -8,7 +8,9 @@ add-byte-at : tie.Need-add-byte-at
 add-byte-at c = omega (arith, c .before .before .pre .1 .inside)
 
 byte-at-requires : tie.Need-byte-at-requires
-byte-at-requires c κs = (c .before .before .pre .0, omega (arith, c .before .before .pre .1 .inside), kind-digits (c .before .before .args .text .now) (c .before .before .args .at) (c .before .before .pre .1))
+byte-at-requires c κs =
+    let a = c .before .before .args in
+    (c .before .before .pre .0, omega (arith, c .before .before .pre .1 .inside), kind-digits (a .text .now) (a .at) (c .before .before .pre .1))
 
 add-byte-at-2 : tie.Need-add-byte-at-2
 add-byte-at-2 c = omega (arith, c .before .before .before .before .pre .1 .inside)
@@ -19,10 +21,14 @@ byte-at-requires-2 c κs =
     (s .pre .0, omega (arith, s .pre .1 .inside), size-digits (s .args .text .now) (s .args .at) (s .pre .1))
 
 returns : tie.Need-returns
-returns c = sym (count-upper (c .before .before .before .before .args .text .now) (c .before .before .before .before .args .at) (sym (c .before .byte-at .ensures .0) ∙ c .if1 .taken))
+returns c =
+    let a = c .before .before .before .before .args in
+    sym (count-upper (a .text .now) (a .at) (sym (c .before .byte-at .ensures .0) ∙ c .if1 .taken))
 
 returns-2 : tie.Need-returns-2
-returns-2 c = c .byte-at2 .ensures .0 ∙ sym (count-data (c .before .before .before .before .before .args .text .now) (c .before .before .before .before .before .args .at) (λ e. c .before .if1 .left (c .before .before .byte-at .ensures .0 ∙ e)))
+returns-2 c =
+    let a = c .before .before .before .before .before .args in
+    c .byte-at2 .ensures .0 ∙ sym (count-data (a .text .now) (a .at) (λ e. c .before .if1 .left (c .before .before .byte-at .ensures .0 ∙ e)))
 
 pub count-at-spec : {M : Type 1} → statement M
 count-at-spec =

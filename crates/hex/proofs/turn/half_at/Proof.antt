@@ -8,7 +8,9 @@ add-byte-at : tie.Need-add-byte-at
 add-byte-at c = omega (arith, c .before .before .pre .1 .inside)
 
 byte-at-requires : tie.Need-byte-at-requires
-byte-at-requires c κs = (c .before .before .pre .0, omega (arith, c .before .before .pre .1 .inside), kind-digits (c .before .before .args .text .now) (c .before .before .args .at) (c .before .before .pre .1))
+byte-at-requires c κs =
+    let a = c .before .before .args in
+    (c .before .before .pre .0, omega (arith, c .before .before .pre .1 .inside), kind-digits (a .text .now) (a .at) (c .before .before .pre .1))
 
 add-word-at : tie.Need-add-word-at
 add-word-at c = omega (arith, c .before .before .before .before .pre .1 .inside)
@@ -21,10 +23,14 @@ word-at-requires c κs =
     (s .pre .0, omega (arith, s .pre .1 .inside, two-bytes (a .text .now) (a .at) (s .pre .1) k), upper-digits (a .text .now) (a .at) (s .pre .1) k)
 
 returns : tie.Need-returns
-returns c = c .word-at .ensures .0 ∙ sym (half-upper (c .before .before .before .before .before .args .text .now) (c .before .before .before .before .before .args .at) (c .before .before .before .before .before .args .upper) (sym (c .before .before .byte-at .ensures .0) ∙ c .before .if1 .taken))
+returns c =
+    let a = c .before .before .before .before .before .args in
+    c .word-at .ensures .0 ∙ sym (half-upper (a .text .now) (a .at) (a .upper) (sym (c .before .before .byte-at .ensures .0) ∙ c .before .if1 .taken))
 
 returns-2 : tie.Need-returns-2
-returns-2 c = sym (half-data (c .before .before .before .before .args .text .now) (c .before .before .before .before .args .at) (c .before .before .before .before .args .upper) (λ e. c .if1 .left (c .before .byte-at .ensures .0 ∙ e)))
+returns-2 c =
+    let a = c .before .before .before .before .args in
+    sym (half-data (a .text .now) (a .at) (a .upper) (λ e. c .if1 .left (c .before .byte-at .ensures .0 ∙ e)))
 
 pub half-at-spec : {M : Type 1} → statement M
 half-at-spec =

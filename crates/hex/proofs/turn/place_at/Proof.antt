@@ -8,10 +8,14 @@ add-byte-at : tie.Need-add-byte-at
 add-byte-at c = omega (arith, c .before .before .pre .1 .inside)
 
 byte-at-requires : tie.Need-byte-at-requires
-byte-at-requires c κs = (c .before .before .pre .0, omega (arith, c .before .before .pre .1 .inside), kind-digits (c .before .before .args .text .now) (c .before .before .args .at) (c .before .before .pre .1))
+byte-at-requires c κs =
+    let a = c .before .before .args in
+    (c .before .before .pre .0, omega (arith, c .before .before .pre .1 .inside), kind-digits (a .text .now) (a .at) (c .before .before .pre .1))
 
 returns : tie.Need-returns
-returns c = sym (place-upper (c .before .before .before .before .args .text .now) (c .before .before .before .before .args .at) (c .before .before .before .before .args .upper) (sym (c .before .byte-at .ensures .0) ∙ c .if1 .taken))
+returns c =
+    let a = c .before .before .before .before .args in
+    sym (place-upper (a .text .now) (a .at) (a .upper) (sym (c .before .byte-at .ensures .0) ∙ c .if1 .taken))
 
 mul-result : tie.Need-mul-result
 mul-result c = omega (arith, c .before .before .before .before .pre .2)
@@ -28,7 +32,9 @@ add-result : tie.Need-add-result
 add-result c = omega (arith, c .before .before .before .before .before .pre .2, c .word-at .ensures .1)
 
 returns-2 : tie.Need-returns-2
-returns-2 c = rw (c .word-at .ensures .0) (sym (place-data (c .before .before .before .before .before .args .text .now) (c .before .before .before .before .before .args .at) (c .before .before .before .before .before .args .upper) (λ e. c .before .if1 .left (c .before .before .byte-at .ensures .0 ∙ e))))
+returns-2 c =
+    let a = c .before .before .before .before .before .args in
+    rw (c .word-at .ensures .0) (sym (place-data (a .text .now) (a .at) (a .upper) (λ e. c .before .if1 .left (c .before .before .byte-at .ensures .0 ∙ e))))
 
 pub place-at-spec : {M : Type 1} → statement M
 place-at-spec =

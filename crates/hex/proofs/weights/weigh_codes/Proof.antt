@@ -45,7 +45,9 @@ same-length : tie.Need-same-length Inv-loop μ-loop
 same-length c = search needs
 
 returns : tie.Need-returns Inv-loop μ-loop
-returns c = record { length-is = c .before .loop .inv .2; weigh = λ code h. c .before .loop .inv .0 code (omega arith) }
+returns c =
+    let l = c .before .loop in
+    record { length-is = l .inv .2; weigh = λ code h. l .inv .0 code (omega arith) }
 
 pub weigh-codes-spec : {M : Type 1} → statement M
 weigh-codes-spec =
