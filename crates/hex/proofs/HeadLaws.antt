@@ -1,12 +1,12 @@
 -- The head of a record: what makes it good, and where its fields stand once it is.
-use Rattle.flash.proofs.Kit.{_≡_, refl, sym, ap, _∙_, ⊎-elim, Bool, true, false, List, ℕ, _+_, _*_, _%_, _≤_, _<_, arith, length, getD, eq-eqb, ne-eqb}
+use Rattle.flash.proofs.Kit.{_≡_, refl, sym, ap, _∙_, ⊎-elim, Bool, false, List, ℕ, _+_, _*_, _%_, _≤_, _<_, arith, getD, eq-eqb, ne-eqb}
 use Rattle.flash.proofs.Bools.{never-both}
 use Rattle.flash.proofs.Comparisons.{eq-cases}
 use Rattle.hex.specs.Reading.{isType}
-use Rattle.hex.specs.inner.Lines.{weightFrom, byteFrom, wordFrom, sizeAt, addressAt, kindAt, nextFrom, stopAt, AreDigits, Framed, Good, GoodIs}
+use Rattle.hex.specs.inner.Lines.{weightFrom, wordFrom, sizeAt, addressAt, kindAt, nextFrom, stopAt, AreDigits, Framed, Good, GoodIs}
 use Rattle.hex.specs.inner.Passes.{halfAt, placeAt, countAt}
 use Rattle.hex.proofs.WeightLaws.{digits-part, digits-weigh, weigh-digits, byte-weight, byte-small}
-use Rattle.hex.proofs.GoodLines.{type-upper, next-carried, next-other, next-again}
+use Rattle.hex.proofs.LineLaws.{type-upper, next-carried, next-other, next-again}
 
 module _ (text : List ℕ) (at : ℕ) where
   pub not-good : (Good text at → ⊥) → GoodIs text at false

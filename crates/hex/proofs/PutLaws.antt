@@ -1,10 +1,10 @@
 -- Bytes that digits spell, put into an image part by part.
-use Rattle.flash.proofs.Kit.{_≡_, refl, sym, ap, _∙_, List, [], _∷_, _++_, append-assoc, ℕ, zero, suc, _+_, _-_, _*_, _/_, _≤_, _<_, arith}
+use Rattle.flash.proofs.Kit.{_≡_, sym, ap, _∙_, List, _++_, append-assoc, ℕ, _+_, _-_, _*_, _≤_, _<_, arith}
 use Rattle.flash.proofs.Kit.{length, getD, take, drop, length-drop, getD-take, length-take-le, take-add, take-all, take-take, drop-drop}
 use lib.Seq.{paste, take-paste, drop-paste}
 use Rattle.hex.specs.Reading.{digitValue, pairs}
 use Rattle.hex.specs.inner.Lines.{bytesFrom, putFrom}
-use Rattle.hex.proofs.Pairs.{pairs-at, pairs-drop, length-pairs, drop-take}
+use Rattle.hex.proofs.PairLaws.{pairs-at, pairs-drop, length-pairs, drop-take}
 
 -- the length of a part that is lent
 pub lent-length : (image : List ℕ) (place count : ℕ) → place + count ≤ length image → length (take (place + count - place) (drop place image)) ≡ count

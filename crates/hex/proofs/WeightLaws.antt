@@ -1,12 +1,12 @@
 -- A sum of weights tells whether all codes are digits, and is then the sum of the bytes that they spell.
-use Rattle.flash.proofs.Kit.{_≡_, refl, sym, ap, _∙_, _⊎_, inl, inr, ⊎-elim, Bool, true, false, cond, _&&_, List, ℕ, zero, suc, _+_, _-_, _*_, _/_, _%_}
+use Rattle.flash.proofs.Kit.{_≡_, refl, sym, ap, _∙_, _⊎_, inl, inr, ⊎-elim, Bool, true, false, _&&_, List, ℕ, zero, suc, _+_, _-_, _*_, _/_, _%_}
 use Rattle.flash.proofs.Kit.{_≤_, _<_, arith, add-one, leb, length, getD, take, drop, set, length-drop, getD-set-same, getD-set-other, ltb-true, lt-ltb, le-ltb}
 use Rattle.flash.proofs.Bools.{bool-cases}
 use Rattle.flash.proofs.Comparisons.{eq-cases, lt-cases}
 use Rattle.hex.specs.Records.{total}
 use Rattle.hex.specs.Reading.{digitValue, isDigit, pairs}
-use Rattle.hex.specs.inner.Lines.{weightOf, weightFrom, byteFrom, wordFrom, AreDigits, Weights}
-use Rattle.hex.proofs.Pairs.{pairs-at, length-pairs, in-low, in-high, value-decimal, value-capital, value-small, value-none}
+use Rattle.hex.specs.inner.Lines.{weightOf, weightFrom, byteFrom, AreDigits}
+use Rattle.hex.proofs.PairLaws.{pairs-at, length-pairs, in-low, in-high, value-decimal, value-capital, value-small, value-none}
 use Rattle.hex.proofs.Prints.{total-more}
 
 pub digit-small : (code : ℕ) → isDigit code ≡ true → digitValue code < 16

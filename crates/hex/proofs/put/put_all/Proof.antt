@@ -1,7 +1,7 @@
 -- `put_all` puts every byte where it goes.
 use Rattle.flash.proofs.Kit.{_≡_, ap, _∙_, _-_, arith, length, length-replicate, needs}
 use Rattle.hex.proofs.HeadLaws.{data-digits, count-size}
-use Rattle.hex.proofs.Placing.{Placing, placing-start, placing-stop, placing-step, placing-on}
+use Rattle.hex.proofs.PlacingLaws.{Placing, placing-start, placing-stop, placing-step, placing-on}
 use Rattle.hex.proofs.put.put_all.Statement.{statement}
 use Rattle.hex.proofs.put.put_all.Tie as tie
 

@@ -1,5 +1,5 @@
 -- `put_rest` puts bytes to a place of the image.
-use Rattle.flash.proofs.Kit.{_≡_, refl, _∙_, ap, _+_, _-_, arith, drop, length, length-drop, length-take-le, needs, take}
+use Rattle.flash.proofs.Kit.{refl, _∙_, ap, arith, needs}
 use Rattle.hex.specs.inner.Lines.{bytesFrom}
 use Rattle.hex.proofs.PutLaws.{put-back, lent-length}
 use Rattle.hex.proofs.put.put_rest.Statement.{statement}

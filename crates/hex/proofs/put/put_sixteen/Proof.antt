@@ -1,5 +1,5 @@
 -- `put_sixteen` puts 16 bytes to a place of the image.
-use Rattle.flash.proofs.Kit.{refl, _∙_, arith, needs}
+use Rattle.flash.proofs.Kit.{refl, _∙_, needs}
 use Rattle.hex.proofs.PutLaws.{put-back}
 use Rattle.hex.proofs.put.put_sixteen.Statement.{statement}
 use Rattle.hex.proofs.put.put_sixteen.Tie as tie

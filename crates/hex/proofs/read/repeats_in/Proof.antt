@@ -1,7 +1,7 @@
 -- `repeats_in` looks for repeated bytes in one span.
 use Rattle.flash.proofs.Kit.{_≡_, refl, _-_, arith, length, needs}
 use Rattle.flash.proofs.Bools.{never-both}
-use Rattle.hex.proofs.Passing.{Looking, looking-start, looking-stop, looking-good, looking-goes, looking-hit, looking-on}
+use Rattle.hex.proofs.LookLaws.{Looking, looking-start, looking-stop, looking-good, looking-goes, looking-hit, looking-on}
 use Rattle.hex.proofs.read.repeats_in.Statement.{statement}
 use Rattle.hex.proofs.read.repeats_in.Tie as tie
 

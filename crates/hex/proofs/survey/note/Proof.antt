@@ -1,5 +1,5 @@
 use native.Mathlib.Omega.{arith}
-use Rattle.hex.proofs.Placing.{note-none, note-top}
+use Rattle.hex.proofs.SurveyLaws.{note-none, note-top}
 use borrow.Author.Needs.{needs}
 use Rattle.hex.proofs.survey.note.Statement.{statement}
 use Rattle.hex.proofs.survey.note.Tie as tie

@@ -1,6 +1,6 @@
 -- `survey` judges each record, and notes which spans' records rise.
-use Rattle.flash.proofs.Kit.{_≡_, _-_, arith, length, needs}
-use Rattle.hex.proofs.Passing.{Surveying, surveying-start, surveying-stop, surveying-on}
+use Rattle.flash.proofs.Kit.{_≡_, _-_, arith, length}
+use Rattle.hex.proofs.SurveyLaws.{Surveying, surveying-start, surveying-stop, surveying-on}
 use Rattle.hex.proofs.survey.survey.Statement.{statement}
 use Rattle.hex.proofs.survey.survey.Tie as tie
 

@@ -1,5 +1,5 @@
 -- `count_at` gives the number of a record's bytes.
-use Rattle.flash.proofs.Kit.{sym, _∙_, arith, needs}
+use Rattle.flash.proofs.Kit.{sym, _∙_, arith}
 use Rattle.hex.proofs.HeadLaws.{kind-digits, size-digits, count-upper, count-data}
 use Rattle.hex.proofs.turn.count_at.Statement.{statement}
 use Rattle.hex.proofs.turn.count_at.Tie as tie

@@ -1,5 +1,5 @@
 -- `half_at` gives the upper half behind a record.
-use Rattle.flash.proofs.Kit.{sym, _∙_, arith, needs}
+use Rattle.flash.proofs.Kit.{sym, _∙_, arith}
 use Rattle.hex.proofs.HeadLaws.{kind-digits, upper-digits, two-bytes, half-upper, half-data}
 use Rattle.hex.proofs.turn.half_at.Statement.{statement}
 use Rattle.hex.proofs.turn.half_at.Tie as tie

@@ -1,9 +1,8 @@
 -- `judge_at` decides the number, or finds that the pass goes on.
-use Rattle.flash.proofs.Kit.{_≡_, refl, sym, _∙_, inl, inr, ap, ap₂, _+_, arith, length, needs, not-false, not-true}
-use Rattle.flash.proofs.Bools.{never-both}
-use Rattle.hex.proofs.GoodLines.{bad-record}
+use Rattle.flash.proofs.Kit.{sym, _∙_, inl, inr, arith, not-false, not-true}
+use Rattle.hex.proofs.LineLaws.{bad-record}
 use Rattle.hex.proofs.HeadLaws.{kind-digits, size-small, count-size}
-use Rattle.hex.proofs.Turns.{stops-nothing, stops-malformed, stops-end, stops-after, stops-outside, steps, judged-stop, judged-step, place-small}
+use Rattle.hex.proofs.TurnLaws.{stops-nothing, stops-malformed, stops-end, stops-after, stops-outside, steps, judged-stop, judged-step, place-small}
 use Rattle.hex.proofs.turn.judge_at.Statement.{statement}
 use Rattle.hex.proofs.turn.judge_at.Tie as tie
 

@@ -1,5 +1,5 @@
 -- `place_at` gives the place of a record's bytes.
-use Rattle.flash.proofs.Kit.{sym, _∙_, arith, needs}
+use Rattle.flash.proofs.Kit.{sym, _∙_, arith}
 use Rattle.hex.proofs.HeadLaws.{kind-digits, address-digits, place-upper, place-data}
 use Rattle.hex.proofs.turn.place_at.Statement.{statement}
 use Rattle.hex.proofs.turn.place_at.Tie as tie

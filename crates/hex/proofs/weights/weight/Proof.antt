@@ -1,6 +1,6 @@
 -- `weight` values a code by comparisons.
 use Rattle.flash.proofs.Kit.{arith, needs, sym}
-use Rattle.hex.proofs.Pairs.{in-low, in-high, value-decimal, value-capital, value-small, value-none}
+use Rattle.hex.proofs.PairLaws.{in-low, in-high, value-decimal, value-capital, value-small, value-none}
 use Rattle.hex.proofs.WeightLaws.{weight-value, weight-none}
 use Rattle.hex.proofs.weights.weight.Statement.{statement}
 use Rattle.hex.proofs.weights.weight.Tie as tie

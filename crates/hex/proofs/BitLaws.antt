@@ -1,20 +1,20 @@
 -- Laws of bits in words of 64.
 use mathlib.Core.Path.{_≡_, refl, ap, sym, _∙_}
-use mathlib.Core.Bool.{Bool, true, false, _||_, or-false}
+use mathlib.Core.Bool.{true, false}
 use mathlib.Core.Logic.{_⊎_, inl, inr, ⊎-elim}
 use mathlib.Core.List.{List}
-use Prim.Native.Nat.{ℕ, zero, suc, _+_, _*_, _-_, _/_, _%_, _^_, _≤_, _<_, max}
+use Prim.Native.Nat.{ℕ, suc, _+_, _-_, _/_, _%_, _^_, _≤_, _<_, max}
 use native.Mathlib.Nat.{pow-suc, div-eq-of-lt, div-self, mod-lt}
 use native.Mathlib.Decide.{decLt}
 use native.Mathlib.Omega.{arith}
 use lib.Dec.{eqb}
-use lib.ListN.{length, getD, set, replicate, getD-replicate, length-replicate}
+use lib.ListN.{length, getD, set, replicate, getD-replicate}
 use lib.Seq.{getD-set-same, getD-set-other}
 use lib.Pow.{pow-pos, pow-lt, pow-add, shl-shr}
 use lib.Bits.{bitOr, or-step, or-shr}
-use borrow.Author.Tests.{eq-eqb, eqb-false}
+use borrow.Author.Tests.{eq-eqb}
 use Rattle.flash.specs.Lists.{any, range}
-use Rattle.flash.proofs.Bools.{bool-cases, never-both}
+use Rattle.flash.proofs.Bools.{never-both}
 use Rattle.flash.proofs.Comparisons.{eq-cases}
 use Rattle.flash.proofs.Ranges.{any-is}
 use Rattle.hex.proofs.RangeLaws.{any-more}

@@ -1,5 +1,5 @@
 -- A record that is judged where it stands is the line that the definitions cut out of the text, and no other is good.
-use Rattle.flash.proofs.Kit.{_≡_, refl, sym, ap, _∙_, _⊎_, inl, inr, ⊎-elim, Bool, true, false, cond, _&&_, and-false, List, [], _∷_, _++_, Option, none, some}
+use Rattle.flash.proofs.Kit.{_≡_, refl, sym, ap, _∙_, _⊎_, inl, inr, ⊎-elim, Bool, true, false, _&&_, and-false, List, [], _∷_, _++_, Option, none, some}
 use Rattle.flash.proofs.Kit.{ℕ, zero, suc, _+_, _-_, _*_, _%_, _≤_, _<_, arith, add-one, eqb, length, getD, take, drop, length-take, length-drop, drop-of-length-le}
 use Rattle.flash.proofs.Kit.{getD-drop, getD-take, drop-cons, take-suc, drop-drop, take-take, length-take-le, ne-eqb, eq-eqb, eqb-true, List·getD-eq-default, subst}
 use Rattle.flash.specs.Lists.{all}
@@ -9,8 +9,8 @@ use Rattle.flash.proofs.Searches.{all-at, all-of}
 use Rattle.hex.specs.Records.{Record, total}
 use Rattle.hex.specs.Reading.{unended, linesFrom, digitValue, isDigit, pairs, uncarried, isType, isKnown, spelt, isGood, parse, parseLine, recordsIn}
 use Rattle.hex.specs.inner.Lines.{weightFrom, nextFrom, byteFrom, bytesFrom, sizeAt, addressAt, kindAt, stopAt, bytesAt, AreDigits, Good}
-use Rattle.hex.proofs.Pairs.{pairs-at, pairs-take, pairs-drop, drop-take, spelt-size, length-pairs, good-is}
-use Rattle.hex.proofs.WeightLaws.{digits-part, digit-small, byte-small, weight-total}
+use Rattle.hex.proofs.PairLaws.{pairs-at, pairs-take, pairs-drop, drop-take, spelt-size, good-is}
+use Rattle.hex.proofs.WeightLaws.{weight-total}
 
 -- ---- where a line ends
 module _ (text : List ℕ) (stop : ℕ) where
