@@ -6,7 +6,8 @@ use Rattle.hex.specs.Reading.{isType}
 use Rattle.hex.specs.inner.Lines.{weightFrom, wordFrom, sizeAt, addressAt, kindAt, nextFrom, stopAt, AreDigits, Framed, Good, GoodIs}
 use Rattle.hex.specs.inner.Passes.{halfAt, placeAt, countAt}
 use Rattle.hex.proofs.WeightLaws.{digits-part, digits-weigh, weigh-digits, byte-weight, byte-small}
-use Rattle.hex.proofs.LineLaws.{type-upper, next-carried, next-other, next-again}
+use Rattle.hex.proofs.LineEnds.{next-carried, next-other, next-again}
+use Rattle.hex.proofs.LineLaws.{type-upper}
 
 module _ (text : List ℕ) (at : ℕ) where
   pub not-good : (Good text at → ⊥) → GoodIs text at false

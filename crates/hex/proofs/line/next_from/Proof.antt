@@ -1,6 +1,6 @@
 -- `next_from` gives the position behind a line's end.
 use Rattle.flash.proofs.Kit.{arith, needs, sym}
-use Rattle.hex.proofs.LineLaws.{next-plain, next-carried, next-other, next-unended, next-again}
+use Rattle.hex.proofs.LineEnds.{next-plain, next-carried, next-other, next-unended, next-again}
 use Rattle.hex.proofs.line.next_from.Statement.{statement}
 use Rattle.hex.proofs.line.next_from.Tie as tie
 

@@ -1,6 +1,6 @@
 -- `next_at` gives the position behind a record.
 use Rattle.flash.proofs.Kit.{_≡_, ℕ, _+_, _*_, sym, _∙_, ap, arith, getD, needs}
-use Rattle.hex.proofs.LineLaws.{next-plain}
+use Rattle.hex.proofs.LineEnds.{next-plain}
 use Rattle.hex.proofs.HeadLaws.{size-digits, next-after}
 use Rattle.hex.specs.inner.Lines.{stopAt}
 use Rattle.hex.proofs.turn.next_at.Statement.{statement}
