@@ -1,18 +1,8 @@
 -- Laws of bits in words of 64.
-use mathlib.Core.Path.{_≡_, refl, ap, sym, _∙_}
-use mathlib.Core.Bool.{true, false}
-use mathlib.Core.Logic.{_⊎_, inl, inr, ⊎-elim}
-use mathlib.Core.List.{List}
-use Prim.Native.Nat.{ℕ, suc, _+_, _-_, _/_, _%_, _^_, _≤_, _<_, max}
-use native.Mathlib.Nat.{pow-suc, div-eq-of-lt, div-self, mod-lt}
+use Rattle.flash.proofs.Kit.{_≡_, refl, ap, sym, _∙_, true, false, _⊎_, inl, inr, ⊎-elim, List, ℕ, suc, _+_, _-_, _/_, _%_, _^_, _≤_, _<_, max}
+use Rattle.flash.proofs.Kit.{pow-suc, div-eq-of-lt, div-self, mod-lt, arith, eqb, length, getD, set, replicate, getD-replicate, getD-set-same}
+use Rattle.flash.proofs.Kit.{getD-set-other, pow-pos, pow-lt, pow-add, shl-shr, bitOr, or-step, or-shr, eq-eqb}
 use native.Mathlib.Decide.{decLt}
-use native.Mathlib.Omega.{arith}
-use lib.Dec.{eqb}
-use lib.ListN.{length, getD, set, replicate, getD-replicate}
-use lib.Seq.{getD-set-same, getD-set-other}
-use lib.Pow.{pow-pos, pow-lt, pow-add, shl-shr}
-use lib.Bits.{bitOr, or-step, or-shr}
-use borrow.Author.Tests.{eq-eqb}
 use Rattle.flash.specs.Lists.{any, range}
 use Rattle.flash.proofs.Bools.{never-both}
 use Rattle.flash.proofs.Comparisons.{eq-cases}

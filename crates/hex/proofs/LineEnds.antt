@@ -1,7 +1,7 @@
 -- Where the line that starts at a position ends, and where its digits do.
-use Rattle.flash.proofs.Kit.{_≡_, refl, sym, ap, _∙_, _⊎_, inl, inr, ⊎-elim, and-false, List, [], _∷_, _++_, none, some}
-use Rattle.flash.proofs.Kit.{ℕ, zero, suc, _+_, _-_, _≤_, _<_, arith, add-one, length, getD, take, drop, length-take, length-drop, drop-of-length-le}
-use Rattle.flash.proofs.Kit.{getD-drop, getD-take, drop-cons, take-suc, take-take, length-take-le, ne-eqb, eq-eqb, List·getD-eq-default}
+use Rattle.flash.proofs.Kit.{_≡_, refl, sym, ap, _∙_, _⊎_, inl, inr, ⊎-elim, and-false, List, [], _∷_, _++_, none, some, ℕ, zero, suc, _+_, _-_, _≤_}
+use Rattle.flash.proofs.Kit.{_<_, arith, add-one, length, getD, take, drop, length-take, length-drop, drop-of-length-le, getD-drop, getD-take}
+use Rattle.flash.proofs.Kit.{drop-cons, take-suc, take-take, length-take-le, ne-eqb, eq-eqb, List·getD-eq-default}
 use Rattle.flash.proofs.Comparisons.{eq-cases, lt-cases}
 use Rattle.hex.specs.Reading.{unended, linesFrom, uncarried}
 use Rattle.hex.specs.inner.Lines.{nextFrom}
@@ -45,6 +45,11 @@ pub record StopIs (text : List ℕ) (at end r : ℕ) : Type 0 where
   pub last : (r ≡ end) ⊎ ((r + 1 ≡ end) × (getD text r 0 ≡ 13))
   pub is : take (r - at) (drop at text) ≡ uncarried (take (end - at) (drop at text))
 
+pub unended-some : (line : List ℕ) → 1 ≤ length line → unended line ≡ none ∷ []
+unfolding unended
+unended-some [] h = absurd (omega arith)
+unended-some (x ∷ line) h = refl
+
 module _ (text : List ℕ) (at : ℕ) where
   -- the line's codes before a position
   abbrev begun : ℕ → List ℕ
@@ -72,11 +77,6 @@ module _ (text : List ℕ) (at : ℕ) where
   line-found : (i : ℕ) → i < length text → getD text i 0 ≡ 10 → linesFrom (begun i) (drop i text) ≡ some (begun i) ∷ linesFrom [] (drop (i + 1) text)
   unfolding linesFrom
   line-found i h e = rw (add-one i, drop-cons text i 0 h, eq-eqb (getD text i 0) 10 e)
-
-  unended-some : (line : List ℕ) → 1 ≤ length line → unended line ≡ none ∷ []
-  unfolding unended
-  unended-some [] h = absurd (omega arith)
-  unended-some (x ∷ line) h = refl
 
   line-missed : (i : ℕ) → i ≡ length text → at < length text → linesFrom (begun i) (drop i text) ≡ none ∷ []
   unfolding linesFrom

@@ -1,7 +1,7 @@
 -- A record that is judged where it stands is the line that the definitions cut out of the text, and no other is good.
-use Rattle.flash.proofs.Kit.{_≡_, refl, sym, ap, _∙_, ⊎-elim, Bool, true, false, _&&_, List, [], _∷_, Option, none, some}
-use Rattle.flash.proofs.Kit.{ℕ, zero, suc, _+_, _-_, _*_, _%_, _≤_, _<_, arith, eqb, length, getD, take, drop, length-drop}
-use Rattle.flash.proofs.Kit.{getD-drop, getD-take, drop-drop, take-take, length-take-le, eqb-true, List·getD-eq-default, subst}
+use Rattle.flash.proofs.Kit.{_≡_, refl, sym, ap, _∙_, ⊎-elim, Bool, true, false, _&&_, List, [], _∷_, Option, none, some, ℕ, zero, suc, _+_, _-_, _*_}
+use Rattle.flash.proofs.Kit.{_%_, _≤_, _<_, arith, eqb, length, getD, take, drop, length-drop, getD-drop, getD-take, drop-drop, take-take}
+use Rattle.flash.proofs.Kit.{length-take-le, eqb-true, List·getD-eq-default, subst}
 use Rattle.flash.specs.Lists.{all}
 use Rattle.flash.proofs.Bools.{and-left, and-right, bool-cases, never-both}
 use Rattle.flash.proofs.Comparisons.{eq-cases, lt-cases}
@@ -172,9 +172,9 @@ module _ (text : List ℕ) (at end stop : ℕ) (E : EndIs text at end) (inside :
       }
 
 -- what is no such record is malformed
-pub bad-record : (text : List ℕ) (at : ℕ) → at < length text → (Good text at → ⊥) → (rest : List (Option Record)) × (recordsIn (drop at text) ≡ none ∷ rest)
+pub bad-record : {text : List ℕ} {at : ℕ} → at < length text → (Good text at → ⊥) → (rest : List (Option Record)) × (recordsIn (drop at text) ≡ none ∷ rest)
 unfolding recordsIn parseLine parse
-bad-record text at h f =
+bad-record {text} {at} h f =
     let found = end-from text at (length text - at) at (omega arith) (omega arith) (line-starts text at) in
     let end : ℕ = found .0 in
     let E : EndIs text at end = found .1 in

@@ -1,6 +1,6 @@
 -- What the pass that looks at one span keeps from one record to the next.
-use Rattle.flash.proofs.Kit.{_≡_, sym, ap, _∙_, Bool, true, false, cond, _&&_, List, Option, none, ℕ, _+_, _*_, _≤_, _<_, arith}
-use Rattle.flash.proofs.Kit.{length, take, drop, replicate, length-replicate}
+use Rattle.flash.proofs.Kit.{_≡_, sym, ap, _∙_, Bool, true, false, cond, _&&_, List, Option, none, ℕ, _+_, _*_, _≤_, _<_, arith, length, take, drop}
+use Rattle.flash.proofs.Kit.{replicate, length-replicate}
 use Rattle.flash.specs.Lists.{any}
 use Rattle.hex.specs.Reading.{recordsIn, going, fault, isGiven, numberOf}
 use Rattle.hex.specs.declared.survey.Found.{Found}

@@ -1,6 +1,6 @@
 -- Bytes that digits spell, put into an image part by part.
-use Rattle.flash.proofs.Kit.{_≡_, sym, ap, _∙_, List, _++_, append-assoc, ℕ, _+_, _-_, _*_, _≤_, _<_, arith}
-use Rattle.flash.proofs.Kit.{length, getD, take, drop, length-drop, getD-take, length-take-le, take-add, take-all, take-take, drop-drop}
+use Rattle.flash.proofs.Kit.{_≡_, sym, ap, _∙_, List, _++_, append-assoc, ℕ, _+_, _-_, _*_, _≤_, _<_, arith, length, getD, take, drop, length-drop}
+use Rattle.flash.proofs.Kit.{getD-take, length-take-le, take-add, take-all, take-take, drop-drop}
 use lib.Seq.{paste, take-paste, drop-paste}
 use Rattle.hex.specs.Reading.{digitValue, pairs}
 use Rattle.hex.specs.inner.Lines.{bytesFrom, putFrom}

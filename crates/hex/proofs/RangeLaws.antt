@@ -1,9 +1,5 @@
 -- A range that grows by one number, and a test of it, for the turn of a loop.
-use mathlib.Core.Path.{_≡_, ap}
-use mathlib.Core.Bool.{Bool, _||_, or-false}
-use mathlib.Core.List.{List, [], _∷_, _++_}
-use Prim.Native.Nat.{ℕ, zero, suc, _+_}
-use native.Mathlib.Omega.{arith}
+use Rattle.flash.proofs.Kit.{_≡_, ap, Bool, _||_, or-false, List, [], _∷_, _++_, ℕ, zero, suc, _+_, arith}
 use Rattle.flash.specs.Lists.{range, any}
 use Rattle.flash.proofs.Searches.{any-append}
 

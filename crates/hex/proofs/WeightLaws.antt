@@ -1,6 +1,7 @@
 -- A sum of weights tells whether all codes are digits, and is then the sum of the bytes that they spell.
 use Rattle.flash.proofs.Kit.{_≡_, refl, sym, ap, _∙_, _⊎_, inl, inr, ⊎-elim, Bool, true, false, _&&_, List, ℕ, zero, suc, _+_, _-_, _*_, _/_, _%_}
-use Rattle.flash.proofs.Kit.{_≤_, _<_, arith, add-one, leb, length, getD, take, drop, set, length-drop, getD-set-same, getD-set-other, ltb-true, lt-ltb, le-ltb}
+use Rattle.flash.proofs.Kit.{_≤_, _<_, arith, add-one, leb, length, getD, take, drop, set, length-drop, getD-set-same, getD-set-other, ltb-true}
+use Rattle.flash.proofs.Kit.{lt-ltb, le-ltb}
 use Rattle.flash.proofs.Bools.{bool-cases}
 use Rattle.flash.proofs.Comparisons.{eq-cases, lt-cases}
 use Rattle.hex.specs.Records.{total}

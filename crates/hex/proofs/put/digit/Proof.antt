@@ -1,3 +1,4 @@
+-- `digit` values a digit by its bits.
 use Rattle.flash.proofs.Kit.{arith, needs}
 use Rattle.hex.proofs.WeightLaws.{digit-bits, digit-small}
 use Rattle.hex.proofs.put.digit.Statement.{statement}

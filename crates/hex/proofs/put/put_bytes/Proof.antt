@@ -1,5 +1,6 @@
 -- `put_bytes` leaves the bytes that digits spell in a part.
-use Rattle.flash.proofs.Kit.{_≡_, refl, sym, ap, _∙_, ℕ, _+_, _*_, _++_, append-nil, _-_, _≤_, arith, drop, drop-length, getD, length, length-set, needs, take, take-all}
+use Rattle.flash.proofs.Kit.{_≡_, refl, sym, ap, _∙_, ℕ, _+_, _*_, _++_, append-nil, _-_, _≤_, arith, drop, drop-length, getD, length, length-set}
+use Rattle.flash.proofs.Kit.{needs, take, take-all}
 use Rattle.flash.proofs.Loops.{front-more}
 use Rattle.hex.specs.Reading.{isDigit}
 use Rattle.hex.specs.inner.Lines.{bytesFrom}

@@ -1,6 +1,5 @@
-use mathlib.Core.Logic.{inl, inr}
-use mathlib.Core.Path.{refl}
-use borrow.Author.Needs.{needs}
+-- `next_top` gives where a span ends, or that it fell.
+use Rattle.flash.proofs.Kit.{inl, inr, refl, needs}
 use Rattle.hex.proofs.survey.next_top.Statement.{statement}
 use Rattle.hex.proofs.survey.next_top.Tie as tie
 

@@ -1,6 +1,6 @@
-use native.Mathlib.Omega.{arith}
+-- `note` notes the span of a record that has bytes.
+use Rattle.flash.proofs.Kit.{arith, needs}
 use Rattle.hex.proofs.SurveyLaws.{note-none, note-top}
-use borrow.Author.Needs.{needs}
 use Rattle.hex.proofs.survey.note.Statement.{statement}
 use Rattle.hex.proofs.survey.note.Tie as tie
 
