@@ -89,7 +89,7 @@ static inline uint64_t good_length(const uint8_t *at, uint32_t count)
 }
 
 /* What the first pass finds: the number of the first fault that is not a byte given twice, how much of the text is good before it, and
- * the spans in which the records do not rise. */
+ * the spans in which the records do not rise. Where each starts at the end of the one before or above it, none overlap. */
 struct judged {
     uint32_t number;
     uint64_t good;
@@ -104,7 +104,7 @@ static inline uint32_t note(struct judged *j, struct header h, uint32_t upper, u
     if (end > SPAN || (uint64_t)upper * SPAN + end > image)
         return 9;
     j->fell[upper] |= h.address < j->end[upper];
-    j->end[upper] = end > j->end[upper] ? end : j->end[upper];
+    j->end[upper] = end;
     return 0;
 }
 

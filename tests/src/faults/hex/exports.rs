@@ -8,8 +8,13 @@ use crate::simulator::hex::rules::HexRules;
 use crate::simulator::sizes::Sizes;
 use std::slice;
 
-/// What a mover does to lent memory beside the rules.
+/// What a mover does with lent memory beside the rules.
 pub trait HexManners {
+    /// How much of a part is seen.
+    fn seen(_part: HexPart, len: usize) -> usize {
+        len
+    }
+
     /// # Safety
     /// The part must lie inside a live buffer, with room on both sides.
     unsafe fn harm(_call: HexCall, _part: HexPart, _raw: Raw) {}
@@ -42,7 +47,8 @@ unsafe fn serve<R: HexRules, M: HexManners>(
 ) -> u32 {
     let mut parts = HexParts::default();
     for (part, raw) in loan {
-        *parts.get_mut(part) = slice::from_raw_parts(raw.start, raw.len).to_vec();
+        let seen = M::seen(part, raw.len);
+        *parts.get_mut(part) = slice::from_raw_parts(raw.start, seen).to_vec();
     }
     let sizes = Sizes {
         n,

@@ -18,6 +18,7 @@ pub fn faults() -> Vec<HexFault> {
         rude::<Before<TEXT>>("a byte before the HEX text is written"),
         rude::<Before<STORE>>("a byte before the store is written by a HEX call"),
         rude::<Before<MARKS>>("a byte before the marks is written by a HEX call"),
+        rude::<ReadsOn>("a byte behind the HEX text is read"),
         rude::<Inside<TEXT>>("the HEX text that is read is changed"),
         rude::<Inside<STORE>>("the store that a HEX text is written of is changed"),
         rude::<Inside<MARKS>>("the marks that a HEX text is written of are changed"),
@@ -46,6 +47,14 @@ impl<const PART: usize> HexManners for Before<PART> {
         if part as usize == PART {
             *raw.start.sub(1) = 0;
         }
+    }
+}
+
+struct ReadsOn;
+
+impl HexManners for ReadsOn {
+    fn seen(part: HexPart, len: usize) -> usize {
+        len + (part == HexPart::Text) as usize
     }
 }
 

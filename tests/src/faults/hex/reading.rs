@@ -103,6 +103,7 @@ fn orders() -> Vec<HexFault> {
         fault::<LastGiven>("the last of two bytes in one place counts"),
         fault::<NeighboursOnly>("a byte given twice is seen in neighbouring records only"),
         fault::<SpanOnly>("a byte given twice is seen while the upper half stays"),
+        fault::<NotInTheLast>("a byte given twice is not seen in the last of all spans"),
         fault::<FirstByteOnly>("only a record's first byte is looked for twice"),
         fault::<RisingOnly>("records that do not rise are refused"),
     ]
@@ -199,6 +200,11 @@ but_for! {
     SpanOnly {
         fn verdict(reading: &Reading, line: &[u8]) -> Option<u32> {
             unless_twice(reading, line, reading.upper != 0)
+        }
+    }
+    NotInTheLast {
+        fn verdict(reading: &Reading, line: &[u8]) -> Option<u32> {
+            unless_twice(reading, line, reading.upper == 255)
         }
     }
     FirstByteOnly {

@@ -7,7 +7,8 @@ use crate::simulator::hex::request::{HexAnswer, HexCall, HexParts, HexRequest};
 /// The mover's answer, or what it damaged.
 pub fn drive(calls: &HexCalls, request: &HexRequest) -> Result<HexAnswer, String> {
     let parts = &request.parts;
-    let mut text = Lent::new(&parts.text);
+    // A last line that is not ended would be, one byte further on.
+    let mut text = Lent::within(&parts.text, b'\n');
     let mut store = Lent::new(&parts.store);
     let mut marks = Lent::new(&parts.marks);
     let sizes = &request.sizes;

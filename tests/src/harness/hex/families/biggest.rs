@@ -38,6 +38,19 @@ fn scattered(comparer: &mut HexComparer, random: &mut Random) -> Outcome {
             comparer.compare(&draft.request(random))?;
         }
     }
+    ends(comparer, random)
+}
+
+/// A byte given twice in the first span or the last, with others between.
+fn ends(comparer: &mut HexComparer, random: &mut Random) -> Outcome {
+    let shape = sizes(64, 64, 4096);
+    let image = shape.image_bytes();
+    for twice in [0..16, image - 16..image] {
+        let others = (0..image).step_by(SPAN).map(|start| start + 32..start + 48);
+        let places = [vec![twice.clone()], others.collect(), vec![twice]];
+        let draft = Draft::new(shape, places.concat(), random);
+        comparer.compare(&draft.request(random))?;
+    }
     Ok(())
 }
 
