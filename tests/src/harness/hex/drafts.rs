@@ -130,7 +130,8 @@ impl Draft {
         let mut upper = 0;
         for piece in pieces {
             if random.one_in(16) {
-                let other = *random.pick(&[0, 1, 255, 256, 0xffff, upper]);
+                let any = random.below(SPAN);
+                let other = *random.pick(&[0, 1, 255, 256, 0xffff, upper, any]);
                 draft.lines.push((upper, upper_line(other)));
                 upper = other;
             }
