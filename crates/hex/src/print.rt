@@ -20,7 +20,8 @@ fn digit_of(d: u8) -> u8
     requires { ⌜ d < 16 ⌝ }
     ensures { λ r. ⌜ r ≡ digitOf capitals d ⌝ }
 {
-    if d < 10 { 48 + d } else { 55 + d }
+    let zero = if d < 10 { 48 } else { 55 };
+    zero + d
 }
 
 // What stands in front of the checksum is put into an area; behind it the area stays.
