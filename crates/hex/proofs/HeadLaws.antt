@@ -1,12 +1,11 @@
 -- The head of a record: what makes it good, and where its fields stand once it is.
-use Rattle.flash.proofs.Kit.{_≡_, refl, sym, ap, _∙_, ⊎-elim, Bool, false, List, ℕ, _+_, _*_, _%_, _≤_, _<_, arith, getD, eq-eqb, ne-eqb}
+use Rattle.flash.proofs.Kit.{_≡_, refl, sym, ap, _∙_, ⊎-elim, Bool, false, List, ℕ, _+_, _*_, _%_, _≤_, _<_, arith, eq-eqb, ne-eqb}
 use Rattle.flash.proofs.Bools.{never-both}
 use Rattle.flash.proofs.Comparisons.{eq-cases}
 use Rattle.hex.specs.Reading.{isType}
-use Rattle.hex.specs.inner.Lines.{weightFrom, wordFrom, sizeAt, addressAt, kindAt, nextFrom, stopAt, AreDigits, Framed, Good, GoodIs}
+use Rattle.hex.specs.inner.Lines.{weightFrom, wordFrom, sizeAt, addressAt, kindAt, AreDigits, Framed, Good, GoodIs}
 use Rattle.hex.specs.inner.Passes.{halfAt, placeAt, countAt}
 use Rattle.hex.proofs.WeightLaws.{digits-part, digits-weigh, weigh-digits, byte-weight, byte-small}
-use Rattle.hex.proofs.LineEnds.{next-carried, next-other, next-again}
 use Rattle.hex.proofs.LineLaws.{type-upper}
 
 module _ (text : List ℕ) (at : ℕ) where
@@ -44,17 +43,6 @@ module _ (text : List ℕ) (at : ℕ) where
 
     pub all-light : weightFrom text (at + 1) (5 + sizeAt text at) < 131072
     all-light = omega (arith, digits-weigh text (at + 1) (5 + sizeAt text at) (λ i h. G .digits i (omega arith)), size-small)
-
-    pub next-after : (getD text (stopAt text at) 0 ≡ 10 → ⊥) → nextFrom text (stopAt text at) ≡ stopAt text at + 2
-    next-after f =
-        ⊎-elim
-        (λ (e : getD text (stopAt text at) 0 ≡ 13).
-        ⊎-elim
-        (λ (d : getD text (stopAt text at + 1) 0 ≡ 10). next-carried text (stopAt text at) e d)
-        (λ (g : getD text (stopAt text at + 1) 0 ≡ 10 → ⊥). absurd (G .ends (next-again text (stopAt text at) f g)))
-        (eq-cases (getD text (stopAt text at + 1) 0) 10))
-        (λ (g : getD text (stopAt text at) 0 ≡ 13 → ⊥). absurd (G .ends (next-other text (stopAt text at) f g)))
-        (eq-cases (getD text (stopAt text at) 0) 13)
 
   -- ---- of one that is judged
   pub first-is : (first size : ℕ) → first ≡ weightFrom text (at + 1) 1 → first ≤ 255 → size ≡ first → size ≡ sizeAt text at

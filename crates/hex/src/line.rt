@@ -17,7 +17,7 @@ const CARRIAGE_RETURN: u8 = 13;
 const COLON: u8 = 58;
 
 // The position behind a line whose digits end at a position, or 0 if it does not end there.
-fn next_from(text: &[u8], stop: usize) -> usize
+pub fn next_from(text: &[u8], stop: usize) -> usize
     requires { ⌜ stop < length (now text) ⌝ }
     ensures { λ r. ⌜ r ≡ nextFrom (now (text .entry)) stop ⌝ }
 {
