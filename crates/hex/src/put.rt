@@ -1,9 +1,8 @@
 // The last pass over a text that has no fault: its bytes are put into the image.
 ghost use mathlib.Core.Bool.{true};
-ghost use mathlib.Core.List.{_++_};
 ghost use mathlib.Core.Path.{_≡_};
 ghost use Prim.Native.Nat.{_+_, _*_, _≤_, _<_};
-ghost use lib.ListN.{length, take, drop};
+ghost use lib.ListN.{length};
 ghost use Rattle.hex.specs.Reading.{digitValue, isDigit, bytesOf};
 ghost use Rattle.hex.specs.inner.Lines.{Weights, AreDigits, bytesFrom, putFrom};
 ghost use Rattle.hex.specs.inner.Passes.{judgedBy, nowhere, Walk};
@@ -43,7 +42,7 @@ fn put_bytes(text: &[u8], from: usize, part: &mut [u8])
     }
 }
 
-// Sixteen bytes are gathered before they are put, so that no byte put could be one of those yet to be read, and both loops become vector instructions.
+// Sixteen bytes are gathered before they are put: no byte put could then be one yet to be read, and both loops become vector instructions.
 fn put_sixteen(text: &[u8], from: usize, image: &mut [u8], place: usize)
     requires { ⌜ (from + 32 ≤ length (now text)) × AreDigits (now text) from 32 × (place + 16 ≤ length (now image)) ⌝ }
     ensures { λ _. ⌜ now (image .exit) ≡ putFrom (now (text .entry)) from 16 (now (image .entry)) place ⌝ }

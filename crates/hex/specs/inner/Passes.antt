@@ -65,13 +65,17 @@ nextAt text at = nextFrom text (stopAt text at)
 -- ---- one turn of a pass
 -- the number is known
 pub record Stops (text : List ℕ) (at upper size number : ℕ) : Type 0 where
-  pub number-is : (looked : ℕ → Bool) (given : List (Option ℕ)) → numberOf (judgeAllIn looked size (going (stateOf upper given)) (recordsIn (drop at text))) ≡ number
-  pub image-is : number ≡ 0 → (looked : ℕ → Bool) (given : List (Option ℕ)) → bytesOf (judgeAllIn looked size (going (stateOf upper given)) (recordsIn (drop at text))) ≡ map byteOf given
+  pub number-is : (looked : ℕ → Bool) (given : List (Option ℕ))
+      → numberOf (judgeAllIn looked size (going (stateOf upper given)) (recordsIn (drop at text))) ≡ number
+  pub image-is : number ≡ 0 → (looked : ℕ → Bool) (given : List (Option ℕ))
+      → bytesOf (judgeAllIn looked size (going (stateOf upper given)) (recordsIn (drop at text))) ≡ map byteOf given
 
 -- `count` bytes go to `place`, none of them for a record of type 04
 pub record Goes (text : List ℕ) (at upper size half place count next : ℕ) : Type 0 where
   pub is : (looked : ℕ → Bool) (given : List (Option ℕ)) → judgeAllIn looked size (going (stateOf upper given)) (recordsIn (drop at text))
-      ≡ judgeAllIn looked size (cond (looked half && any isGiven (take count (drop place given))) (fault 10) (going (stateOf half (putAt given place (bytesAt text at count))))) (recordsIn (drop next text))
+      ≡ judgeAllIn looked size
+      (cond (looked half && any isGiven (take count (drop place given))) (fault 10) (going (stateOf half (putAt given place (bytesAt text at count)))))
+      (recordsIn (drop next text))
   pub inside : at + 11 + 2 * count < next
   pub ends : next ≤ length text
   pub fits : place + count ≤ size
