@@ -48,10 +48,40 @@ static int type_fits(struct header h)
     return h.type == 0 ? h.count != 0 : h.address == 0 && h.count == (h.type == 4 ? 2 : 0) && (h.type == 4 || h.type == 1);
 }
 
+/* How far a character is above the lowest digit of its kind, or 255 where it is none. */
+static inline uint8_t rank(uint8_t c)
+{
+    uint8_t d = (uint8_t)(c - '0'), l = (uint8_t)((c | 32) - 'a');
+    d = d > 249 ? 255 : (uint8_t)(d + 6);
+    l = l > 245 ? 255 : (uint8_t)(l + 10);
+    return d < l ? d : l;
+}
+
+/* The value of a character that is a digit, by its bits: letters have bit 6. */
+static inline uint8_t value(uint8_t digit)
+{
+    return (uint8_t)((digit & 15) + 9 * (digit >> 6));
+}
+
+/* Sixteen bytes. */
+static inline uint32_t sum_of_chunk(const uint8_t *at)
+{
+    uint8_t worst = 0, high = 0, low = 0;
+    for (uint32_t i = 0; i < CHUNK; i++) {
+        uint8_t a = at[2 * i], b = at[2 * i + 1], ra = rank(a), rb = rank(b), r = ra > rb ? ra : rb;
+        worst = worst > r ? worst : r;
+        high = (uint8_t)(high + value(a));
+        low = (uint8_t)(low + value(b));
+    }
+    return (uint8_t)(high * 16 + low) + (worst < 16 ? 2 * CHUNK * ONE : 0);
+}
+
 /* Two sums, so that one need not wait for the other. */
 static inline uint32_t sum_of(const uint8_t *at, uint32_t pairs)
 {
     uint32_t a = 0, b = 0, i;
+    if (pairs == CHUNK + 5)
+        return sum_of_chunk(at + 8) + pair(at) + pair(at + 2) + pair(at + 4) + pair(at + 6) + pair(at + 40);
     for (i = 0; i + 4 <= pairs; i += 4, at += 8) {
         a += pair(at) + pair(at + 2);
         b += pair(at + 4) + pair(at + 6);
@@ -163,9 +193,20 @@ static int is_doubled(uint32_t span, const uint8_t *text, uint64_t good)
     return 0;
 }
 
+/* A chunk of known length, which compilers make vector instructions of. */
+static inline void put_chunk(uint8_t *restrict to, const uint8_t *restrict digits)
+{
+    for (uint32_t i = 0; i < CHUNK; i++)
+        to[i] = (uint8_t)(value(digits[2 * i]) * 16 + value(digits[2 * i + 1]));
+}
+
 static inline void put_bytes(uint8_t *restrict to, const uint8_t *restrict digits, uint32_t bytes)
 {
     uint32_t i;
+    if (bytes == CHUNK) {
+        put_chunk(to, digits);
+        return;
+    }
     for (i = 0; i + 4 <= bytes; i += 4) {
         to[i] = (uint8_t)pair(digits + 2 * i);
         to[i + 1] = (uint8_t)pair(digits + 2 * i + 2);
