@@ -131,9 +131,9 @@ uint32_t mover_read(uint32_t n, uint32_t m, uint32_t page_bytes, uint32_t s,
 uint32_t mover_operation(uint32_t n, uint32_t m, uint32_t s, uint32_t place,
                          uint32_t *kind, uint32_t *block, uint32_t *page, uint32_t *mark);
 
-/* A store at rest from an Intel HEX file, which has its data bytes: address 0 is the first byte of block 1, and the n * m * page_bytes
- * bytes from there on are the image. Bytes that the text does not give become 255, the spare becomes blank, and blocks 1 to n get
- * mark 0, so that the next move has s = 0. What was in `store` and `marks` does not matter. The text may have
+/* A store at rest from an Intel HEX file of its data bytes, whose addresses count from the start of block 1: the n * m * page_bytes
+ * bytes from there on are the image. Where the text gives no byte there will be 255, the spare is left blank, and all data blocks are
+ * marked 0, so that the next move has s = 0. What was in `store` and `marks` does not matter. The text may have
  *   data records (type 00) of 1 to 255 bytes, in any order
  *   upper halves of addresses (type 04), anywhere and of any value; before the first the upper half is 0
  *   the end record (type 01), as the last

@@ -74,7 +74,8 @@ pub record Stops (text : List ℕ) (at upper size number : ℕ) : Type 0 where
 pub record Goes (text : List ℕ) (at upper size half place count next : ℕ) : Type 0 where
   pub is : (looked : ℕ → Bool) (given : List (Option ℕ)) → judgeAllIn looked size (going (stateOf upper given)) (recordsIn (drop at text))
       ≡ judgeAllIn looked size
-      (cond (looked half && any isGiven (take count (drop place given))) (fault 10) (going (stateOf half (putAt given place (bytesAt text at count)))))
+      (cond (looked half && any isGiven (take count (drop place given))) (fault 10)
+      (going (stateOf half (putAt given place (bytesAt text at count)))))
       (recordsIn (drop next text))
   pub inside : at + 11 + 2 * count < next
   pub ends : next ≤ length text
