@@ -4,6 +4,7 @@
 
 #include "../examples/demo/random.h"
 #include "agree.h"
+#include "bench.h"
 #include "mover.h"
 #include "plain.h"
 #include "scene.h"
@@ -15,28 +16,25 @@
 #include <string.h>
 #include <time.h>
 
-enum { LIBRARY, PLAIN, BOTH };
+const double AIM = 1.1;
+static const double MEMCPY_AIM = 1.5, STACK_AIM_KIB = 20;
 
-/* Ratios above these are pointed out. */
-static const double AIM = 1.1, MEMCPY_AIM = 1.5, STACK_AIM_KIB = 20;
-
-static const struct mover movers[BOTH] = {
-    {"library", mover_split, mover_run, mover_mend, mover_read},
-    {"plain C", plain_split, plain_run, plain_mend, plain_read},
+const struct mover movers[BOTH] = {
+    {"library", mover_split, mover_run, mover_mend, mover_read, mover_hex_read, mover_hex_write},
+    {"plain C", plain_split, plain_run, plain_mend, plain_read, plain_hex_read, plain_hex_write},
 };
 
-static uint64_t seed = 1;
-static uint32_t rounds = 15;
+uint64_t seed = 1;
+uint32_t rounds = 15;
 
-/* Processor time: what other programs take away does not count. */
-static double now(void)
+double now(void)
 {
     struct timespec t;
     clock_gettime(CLOCK_PROCESS_CPUTIME_ID, &t);
     return (double)t.tv_sec * 1e9 + (double)t.tv_nsec;
 }
 
-static void stop(const char *what)
+void stop(const char *what)
 {
     fprintf(stderr, "bench: library and plain C differ: %s\n", what);
     exit(1);
@@ -58,7 +56,7 @@ static void put_back(struct scene *to, const struct scene *from)
     memcpy(to->work, from->work, from->work_len);
 }
 
-static double least(double a, double b)
+double least(double a, double b)
 {
     return a < b ? a : b;
 }
@@ -163,7 +161,7 @@ static void read_job(const struct mover *mover, struct scene *scene, const struc
 
 /* The lines */
 
-static void print_ratio(const char *name, double ratio, double aim)
+void print_ratio(const char *name, double ratio, double aim)
 {
     printf("  %-68s %6.2f%s\n", name, ratio, ratio > aim ? "  above the aim" : "");
     fflush(stdout);
@@ -221,7 +219,9 @@ static void one_call(void *data)
     case 0: call_split(c->mover, c->scene); break;
     case 1: call_run(c->mover, c->scene, 4160, 200); break;
     case 2: call_mend(c->mover, c->scene); break;
-    default: call_read(c->mover, c->scene, 77); break;
+    case 3: call_read(c->mover, c->scene, 77); break;
+    case 4: call_hex_read(c->mover, c->scene); break;
+    default: call_hex_write(c->mover, c->scene); break;
     }
 }
 
@@ -238,14 +238,21 @@ static double stack_kib(const struct mover *mover, const struct scene *before, i
 
 static void print_stack(void)
 {
-    static const char *const names[] = {"split", "run", "mend", "read"};
-    struct scene scene;
-    make_standing(&scene, 64, 64, 4096, RANDOM, 4160);
-    for (int call = 0; call < 4; call++) {
-        double library = stack_kib(&movers[LIBRARY], &scene, call), plain = stack_kib(&movers[PLAIN], &scene, call);
+    static const char *const names[] = {"split", "run", "mend", "read", "hex read, of records that do not rise", "hex write"};
+    static uint8_t text[4096];
+    struct scene standing, at_rest;
+    make_standing(&standing, 64, 64, 4096, RANDOM, 4160);
+    make_standing(&at_rest, 1, 1, 1024, RANDOM, 0);
+    at_rest.text = text;
+    at_rest.text_len = mover_hex_bytes(1, 1, 1024);
+    hex_falling(&at_rest, text);
+    for (int call = 0; call < 6; call++) {
+        const struct scene *scene = call < 4 ? &standing : &at_rest;
+        double library = stack_kib(&movers[LIBRARY], scene, call), plain = stack_kib(&movers[PLAIN], scene, call);
         printf("  %-50s %6.2f KiB %8.2f KiB%s\n", names[call], library, plain, library >= STACK_AIM_KIB ? "  above the aim" : "");
     }
-    scene_free(&scene);
+    scene_free(&standing);
+    scene_free(&at_rest);
 }
 
 static void compare(void)
@@ -253,9 +260,10 @@ static void compare(void)
     enum { REQUESTS = 40000 };
     uint64_t random = seed;
     uint32_t different = disagreements(&movers[LIBRARY], &movers[PLAIN], REQUESTS, &random);
+    different += hex_disagreements(&movers[LIBRARY], &movers[PLAIN], REQUESTS, &random);
     if (different != 0)
         stop("requests");
-    printf("%d requests of all kinds, faulty ones included: answered alike\n\n", (int)REQUESTS);
+    printf("%d requests of all kinds and %d HEX texts, faulty ones included: answered alike\n\n", (int)REQUESTS, (int)REQUESTS);
 }
 
 int main(int count, char **words)
@@ -284,6 +292,7 @@ int main(int count, char **words)
     line("read, one cycle of all blocks in each set, three quarters of it", 64, 4096, CYCLE_UP, 65 * 96 + 7, 8, read_job);
     line("mend, n = m = 64, P = 4096, a block to erase", 64, 4096, RANDOM, 65 * 30 + 20, 50, mend_job);
     line("mend, no block to erase", 64, 4096, RANDOM, 65 * 30 + 64, 2000, mend_job);
+    hex_lines();
     printf("\ndeepest stack %46s %12s\n", movers[LIBRARY].name, movers[PLAIN].name);
     print_stack();
     return 0;

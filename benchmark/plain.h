@@ -22,6 +22,12 @@ uint32_t plain_read(uint32_t n, uint32_t m, uint32_t page_bytes, uint32_t s,
                     const uint8_t *store, uint64_t store_len, const uint8_t *marks, uint64_t marks_len,
                     uint8_t *work, uint64_t work_len, uint32_t original, uint32_t *count);
 
+uint32_t plain_hex_read(uint32_t n, uint32_t m, uint32_t page_bytes, const uint8_t *text, uint64_t text_len,
+                        uint8_t *store, uint64_t store_len, uint8_t *marks, uint64_t marks_len);
+
+uint32_t plain_hex_write(uint32_t n, uint32_t m, uint32_t page_bytes, const uint8_t *store, uint64_t store_len,
+                         const uint8_t *marks, uint64_t marks_len, uint8_t *text, uint64_t text_len);
+
 /* How many bytes plain_run has summed since the start: what a memcpy of as many bytes is timed against. */
 extern uint64_t plain_bytes_summed;
 

@@ -36,7 +36,21 @@ struct answer call_read(const struct mover *mover, struct scene *z, uint32_t ori
     return a;
 }
 
-static uint8_t *take(uint64_t bytes)
+struct answer call_hex_read(const struct mover *mover, struct scene *z)
+{
+    struct answer a = {0, {0}};
+    a.number = mover->hex_read(z->n, z->m, z->page_bytes, z->text, z->text_len, z->store, z->store_len, z->marks, z->marks_len);
+    return a;
+}
+
+struct answer call_hex_write(const struct mover *mover, struct scene *z)
+{
+    struct answer a = {0, {0}};
+    a.number = mover->hex_write(z->n, z->m, z->page_bytes, z->store, z->store_len, z->marks, z->marks_len, z->text, z->text_len);
+    return a;
+}
+
+uint8_t *take(uint64_t bytes)
 {
     uint8_t *part = malloc(bytes);
     if (part == NULL) {
@@ -89,6 +103,8 @@ void scene_make(struct scene *z, uint32_t n, uint32_t m, uint32_t page_bytes, en
     z->m = m;
     z->page_bytes = page_bytes;
     z->s = 0;
+    z->text_len = 0;
+    z->text = NULL;
     make_parts(z);
     make_list(z, order, random);
     memset(z->sets, 0, z->sets_len);

@@ -8,6 +8,8 @@ struct scene {
     uint32_t n, m, page_bytes, s;
     uint64_t list_len, sets_len, store_len, marks_len, work_len;
     uint8_t *list, *sets, *store, *marks, *work;
+    uint64_t text_len;                     /* a HEX text, which is not the scene's own: neither copied nor freed with it */
+    uint8_t *text;
 };
 
 /* The library, or the mover by hand. */
@@ -20,6 +22,8 @@ struct mover {
     uint32_t (*mend)(uint32_t, uint32_t, uint32_t, uint32_t, uint8_t *, uint64_t, uint8_t *, uint64_t, uint32_t *, uint32_t *);
     uint32_t (*read)(uint32_t, uint32_t, uint32_t, uint32_t, const uint8_t *, uint64_t, const uint8_t *, uint64_t, const uint8_t *,
                      uint64_t, const uint8_t *, uint64_t, uint8_t *, uint64_t, uint32_t, uint32_t *);
+    uint32_t (*hex_read)(uint32_t, uint32_t, uint32_t, const uint8_t *, uint64_t, uint8_t *, uint64_t, uint8_t *, uint64_t);
+    uint32_t (*hex_write)(uint32_t, uint32_t, uint32_t, const uint8_t *, uint64_t, const uint8_t *, uint64_t, uint8_t *, uint64_t);
 };
 
 /* All that a call returns: the refusal number, then the numbers out. */
@@ -31,12 +35,17 @@ struct answer call_split(const struct mover *mover, struct scene *scene);
 struct answer call_run(const struct mover *mover, struct scene *scene, uint32_t place, uint32_t budget);
 struct answer call_mend(const struct mover *mover, struct scene *scene);
 struct answer call_read(const struct mover *mover, struct scene *scene, uint32_t original);
+struct answer call_hex_read(const struct mover *mover, struct scene *scene);
+struct answer call_hex_write(const struct mover *mover, struct scene *scene);
 
 /* Lists: random; every page to the next block or to the one before, which makes one cycle of all blocks in each set; page p of
  * block i to block p, for n = m. */
 enum order { RANDOM, CYCLE_UP, CYCLE_DOWN, TRANSPOSED };
 
-/* A scene at rest with random pages; ends the program if there is no memory. */
+/* Memory; ends the program if there is none. */
+uint8_t *take(uint64_t bytes);
+
+/* A scene at rest with random pages and no text. */
 void scene_make(struct scene *scene, uint32_t n, uint32_t m, uint32_t page_bytes, enum order order, uint64_t *random);
 void scene_copy(struct scene *to, const struct scene *from);
 void scene_free(struct scene *scene);

@@ -28,6 +28,7 @@
  *   store        (n + 1) * m * page_bytes bytes: the pages, block after block, the spare first
  *   marks        (n + 1) * m bytes, one a page in the same order: 0, 1 or 2 where a page is written, 255 where none is
  *   work         page_bytes bytes to work in
+ *   text         an Intel HEX file; mover_hex_write fills exactly mover_hex_bytes, mover_hex_read takes any length
  *
  * Before a move the pages of blocks 1 to n have mark s, and those of block 0 have mark 255 and bytes 255 throughout.
  *
@@ -63,7 +64,10 @@ enum mover_refusal {
     MOVER_BAD_SPLIT = 4,     /* the sets aren't a split of the list */
     MOVER_BAD_PLACE = 5,     /* place above 2 * n * (m + 1), marks other than that place has, or a page marked 255 not blank */
     MOVER_BAD_MARKS = 6,     /* marks fit no moment of the move: see mover_mend */
-    MOVER_BAD_ORIGINAL = 7   /* original number at or above n * m */
+    MOVER_BAD_ORIGINAL = 7,  /* original number at or above n * m */
+    MOVER_BAD_RECORD = 8,    /* a HEX record of another form or type, or with a wrong checksum */
+    MOVER_BAD_ADDRESS = 9,   /* a HEX data byte outside the image, or a record that runs over a 64 KiB span */
+    MOVER_BAD_TEXT = 10      /* a HEX data byte given twice, no end record, or anything after it */
 };
 
 /* What the step at a place does. */
@@ -127,6 +131,25 @@ uint32_t mover_read(uint32_t n, uint32_t m, uint32_t page_bytes, uint32_t s,
 uint32_t mover_operation(uint32_t n, uint32_t m, uint32_t s, uint32_t place,
                          uint32_t *kind, uint32_t *block, uint32_t *page, uint32_t *mark);
 
+/* A store at rest from an Intel HEX file of its data bytes, whose addresses count from the start of block 1: the n * m * page_bytes
+ * bytes from there on are the image. Where the text gives no byte there will be 255, the spare is left blank, and all data blocks are
+ * marked 0, so that the next move has s = 0. What was in `store` and `marks` does not matter. The text may have
+ *   data records (type 00) of 1 to 255 bytes, in any order
+ *   upper halves of addresses (type 04), anywhere and of any value; before the first the upper half is 0
+ *   the end record (type 01), as the last
+ * with digits of either case. Each ends with a line feed, which one carriage return may precede. The first record that is faulty decides:
+ * 8 if it is malformed, else 9, else 10; a text whose records are all good but which lacks the end record is 10.
+ * Returns 0, or 1, 2, 8, 9 or 10. */
+uint32_t mover_hex_read(uint32_t n, uint32_t m, uint32_t page_bytes, const uint8_t *text, uint64_t text_len,
+                        uint8_t *store, uint64_t store_len, uint8_t *marks, uint64_t marks_len);
+
+/* The Intel HEX file of a store at rest with s = 0, which mover_hex_read gives back: data records of 16 bytes, the last one of what is
+ * left, with rising addresses, a record of type 04 where the upper half changes, and the end record; capital digits, a line feed after each.
+ * Changes only `text`. A move leaves marks of (s + 2) % 3: for the file of a store that has moved, set those of blocks 1 to n to 0.
+ * Returns 0, or 1, 2, or 5 if a mark of blocks 1 to n is not 0, or the spare is not blank. */
+uint32_t mover_hex_write(uint32_t n, uint32_t m, uint32_t page_bytes, const uint8_t *store, uint64_t store_len,
+                         const uint8_t *marks, uint64_t marks_len, uint8_t *text, uint64_t text_len);
+
 /* How long the lent parts are, in bytes. */
 static inline uint64_t mover_list_bytes(uint32_t n, uint32_t m)
 {
@@ -146,6 +169,14 @@ static inline uint64_t mover_marks_bytes(uint32_t n, uint32_t m)
 static inline uint64_t mover_store_bytes(uint32_t n, uint32_t m, uint32_t page_bytes)
 {
     return mover_marks_bytes(n, m) * page_bytes;
+}
+
+/* A data record has 12 characters beside two for each byte, one of type 04 has 16, and the end record 12. */
+static inline uint64_t mover_hex_bytes(uint32_t n, uint32_t m, uint32_t page_bytes)
+{
+    uint64_t bytes = mover_sets_bytes(n, m) * page_bytes;
+    uint64_t records = (bytes + 15) / 16, spans = (bytes + 65535) / 65536;
+    return 2 * bytes + 12 * records + 16 * (spans > 0 ? spans - 1 : 0) + 12;
 }
 
 /* The place after the last step. */
@@ -186,22 +217,28 @@ struct mover_step {
     uint32_t kind, block, page, mark;
 };
 
-/* 1 if no two parts of the move overlap, else 0. A part that is NULL overlaps none; sizes out of range are left for the call to refuse. */
-static inline int mover_apart(const struct mover_move *move)
+/* 1 if no two parts of the move overlap, nor one and a text of so many bytes, else 0. A part that is NULL overlaps none; sizes out of range
+ * are left for the call to refuse. */
+static inline int mover_apart_from(const struct mover_move *move, const uint8_t *text, uint64_t text_len)
 {
-    const uint8_t *const part[5] = {move->list, move->sets, move->store, move->marks, move->work};
-    const uint64_t bytes[5] = {mover_list_bytes(move->n, move->m), mover_sets_bytes(move->n, move->m),
+    const uint8_t *const part[6] = {move->list, move->sets, move->store, move->marks, move->work, text};
+    const uint64_t bytes[6] = {mover_list_bytes(move->n, move->m), mover_sets_bytes(move->n, move->m),
                                mover_store_bytes(move->n, move->m, move->page_bytes), mover_marks_bytes(move->n, move->m),
-                               move->page_bytes};
+                               move->page_bytes, text_len};
     int i, j;
     if (move->n - 1 > 63 || move->m - 1 > 63 || move->page_bytes - 1 > 4095)
         return 1;
-    for (i = 0; i < 5; i++)
-        for (j = 0; j < 5; j++)
+    for (i = 0; i < 6; i++)
+        for (j = 0; j < 6; j++)
             if (i != j && part[i] && part[j] && (uintptr_t)part[i] <= (uintptr_t)part[j]
                 && (uintptr_t)part[j] < (uintptr_t)part[i] + bytes[i])
                 return 0;
     return 1;
+}
+
+static inline int mover_apart(const struct mover_move *move)
+{
+    return mover_apart_from(move, 0, 0);
 }
 
 static inline uint32_t mover_split_move(const struct mover_move *move)
@@ -240,6 +277,23 @@ static inline uint32_t mover_read_move(const struct mover_move *move, uint32_t o
     return mover_read(move->n, move->m, move->page_bytes, move->s, move->list, mover_list_bytes(move->n, move->m), move->sets,
                       mover_sets_bytes(move->n, move->m), move->store, mover_store_bytes(move->n, move->m, move->page_bytes),
                       move->marks, mover_marks_bytes(move->n, move->m), move->work, move->page_bytes, original, count);
+}
+
+/* As mover_hex_read, into the move's store and marks; the move's s has to be 0 from then on. */
+static inline uint32_t mover_hex_read_move(const struct mover_move *move, const uint8_t *text, uint64_t text_len)
+{
+    assert(mover_apart_from(move, text, text_len));
+    return mover_hex_read(move->n, move->m, move->page_bytes, text, text_len, move->store,
+                          mover_store_bytes(move->n, move->m, move->page_bytes), move->marks, mover_marks_bytes(move->n, move->m));
+}
+
+/* As mover_hex_write, from the move's store and marks, into a text of mover_hex_bytes. */
+static inline uint32_t mover_hex_write_move(const struct mover_move *move, uint8_t *text)
+{
+    uint64_t text_len = mover_hex_bytes(move->n, move->m, move->page_bytes);
+    assert(mover_apart_from(move, text, text_len));
+    return mover_hex_write(move->n, move->m, move->page_bytes, move->store, mover_store_bytes(move->n, move->m, move->page_bytes),
+                           move->marks, mover_marks_bytes(move->n, move->m), text, text_len);
 }
 
 static inline uint32_t mover_step_of(const struct mover_move *move, uint32_t place, struct mover_step *step)

@@ -4,8 +4,8 @@
 
 #include <string.h>
 
-/* n = 2, m = 2, one byte a page: the parts one after the other, with nothing between. */
-static uint8_t room[8 + 4 + 6 + 6 + 1];
+/* n = 2, m = 2, one byte a page: the parts one after the other, with nothing between, and a HEX text behind them. */
+static uint8_t room[8 + 4 + 6 + 6 + 1 + 32], *const text = room + 25;
 static const unsigned bytes[5] = {8, 4, 6, 6, 1}, start[5] = {0, 8, 12, 18, 24};
 
 static struct mover_move lend(const unsigned *at)
@@ -28,6 +28,8 @@ static int wrong_answers(void)
                 move = lend(at);
                 wrong += mover_apart(&move);
             }
+    move = lend(start);
+    wrong += !mover_apart_from(&move, text, 32) + mover_apart_from(&move, text - 1, 32) + mover_apart_from(&move, room, 1);
     move.n = 65;
     wrong += !mover_apart(&move);
     memset(&move, 0, sizeof move);
@@ -49,5 +51,10 @@ int main(int count, char **words)
         return (int)mover_run_move(&move, 0, 0, &state);
     if (strcmp(words[1], "mend") == 0)
         return (int)mover_mend_move(&move, &state);
-    return (int)mover_read_move(&move, 0, &number);
+    if (strcmp(words[1], "read") == 0)
+        return (int)mover_read_move(&move, 0, &number);
+    move = lend(start);
+    if (strcmp(words[1], "hex_read") == 0)
+        return (int)mover_hex_read_move(&move, text - 1, 12);
+    return (int)mover_hex_write_move(&move, text - 1);
 }

@@ -1,7 +1,8 @@
 //! The proved library, through its C interface.
 
 use crate::harness::interface::{
-    mover_mend, mover_operation, mover_read, mover_run, mover_split, Calls, OperationCall,
+    mover_hex_read, mover_hex_write, mover_mend, mover_operation, mover_read, mover_run,
+    mover_split, Calls, HexCalls, OperationCall,
 };
 
 pub fn calls() -> Calls {
@@ -15,4 +16,11 @@ pub fn calls() -> Calls {
 
 pub fn operation() -> OperationCall {
     mover_operation
+}
+
+pub fn hex_calls() -> HexCalls {
+    HexCalls {
+        read: mover_hex_read,
+        write: mover_hex_write,
+    }
 }

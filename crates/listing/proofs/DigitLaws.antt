@@ -4,10 +4,10 @@ use Rattle.flash.proofs.Kit.{length, take, drop, set, length-append, length-tak
 use Rattle.flash.proofs.Kit.{drop-set-lt, take-set-lt, lt-ltb, le-ltb}
 use Rattle.listing.specs.Digits.{digitOf, digits, placesUpTo}
 
-pub length-digits : (base count n : ℕ) → length (digits base count n) ≡ count
+pub length-digits : (letters base count n : ℕ) → length (digits letters base count n) ≡ count
 unfolding digits
-length-digits base zero n = refl
-length-digits base (suc count) n = rw (length-append, length-digits base count) (omega arith)
+length-digits letters base zero n = refl
+length-digits letters base (suc count) n = rw (length-append, length-digits letters base count) (omega arith)
 
 -- A number below 10 has one digit; any other has one more than a tenth of it.
 pub one-place : (most n : ℕ) → n < 10 → placesUpTo most n ≡ 1
@@ -23,8 +23,8 @@ more-places (suc most) n h l =
     rw (le-ltb n 10 l, e)
 
 -- Digits are written from the last to the first: those before position i are still to be written, and `rest` is their number.
-module _ (base at end : ℕ) where
-  pub digits-start : (count n : ℕ) (out : List ℕ) → end ≡ at + count → digits base (end - at) n ++ drop end (take end out) ≡ digits base count n
+module _ (letters base at end : ℕ) where
+  pub digits-start : (count n : ℕ) (out : List ℕ) → end ≡ at + count → digits letters base (end - at) n ++ drop end (take end out) ≡ digits letters base count n
   digits-start count n out e =
       let few : length (take end out) ≤ end = omega (arith, length-take end out) in
       let k : end - at ≡ count = omega arith in
@@ -36,11 +36,11 @@ module _ (base at end : ℕ) where
       let there : i < length (set (take end out) i d) = omega (arith, length-set (take end out) i d) in
       rw (take-set-lt end out i d h, drop-cons (set (take end out) i d) i 0 there, getD-set-same (take end out) i d 0 inside, drop-set-lt (suc i) (take end out) i d (omega arith))
 
-  pub digits-more : (i rest : ℕ) (out whole : List ℕ) → at < i → i ≤ end → end ≤ length out → digits base (i - at) rest ++ drop i (take end out) ≡ whole → digits base (i - 1 - at) (rest / base) ++ drop (i - 1) (take end (set out (i - 1) (digitOf (rest % base)))) ≡ whole
+  pub digits-more : (i rest : ℕ) (out whole : List ℕ) → at < i → i ≤ end → end ≤ length out → digits letters base (i - at) rest ++ drop i (take end out) ≡ whole → digits letters base (i - 1 - at) (rest / base) ++ drop (i - 1) (take end (set out (i - 1) (digitOf letters (rest % base)))) ≡ whole
   unfolding digits
   digits-more zero rest out whole h k l e = absurd (omega arith)
   digits-more (suc i) rest out whole h k l e =
       let j : suc i - 1 ≡ i = omega arith in
       let more : suc i - at ≡ suc (i - at) = omega arith in
-      rw (j, digit-written i (digitOf (rest % base)) out (omega arith) l)
-      (sym (append-assoc (digits base (i - at) (rest / base)) (digitOf (rest % base) ∷ []) (drop (suc i) (take end out))) ∙ rw more at e)
+      rw (j, digit-written i (digitOf letters (rest % base)) out (omega arith) l)
+      (sym (append-assoc (digits letters base (i - at) (rest / base)) (digitOf letters (rest % base) ∷ []) (drop (suc i) (take end out))) ∙ rw more at e)

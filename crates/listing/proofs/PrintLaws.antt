@@ -71,10 +71,14 @@ unfolding concatMap
 concatMap-more f [] x = append-nil (f x)
 concatMap-more f (y ∷ xs) x = rw (concatMap-more f xs x) (sym (append-assoc (f y) (concatMap f xs) (f x)))
 
-pub hex-more : (bytes : List ℕ) (i : ℕ) → i < length bytes → concatMap hex (take (i + 1) bytes) ≡ concatMap hex (take i bytes) ++ hex (getD bytes i 0)
-hex-more bytes i h = rw (add-one i, take-suc bytes i 0 h) (concatMap-more hex (take i bytes) (getD bytes i 0))
+-- two digits a byte, whatever the letters
+module _ (letters : ℕ) where
+  pub hex-more : (bytes : List ℕ) (i : ℕ) → i < length bytes
+      → concatMap (hex letters) (take (i + 1) bytes) ≡ concatMap (hex letters) (take i bytes) ++ hex letters (getD bytes i 0)
+  hex-more bytes i h = rw (add-one i, take-suc bytes i 0 h) (concatMap-more (hex letters) (take i bytes) (getD bytes i 0))
 
-pub length-hex : (bytes : List ℕ) → length (concatMap hex bytes) ≡ 2 * length bytes
-unfolding concatMap hex
-length-hex [] = refl
-length-hex (byte ∷ bytes) = length-append (hex byte) (concatMap hex bytes) ∙ rw (length-digits 16 2 byte, length-hex bytes) (omega arith)
+  pub length-hex : (bytes : List ℕ) → length (concatMap (hex letters) bytes) ≡ 2 * length bytes
+  unfolding concatMap hex
+  length-hex [] = refl
+  length-hex (byte ∷ bytes) =
+      length-append (hex letters byte) (concatMap (hex letters) bytes) ∙ rw (length-digits letters 16 2 byte, length-hex bytes) (omega arith)

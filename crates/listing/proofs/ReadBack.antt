@@ -5,12 +5,12 @@ use Rattle.flash.specs.Lists.{all}
 use Rattle.flash.proofs.Bools.{bool-cases}
 use Rattle.flash.proofs.Searches.{all-append}
 use Rattle.listing.specs.Numbers.{isDigit, spelled}
-use Rattle.listing.specs.Digits.{digitOf, digits, placesUpTo, decimal}
+use Rattle.listing.specs.Digits.{small, digitOf, digits, placesUpTo, decimal}
 use Rattle.listing.specs.Examples.{PrintedIsRead}
 use Rattle.listing.proofs.DigitLaws.{length-digits, one-place}
 use Rattle.listing.proofs.WordLaws.{spelled-more, number-of}
 
-digit-of : (d : ℕ) → d < 10 → digitOf d ≡ 48 + d
+digit-of : (d : ℕ) → d < 10 → digitOf small d ≡ 48 + d
 unfolding digitOf
 digit-of d h = rw (lt-ltb d 10 h)
 
@@ -19,21 +19,21 @@ unfolding isDigit
 digit-is d h = rw (le-leb 48 (48 + d) (omega arith), le-leb (48 + d) 57 (omega arith))
 
 -- the last k digits of a number that has no more
-all-digits : (k n : ℕ) → all isDigit (digits 10 k n) ≡ true
+all-digits : (k n : ℕ) → all isDigit (digits small 10 k n) ≡ true
 unfolding digits all
 all-digits zero n = refl
 all-digits (suc k) n =
     let low : n % 10 < 10 = omega arith in
-    rw (all-append isDigit (digits 10 k (n / 10)) (digitOf (n % 10) ∷ []), all-digits k (n / 10), digit-of (n % 10) low, digit-is (n % 10) low)
+    rw (all-append isDigit (digits small 10 k (n / 10)) (digitOf small (n % 10) ∷ []), all-digits k (n / 10), digit-of (n % 10) low, digit-is (n % 10) low)
 
-spelled-digits : (k n : ℕ) → n < 10 ^ k → spelled 0 (digits 10 k n) ≡ n
+spelled-digits : (k n : ℕ) → n < 10 ^ k → spelled 0 (digits small 10 k n) ≡ n
 unfolding digits spelled
 spelled-digits zero n h = omega arith
 spelled-digits (suc k) n h =
     let low : n % 10 < 10 = omega arith in
     let p = pow-suc 10 k in
     let rest : n / 10 < 10 ^ k = omega arith in
-    spelled-more 0 (digits 10 k (n / 10)) (digitOf (n % 10)) ∙ rw (spelled-digits k (n / 10) rest, digit-of (n % 10) low) (omega arith)
+    spelled-more 0 (digits small 10 k (n / 10)) (digitOf small (n % 10)) ∙ rw (spelled-digits k (n / 10) rest, digit-of (n % 10) low) (omega arith)
 
 -- the digits counted hold the number, and they are no more than would do
 places-hold : (most n : ℕ) → n ≤ most → n < 10 ^ placesUpTo most n
@@ -70,6 +70,6 @@ pub printed-is-read : PrintedIsRead
 unfolding PrintedIsRead decimal
 printed-is-read n h =
     let k : ℕ = placesUpTo n n in
-    let size = length-digits 10 k n in
-    number-of (digits 10 k n) (omega (arith, places-some n n)) (omega (arith, places-few 4 n n h)) (all-digits k n)
+    let size = length-digits small 10 k n in
+    number-of (digits small 10 k n) (omega (arith, places-some n n)) (omega (arith, places-few 4 n n h)) (all-digits k n)
     ∙ ap some (spelled-digits k n (places-hold n n (omega arith)))

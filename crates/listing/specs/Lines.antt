@@ -4,13 +4,13 @@ use mathlib.Core.List.{List, [], _∷_, _++_}
 use Prim.Native.Nat.{ℕ, _+_, _≤_}
 use lib.ListN.{length, take, drop}
 use Rattle.flash.specs.Lists.{concatMap}
-use Rattle.listing.specs.Digits.{decimal, hex}
+use Rattle.listing.specs.Digits.{small, decimal, hex}
 
 -- the line of a write and that of an erase
 -- 32 is a space, 10 the line feed, 87 `W`, 69 `E`.
 unfoldable pub writeLine : (step block page : ℕ) → (bytes : List ℕ) → List ℕ
 writeLine step block page bytes =
-    decimal step ++ (32 ∷ 87 ∷ 32 ∷ decimal block) ++ (32 ∷ decimal page) ++ (32 ∷ concatMap hex bytes) ++ (10 ∷ [])
+    decimal step ++ (32 ∷ 87 ∷ 32 ∷ decimal block) ++ (32 ∷ decimal page) ++ (32 ∷ concatMap (hex small) bytes) ++ (10 ∷ [])
 
 unfoldable pub eraseLine : (step block : ℕ) → List ℕ
 eraseLine step block = decimal step ++ (32 ∷ 69 ∷ 32 ∷ decimal block) ++ (10 ∷ [])

@@ -4,13 +4,13 @@ ghost use mathlib.Core.List.{_++_};
 ghost use Prim.Native.Nat.{_+_, _≤_, _<_};
 ghost use lib.ListN.{length};
 ghost use Rattle.flash.specs.Lists.{concatMap};
-ghost use Rattle.listing.specs.Digits.{digitOf, digits, placesUpTo, decimal, hex};
+ghost use Rattle.listing.specs.Digits.{small, digitOf, digits, placesUpTo, decimal, hex};
 ghost use Rattle.listing.specs.Lines.{Printed};
 use flash::casts::wide;
 
 fn digit_of(d: usize) -> u8
     requires { ⌜ d < 16 ⌝ }
-    ensures { λ r. ⌜ r ≡ digitOf d ⌝ }
+    ensures { λ r. ⌜ r ≡ digitOf small d ⌝ }
 {
     if d < 10 { 48 + d as u8 } else { 87 + d as u8 }
 }
@@ -32,7 +32,7 @@ fn count_places(n: usize) -> usize
 fn put_digits(out: &mut [u8], at: usize, base: usize, count: usize, n: usize) -> usize
     requires { ⌜ (1 ≤ base) × (base ≤ 16) ⌝ }
     requires { ⌜ at + count ≤ length (now out) ⌝ }
-    ensures { λ r. ⌜ Printed (digits base count n) (now (out .entry)) at (now (out .exit)) r ⌝ }
+    ensures { λ r. ⌜ Printed (digits small base count n) (now (out .entry)) at (now (out .exit)) r ⌝ }
 {
     let end = at + count;
     let mut i = end;
@@ -53,8 +53,8 @@ pub fn put_decimal(out: &mut [u8], at: usize, n: usize) -> usize
 }
 
 pub fn put_hex(out: &mut [u8], at: usize, bytes: &[u8]) -> usize
-    requires { ⌜ at + length (concatMap hex (now bytes)) ≤ length (now out) ⌝ }
-    ensures { λ r. ⌜ Printed (concatMap hex (now (bytes .entry))) (now (out .entry)) at (now (out .exit)) r ⌝ }
+    requires { ⌜ at + length (concatMap (hex small) (now bytes)) ≤ length (now out) ⌝ }
+    ensures { λ r. ⌜ Printed (concatMap (hex small) (now (bytes .entry))) (now (out .entry)) at (now (out .exit)) r ⌝ }
 {
     let mut next = at;
     let mut i = 0;

@@ -3,7 +3,7 @@ use Rattle.flash.proofs.Kit.{_≡_, ⊎-elim, List, ℕ, _+_, _*_, _≤_, _<_, 
 use Rattle.flash.specs.declared.sizes.Sizes.{Sizes}
 use Rattle.method.specs.Place.{Pass, forward, backward, operationAt, passAt, filling, filled, lastPlace}
 use Rattle.method.proofs.places.StepsAtPlaces.{nextBlock, page-cases, filling-in, operation-writes, operation-erases}
-use Rattle.listing.specs.Digits.{placesUpTo, decimal}
+use Rattle.listing.specs.Digits.{small, placesUpTo, decimal}
 use Rattle.listing.specs.Lines.{writeLine, eraseLine, endLine, refusedLine}
 use Rattle.listing.proofs.DigitLaws.{length-digits}
 use Rattle.listing.proofs.ReadBack.{places-few}
@@ -12,12 +12,12 @@ use Rattle.steplist.specs.Output.{stepLine}
 
 decimal-short : (n : ℕ) → n < 1000 → length (decimal n) ≤ 3
 unfolding decimal
-decimal-short n h = omega (arith, length-digits 10 (placesUpTo n n) n, places-few 2 n n h)
+decimal-short n h = omega (arith, length-digits small 10 (placesUpTo n n) n, places-few 2 n n h)
 
 write-short : (step block page : ℕ) (bytes : List ℕ) → step < 1000 → block < 1000 → page < 1000 → length bytes ≤ 64 → length (writeLine step block page bytes) ≤ 149
 unfolding writeLine
 write-short step block page bytes h k l few =
-    simp length-append (omega (arith, decimal-short step h, decimal-short block k, decimal-short page l, length-hex bytes))
+    simp length-append (omega (arith, decimal-short step h, decimal-short block k, decimal-short page l, length-hex small bytes))
 
 erase-short : (step block : ℕ) → step < 1000 → block < 1000 → length (eraseLine step block) ≤ 149
 unfolding eraseLine

@@ -2,6 +2,7 @@
 
 use mover_tests::checks::tally::Tally;
 use mover_tests::harness::compare::check_mover;
+use mover_tests::harness::hex::compare::check_hex;
 use mover_tests::harness::operations::{compare_operations, told_by};
 use mover_tests::library;
 use mover_tests::random::seed_from_environment;
@@ -16,5 +17,6 @@ fn main() -> ExitCode {
         "the library, the step at every place",
         compare_operations(told_by(library::operation())),
     );
+    check_hex(&mut tally, "the library", &library::hex_calls(), seed);
     tally.finish()
 }

@@ -4,12 +4,15 @@
 use mover_tests::checks::tally::Tally;
 use mover_tests::faults::all_faults;
 use mover_tests::faults::exports::{calls, Clean};
+use mover_tests::faults::hex::exports::{hex_calls, HexClean};
+use mover_tests::faults::hex::hex_faults;
 use mover_tests::faults::lists;
 use mover_tests::faults::operations::faulty_tellings;
 use mover_tests::faults::programs::faulty_programs;
 use mover_tests::harness::compare::{
     check_mover, first_broken_demand, first_difference, first_in_lists,
 };
+use mover_tests::harness::hex::compare::{check_hex, first_hex_difference};
 use mover_tests::harness::operations::compare_operations;
 use mover_tests::harness::programs::compare_program;
 use mover_tests::random::seed_from_environment;
@@ -34,6 +37,8 @@ fn main() -> ExitCode {
         "the simulator's steps themselves",
         compare_operations(|_, _, due| due),
     );
+    let itself = hex_calls::<Correct, HexClean>();
+    check_hex(&mut tally, "the simulator itself", &itself, seed);
     faults_reported(&mut tally, seed);
     demand_3_reported(&mut tally, seed);
     tally.finish()
@@ -51,6 +56,10 @@ fn faults_reported(tally: &mut Tally, seed: u64) {
     for fault in faulty_tellings() {
         let found = compare_operations(fault.told).err();
         reported(tally, fault.name, found.map(|_| "the step at a place"));
+    }
+    for fault in hex_faults() {
+        let found = first_hex_difference(&fault.calls, seed);
+        reported(tally, fault.name, found);
     }
     for fault in faulty_programs() {
         let found = compare_program(seed, fault.answer).err();

@@ -1,7 +1,7 @@
 //! The simulator's own checks.
 
 use mover_tests::checks::tally::Tally;
-use mover_tests::checks::{call_lists, hand_cases, papers, recovery_lines, refusing};
+use mover_tests::checks::{call_lists, hand_cases, hex_cases, papers, recovery_lines, refusing};
 use mover_tests::checks::{small_moves, step_inputs, torn};
 use mover_tests::random::{seed_from_environment, Random};
 use std::process::ExitCode;
@@ -16,6 +16,7 @@ fn main() -> ExitCode {
     recovery_lines::check(&mut tally);
     papers::check(&mut tally);
     step_inputs::check(&mut tally);
+    hex_cases::check(&mut tally);
     small_moves::check(&mut tally, &mut random);
     torn::check(&mut tally, &mut random);
     call_lists::check(&mut tally, &mut random);

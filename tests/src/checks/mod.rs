@@ -2,6 +2,7 @@
 
 pub mod call_lists;
 pub mod hand_cases;
+pub mod hex_cases;
 pub mod papers;
 pub mod recovery_lines;
 pub mod refusing;

@@ -1,6 +1,7 @@
 //! Movers with one fault each, to see that the comparison reports it.
 
 pub mod exports;
+pub mod hex;
 pub mod lists;
 mod manners;
 pub mod operations;

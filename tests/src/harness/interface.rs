@@ -85,6 +85,28 @@ calls! {
         page: *mut u32,
         mark: *mut u32,
     );
+    HexReadCall, mover_hex_read(
+        n: u32,
+        m: u32,
+        page_bytes: u32,
+        text: *const u8,
+        text_len: u64,
+        store: *mut u8,
+        store_len: u64,
+        marks: *mut u8,
+        marks_len: u64,
+    );
+    HexWriteCall, mover_hex_write(
+        n: u32,
+        m: u32,
+        page_bytes: u32,
+        store: *const u8,
+        store_len: u64,
+        marks: *const u8,
+        marks_len: u64,
+        text: *mut u8,
+        text_len: u64,
+    );
 }
 
 /// The calls of a mover.
@@ -94,4 +116,11 @@ pub struct Calls {
     pub run: RunCall,
     pub mend: MendCall,
     pub read: ReadCall,
+}
+
+/// The calls that read and write Intel HEX.
+#[derive(Clone, Copy)]
+pub struct HexCalls {
+    pub read: HexReadCall,
+    pub write: HexWriteCall,
 }

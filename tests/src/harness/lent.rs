@@ -7,13 +7,20 @@ const GUARD_BYTE: u8 = 0xc3;
 /// A lent part inside a buffer whose both ends must stay as they are.
 pub struct Lent {
     buffer: Vec<u8>,
+    guard: u8,
 }
 
 impl Lent {
     pub fn new(part: &[u8]) -> Lent {
-        let guard = [GUARD_BYTE; GUARD];
+        Lent::within(part, GUARD_BYTE)
+    }
+
+    /// With a byte around it that would tell if it were read.
+    pub fn within(part: &[u8], guard: u8) -> Lent {
+        let around = [guard; GUARD];
         Lent {
-            buffer: [&guard[..], part, &guard[..]].concat(),
+            buffer: [&around[..], part, &around[..]].concat(),
+            guard,
         }
     }
 
@@ -28,7 +35,7 @@ impl Lent {
     /// The part after the call, or what happened to its guards.
     pub fn take(self, name: &str) -> Result<Vec<u8>, String> {
         let end = self.buffer.len() - GUARD;
-        let touched = |guard: &[u8]| guard.iter().any(|&byte| byte != GUARD_BYTE);
+        let touched = |guard: &[u8]| guard.iter().any(|&byte| byte != self.guard);
         if touched(&self.buffer[..GUARD]) {
             return Err(format!("a byte before the part {name} was written"));
         }

@@ -5,6 +5,7 @@ pub mod compare;
 mod demand;
 pub mod drive;
 pub mod families;
+pub mod hex;
 pub mod interface;
 pub mod lent;
 pub mod operations;

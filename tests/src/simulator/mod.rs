@@ -3,6 +3,7 @@
 pub mod calls;
 pub mod cuts;
 pub mod flash;
+pub mod hex;
 pub mod permutation;
 pub mod reading;
 pub mod recovery;

@@ -1,5 +1,5 @@
 -- `put_decimal` prints a number in decimal and leaves the rest of the area.
-use Rattle.listing.specs.Digits.{placesUpTo, decimal}
+use Rattle.listing.specs.Digits.{small, placesUpTo, decimal}
 use Rattle.listing.proofs.DigitLaws.{length-digits}
 use Rattle.flash.proofs.Kit.{arith, needs}
 use Rattle.listing.proofs.digits.put_decimal.Statement.{statement}
@@ -12,7 +12,7 @@ put-digits-requires : tie.Need-put-digits-requires
 unfolding decimal
 put-digits-requires c κs =
     let n = c .before .before .before .args .n in
-    omega (arith, length-digits 10 (placesUpTo n n) n)
+    omega (arith, length-digits small 10 (placesUpTo n n) n)
 
 same-length : tie.Need-same-length
 same-length c = search needs

@@ -2,13 +2,13 @@
 use Rattle.flash.proofs.Kit.{length-take-le, take-length, length, take, _≡_, refl, _-_, _≤_, _<_, arith, needs}
 use Rattle.listing.proofs.PrintLaws.{nothing-printed, printed-then, hex-more, length-hex}
 use Rattle.flash.specs.Lists.{concatMap}
-use Rattle.listing.specs.Digits.{hex}
+use Rattle.listing.specs.Digits.{small, hex}
 use Rattle.listing.specs.Lines.{Printed}
 use Rattle.listing.proofs.digits.put_hex.Statement.{statement}
 use Rattle.listing.proofs.digits.put_hex.Tie as tie
 
 abbrev Inv-loop : tie.InvT-loop
-Inv-loop out₀ at bytes next₀ i₀ out next i = Printed (concatMap hex (take i bytes)) out₀ at out next × (i ≤ length bytes) × (length out ≡ length out₀)
+Inv-loop out₀ at bytes next₀ i₀ out next i = Printed (concatMap (hex small) (take i bytes)) out₀ at out next × (i ≤ length bytes) × (length out ≡ length out₀)
 
 abbrev μ-loop : tie.MeasureT-loop
 μ-loop out₀ at bytes next₀ i₀ out next i = length bytes - i
@@ -27,9 +27,9 @@ put-digits-requires : tie.Need-put-digits-requires Inv-loop μ-loop
 put-digits-requires c κs =
     let l = c .before .before .before .before .loop in
     let a = c .before .before .before .before .before .before .before .args in
-    let done = length-hex (take (l .i) (a .bytes .now)) in
+    let done = length-hex small (take (l .i) (a .bytes .now)) in
     let i = length-take-le (l .i) (a .bytes .now) (omega arith) in
-    omega (arith, length-hex (a .bytes .now))
+    omega (arith, length-hex small (a .bytes .now))
 
 add-i : tie.Need-add-i Inv-loop μ-loop
 add-i c = search needs
@@ -44,7 +44,7 @@ loop-again c =
     let l = d .before .before .before .before .before .loop in
     let a = d .before .before .before .before .before .before .before .before .args in
     let inside : l .i < length (a .bytes .now) = omega arith in
-    (rw (hex-more (a .bytes .now) (l .i) inside) (printed-then (l .inv .0) (rw (d .before .wide .ensures) at (d .put-digits .ensures))), omega arith, omega arith)
+    (rw (hex-more small (a .bytes .now) (l .i) inside) (printed-then (l .inv .0) (rw (d .before .wide .ensures) at (d .put-digits .ensures))), omega arith, omega arith)
 
 same-length : tie.Need-same-length Inv-loop μ-loop
 same-length c = search needs

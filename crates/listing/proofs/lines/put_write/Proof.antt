@@ -1,7 +1,7 @@
 -- `put_write` prints the line of a write with the page's bytes.
 use Rattle.flash.proofs.Kit.{_∷_, _+_, _≤_, arith, length, length-append, needs}
 use Rattle.flash.specs.Lists.{concatMap}
-use Rattle.listing.specs.Digits.{hex}
+use Rattle.listing.specs.Digits.{small, hex}
 use Rattle.listing.specs.Lines.{writeLine}
 use Rattle.listing.proofs.PrintLaws.{printed-then}
 use Rattle.listing.proofs.lines.put_write.Statement.{statement}
@@ -12,7 +12,7 @@ unfolding writeLine
 put-decimal-requires c κs = omega (arith, simp length-append at (c .before .before .before .pre))
 
 -- the bytes and the end of the line fit behind the page's number
-room : (c : tie.After-put-field2) → (let a = c .before .before .before .before .before .before .before .before .before .before .before .before .before .before .args in c .put-field2 .result + length (32 ∷ concatMap hex (a .bytes .now)) + 1 ≤ length (a .out .now))
+room : (c : tie.After-put-field2) → (let a = c .before .before .before .before .before .before .before .before .before .before .before .before .before .before .args in c .put-field2 .result + length (32 ∷ concatMap (hex small) (a .bytes .now)) + 1 ≤ length (a .out .now))
 unfolding writeLine
 room c =
     let block = simp length-append at (c .before .before .before .before .before .put-field .ensures .next-is) in

@@ -1,0 +1,93 @@
+// The last pass over a text that has no fault: its bytes are put into the image.
+ghost use mathlib.Core.Bool.{true};
+ghost use mathlib.Core.Path.{_≡_};
+ghost use Prim.Native.Nat.{_+_, _*_, _≤_, _<_};
+ghost use lib.ListN.{length};
+ghost use Rattle.hex.specs.Reading.{digitValue, isDigit, bytesOf};
+ghost use Rattle.hex.specs.inner.Lines.{Weights, AreDigits, bytesFrom, putFrom};
+ghost use Rattle.hex.specs.inner.Passes.{judgedBy, nowhere, Walk};
+use crate::survey::Found;
+use crate::turn::count_at;
+use crate::turn::half_at;
+use crate::turn::next_at;
+use crate::turn::place_at;
+use flash::bytes::copy;
+use flash::bytes::fill;
+
+// The value of a digit of either case by its bits, which vector instructions can do: letters have bit 6.
+fn digit(code: u8) -> u8
+    requires { ⌜ isDigit code ≡ true ⌝ }
+    ensures { λ r. ⌜ (r ≡ digitValue code) × (r < 16) ⌝ }
+{
+    code % 16 + 9 * (code / 64)
+}
+
+fn byte_of(high: u8, low: u8) -> u8
+    requires { ⌜ (isDigit high ≡ true) × (isDigit low ≡ true) ⌝ }
+    ensures { λ r. ⌜ r ≡ digitValue high * 16 + digitValue low ⌝ }
+{
+    digit(high) * 16 + digit(low)
+}
+
+// The bytes that two digits each spell become those of a part.
+fn put_bytes(text: &[u8], from: usize, part: &mut [u8])
+    requires { ⌜ (from + 2 * length (now part) ≤ length (now text)) × AreDigits (now text) from (2 * length (now part)) ⌝ }
+    ensures { λ _. ⌜ now (part .exit) ≡ bytesFrom (now (text .entry)) from (length (now (part .entry))) ⌝ }
+{
+    let mut i = 0;
+    while i < part.len() {
+        let at = from + 2 * i;
+        part[i] = byte_of(text[at], text[at + 1]);
+        i += 1;
+    }
+}
+
+// Sixteen bytes are gathered before they are put: no byte put could then be one yet to be read, and both loops become vector instructions.
+fn put_sixteen(text: &[u8], from: usize, image: &mut [u8], place: usize)
+    requires { ⌜ (from + 32 ≤ length (now text)) × AreDigits (now text) from 32 × (place + 16 ≤ length (now image)) ⌝ }
+    ensures { λ _. ⌜ now (image .exit) ≡ putFrom (now (text .entry)) from 16 (now (image .entry)) place ⌝ }
+{
+    let mut bytes = [0u8; 16];
+    put_bytes(text, from, &mut bytes);
+    let end = place + 16;
+    copy(&mut image[place..end], &bytes);
+}
+
+fn put_rest(text: &[u8], from: usize, count: usize, image: &mut [u8], place: usize)
+    requires { ⌜ (from + 2 * count ≤ length (now text)) × AreDigits (now text) from (2 * count) × (place + count ≤ length (now image)) ⌝ }
+    ensures { λ _. ⌜ now (image .exit) ≡ putFrom (now (text .entry)) from count (now (image .entry)) place ⌝ }
+{
+    let end = place + count;
+    put_bytes(text, from, &mut image[place..end]);
+}
+
+// The bytes of a record are put to a place.
+fn put(text: &[u8], from: usize, count: usize, image: &mut [u8], place: usize)
+    requires { ⌜ (from + 2 * count ≤ length (now text)) × AreDigits (now text) from (2 * count) × (place + count ≤ length (now image)) ⌝ }
+    ensures { λ _. ⌜ now (image .exit) ≡ putFrom (now (text .entry)) from count (now (image .entry)) place ⌝ }
+{
+    let mut i = 0;
+    while i + 16 <= count {
+        put_sixteen(text, from + 2 * i, image, place + i);
+        i += 16;
+    }
+    put_rest(text, from + 2 * i, count - i, image, place + i);
+}
+
+// All bytes are put where they go; those not given are 255.
+pub fn put_all(weights: &[u32], text: &[u8], found: Found, image: &mut [u8])
+    requires { ⌜ Weights (now weights) × Walk (now text) found 0 0 ⌝ }
+    requires { ⌜ (found .number ≡ 0) × (length (now image) ≡ found .size) ⌝ }
+    ensures { λ _. ⌜ now (image .exit) ≡ bytesOf (judgedBy nowhere (found .size) (now (text .entry))) ⌝ }
+{
+    fill(image, 255);
+    let mut at = 0;
+    let mut upper = 0;
+    while at < found.end {
+        let count = count_at(weights, text, at);
+        let place = place_at(weights, text, at, upper);
+        put(text, at + 9, count, image, place);
+        upper = half_at(weights, text, at, upper);
+        at = next_at(weights, text, at);
+    }
+}
