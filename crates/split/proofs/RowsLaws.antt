@@ -17,8 +17,7 @@ use Rattle.flash.proofs.Comparisons.{eq-cases}
 use Rattle.split.proofs.MaskLaws.{bit-lt, no-bits, or-bit, ones-below, lowest-above}
 use Rattle.split.proofs.Pigeon.{once, inside}
 use Rattle.split.proofs.OneToOneLaws.{one-to-one-of, entry-lt, entry-same, entry-onto}
-use Rattle.split.proofs.SplitLaws.{PageOf, Proper, set-lt, page-from, page-to, split-of}
-use Rattle.split.proofs.RuleLaws.{same-place}
+use Rattle.split.proofs.SplitLaws.{PageOf, Proper, same-place, set-lt, page-from, page-to, split-of}
 
 -- ---- the bits of a row
 pub bits-none : (bytes : List ℕ) (start : ℕ) → Bits bytes start start 0

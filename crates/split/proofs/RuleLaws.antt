@@ -1,6 +1,6 @@
 -- The split rule ends in a split: each page in turn finds a set that is unused at its source, and at its destination after the exchange.
-use Rattle.flash.proofs.Kit.{_≡_, refl, sym, ap, ap₂, _∙_, subst, _⊎_, inl, inr, _≢_, ⊎-elim, true, false, not, List, [], _∷_, _++_, ℕ, zero, suc}
-use Rattle.flash.proofs.Kit.{_+_, _-_, _*_, _/_, _%_, _≤_, _<_, not-suc-le-zero, div-add-mod', mod-lt, arith, length, getD, length-append}
+use Rattle.flash.proofs.Kit.{_≡_, refl, sym, ap, _∙_, subst, _⊎_, inl, inr, _≢_, ⊎-elim, true, false, not, List, [], _∷_, _++_, ℕ, zero, suc}
+use Rattle.flash.proofs.Kit.{_+_, _-_, _*_, _%_, _≤_, _<_, not-suc-le-zero, mod-lt, arith, length, getD, length-append}
 use Rattle.flash.proofs.Kit.{List·getD-append, getD-at, not-true, not-false}
 use Rattle.flash.specs.Lists.{first}
 use Rattle.flash.specs.Geometry.{blockOf}
@@ -12,7 +12,7 @@ use Rattle.flash.proofs.Ranges.{any-is, First, any-range-find, Missed, first-ca
 use Rattle.flash.proofs.Comparisons.{lt-cases}
 use Rattle.split.proofs.Pigeon.{crowded}
 use Rattle.split.proofs.OneToOneLaws.{entry-lt, entry-same}
-use Rattle.split.proofs.SplitLaws.{some-page, block-range, split-of}
+use Rattle.split.proofs.SplitLaws.{some-page, block-range, split-of, same-place}
 use Rattle.split.proofs.Walk.{Coloured, PageAt, page-test, test-page, pageAt, page-found, walk-ends, path-bound, path-length}
 use Rattle.split.proofs.Exchange.{exchange-length, after-coloured, free-source, free-destination}
 
@@ -69,11 +69,6 @@ pub at-place : (m : ℕ) (list : List ℕ) (end : End) (k : ℕ) → blockAt m l
 unfolding placeAt blockAt sourceBlock destBlock
 at-place m list source k = refl
 at-place m list destination k = refl
-
-pub same-place : (m x y : ℕ) → blockOf m x ≡ blockOf m y → x % m ≡ y % m → x ≡ y
-same-place m x y d r =
-    let e : x / m ≡ y / m = omega arith in
-    sym (div-add-mod' x m) ∙ ap₂ (λ (i j : ℕ). i * m + j) e r ∙ div-add-mod' y m
 
 module _ (n m : ℕ) (list : List ℕ) (listed : length list ≡ n * m) (accepted : isOneToOne (n * m) list ≡ true) where
   place-same : (end : End) (x y : ℕ) → x < n * m → y < n * m → placeAt list end x ≡ placeAt list end y → x ≡ y

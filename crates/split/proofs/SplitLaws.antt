@@ -1,8 +1,8 @@
 -- What a split says: each set has just one page from each data block and just one page to each; and what makes one.
 -- The layer above relies on these laws and on nothing of the rule.
-use Rattle.flash.proofs.Kit.{_≡_, refl, sym, ap, _∙_, Bool, true, _&&_, List, ℕ, zero, suc, _+_, _-_, _*_, _/_, _≤_, _<_, mul-le-mul-right, suc-mul}
+use Rattle.flash.proofs.Kit.{_≡_, refl, sym, ap, ap₂, _∙_, Bool, true, _&&_, List, ℕ, zero, suc, _+_, _-_, _*_, _/_, _%_, _≤_, _<_, mul-le-mul-right}
 use Rattle.flash.proofs.Kit.{div-lt-iff-lt-mul, mul-add-div-right, div-eq-of-lt, mul-zero, arith, eqb, ltb, length, getD, eqb-true, eq-eqb, ltb-true}
-use Rattle.flash.proofs.Kit.{lt-ltb}
+use Rattle.flash.proofs.Kit.{lt-ltb, suc-mul, div-add-mod'}
 use Rattle.flash.specs.Lists.{range, all, count, first}
 use Rattle.flash.specs.Geometry.{blockOf}
 use Rattle.split.specs.OneToOne.{isOneToOne}
@@ -12,6 +12,12 @@ use Rattle.flash.proofs.Searches.{all-at, all-of}
 use Rattle.flash.proofs.Ranges.{all-in, all-is, first-hit, count-one, one-counted}
 use Rattle.split.proofs.Pigeon.{onto}
 use Rattle.split.proofs.OneToOneLaws.{entry-lt, entry-same}
+
+-- a number is told by its block and by its place in the block
+pub same-place : (m x y : ℕ) → blockOf m x ≡ blockOf m y → x % m ≡ y % m → x ≡ y
+same-place m x y d r =
+    let e : x / m ≡ y / m = omega arith in
+    sym (div-add-mod' x m) ∙ ap₂ (λ (i j : ℕ). i * m + j) e r ∙ div-add-mod' y m
 
 -- a page of a set at a block; `block` tells the block of each page, at its source or at its destination
 pub record PageOf (originals : ℕ) (sets : List ℕ) (block : ℕ → ℕ) (set at k : ℕ) : Type 0 where
