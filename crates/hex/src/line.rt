@@ -4,13 +4,12 @@ ghost use Prim.Native.Nat.{_≤_, _<_};
 ghost use lib.ListN.{length};
 ghost use Rattle.hex.specs.Reading.{isType};
 ghost use Rattle.hex.specs.inner.Lines.{Weights, nextFrom, Framed, GoodIs};
+use crate::LINE_FEED;
 use crate::weights::NO_DIGIT;
 use crate::weights::byte_at;
 use crate::weights::weight_from;
 use crate::weights::word_at;
 use flash::casts::word;
-
-const LINE_FEED: u8 = 10;
 
 const CARRIAGE_RETURN: u8 = 13;
 

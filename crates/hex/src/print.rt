@@ -7,10 +7,9 @@ ghost use Rattle.flash.specs.Lists.{concatMap};
 ghost use Rattle.listing.specs.Digits.{capitals, digitOf, hex};
 ghost use Rattle.listing.specs.Lines.{Printed};
 ghost use Rattle.hex.specs.Records.{total, recordText};
+use crate::LINE_FEED;
 use flash::bytes::copy;
 use listing::digits::put_text;
-
-const LINE_FEED: u8 = 10;
 
 // Room for what stands in front of a checksum, 4 fields and 16 bytes, in whole words of 8: the loop over it is compiled to vector
 // instructions.

@@ -11,6 +11,7 @@ use crate::turn::count_at;
 use crate::turn::half_at;
 use crate::turn::next_at;
 use crate::turn::place_at;
+use flash::ERASED;
 use flash::bytes::copy;
 use flash::bytes::fill;
 
@@ -74,13 +75,13 @@ fn put(text: &[u8], from: usize, count: usize, image: &mut [u8], place: usize)
     put_rest(text, from + 2 * i, count - i, image, place + i);
 }
 
-// All bytes are put where they go; those not given are 255.
+// All bytes are put where they go; the others are as an erase leaves them.
 pub fn put_all(weights: &[u32], text: &[u8], found: Found, image: &mut [u8])
     requires { ⌜ Weights (now weights) × Walk (now text) found 0 0 ⌝ }
     requires { ⌜ (found .number ≡ 0) × (length (now image) ≡ found .size) ⌝ }
     ensures { λ _. ⌜ now (image .exit) ≡ bytesOf (judgedBy nowhere (found .size) (now (text .entry))) ⌝ }
 {
-    fill(image, 255);
+    fill(image, ERASED);
     let mut at = 0;
     let mut upper = 0;
     while at < found.end {

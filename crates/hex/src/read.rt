@@ -5,6 +5,7 @@ ghost use lib.ListN.{length};
 ghost use Rattle.hex.specs.Reading.{Read, numberOf};
 ghost use Rattle.hex.specs.inner.Lines.{Weights};
 ghost use Rattle.hex.specs.inner.Passes.{judgedBy, onlyIn, fell, Walk, SurveyIs, SpanIs, RepeatsIs};
+use crate::SPAN;
 use crate::bits::look;
 use crate::put::put_all;
 use crate::survey::FELL;
@@ -57,7 +58,7 @@ fn repeats(weights: &[u32], text: &[u8], found: Found, tops: &[usize]) -> bool
     if found.number == 10 {
         return true;
     }
-    let spans = found.size / 65536 + 1;
+    let spans = found.size / SPAN + 1;
     let mut w = 0;
     while w < spans {
         if span_repeats(weights, text, found, w, tops[w]) {

@@ -99,17 +99,7 @@ fn read_request(text: &[u8]) -> HexRequest {
 
 fn write_request(sizes: Sizes, image: &[u8]) -> HexRequest {
     let text = vec![0x5a; text_length::<Correct>(image.len())];
-    let spare = vec![255; sizes.spare_bytes()];
-    let marks = [vec![255; sizes.pages()], vec![0; sizes.originals()]];
-    HexRequest {
-        call: HexCall::Write,
-        sizes,
-        parts: HexParts {
-            text,
-            store: [&spare[..], image].concat(),
-            marks: marks.concat(),
-        },
-    }
+    HexRequest::write_at_rest(sizes, image, text)
 }
 
 pub fn check(tally: &mut Tally) {

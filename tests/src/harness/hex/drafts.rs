@@ -215,15 +215,6 @@ pub fn read_request(sizes: Sizes, text: Vec<u8>, random: &mut Random) -> HexRequ
 
 /// The writing of a store at rest.
 pub fn write_request(sizes: Sizes, image: &[u8], random: &mut Random) -> HexRequest {
-    let spare = vec![255; sizes.spare_bytes()];
-    let marks = [vec![255; sizes.pages()], vec![0; sizes.originals()]];
-    HexRequest {
-        call: HexCall::Write,
-        sizes,
-        parts: HexParts {
-            text: vec![random.byte(); due_length::<Correct>(&sizes, HexPart::Text)],
-            store: [&spare[..], image].concat(),
-            marks: marks.concat(),
-        },
-    }
+    let text = vec![random.byte(); due_length::<Correct>(&sizes, HexPart::Text)];
+    HexRequest::write_at_rest(sizes, image, text)
 }

@@ -52,6 +52,23 @@ pub struct HexRequest {
     pub parts: HexParts,
 }
 
+impl HexRequest {
+    /// The writing of a store at rest, over a text.
+    pub fn write_at_rest(sizes: Sizes, image: &[u8], text: Vec<u8>) -> HexRequest {
+        let spare = vec![255; sizes.spare_bytes()];
+        let marks = [vec![255; sizes.pages()], vec![0; sizes.originals()]];
+        HexRequest {
+            call: HexCall::Write,
+            sizes,
+            parts: HexParts {
+                text,
+                store: [&spare[..], image].concat(),
+                marks: marks.concat(),
+            },
+        }
+    }
+}
+
 #[derive(Clone, Debug, PartialEq)]
 pub struct HexAnswer {
     pub returned: u32,
