@@ -3,7 +3,7 @@ use Rattle.flash.proofs.Kit.{_≡_, refl, sym, ap, _∙_, ⊎-elim, Bool, false
 use Rattle.flash.proofs.Bools.{never-both}
 use Rattle.flash.proofs.Comparisons.{eq-cases}
 use Rattle.hex.specs.Reading.{isType}
-use Rattle.hex.specs.inner.Lines.{weightFrom, wordFrom, sizeAt, addressAt, kindAt, AreDigits, Framed, Good, GoodIs}
+use Rattle.hex.specs.inner.Lines.{weightFrom, wordFrom, sizeAt, addressAt, kindAt, AreDigits, Weighs, Framed, Good, GoodIs}
 use Rattle.hex.specs.inner.Passes.{halfAt, placeAt, countAt}
 use Rattle.hex.proofs.WeightLaws.{digits-part, digits-weigh, weigh-digits, byte-weight, byte-small}
 use Rattle.hex.proofs.LineLaws.{type-upper}
@@ -49,19 +49,23 @@ module _ (text : List ℕ) (at : ℕ) where
   first-is first size e h s =
       s ∙ e ∙ byte-weight text (at + 1) (weigh-digits text (at + 1) 1 (omega arith))
 
-  module _ (size sum : ℕ) (F : Framed text at size) (w : sum ≡ weightFrom text (at + 1) (5 + size)) where
-    sum-is : sum ≡ weightFrom text (at + 1) (5 + sizeAt text at)
-    sum-is = w ∙ ap (λ (x : ℕ). weightFrom text (at + 1) (5 + x)) (F .size-is)
+  module _ (size sum : ℕ) (F : Framed text at size) (W : Weighs (weightFrom text (at + 1) (5 + size)) sum) where
+    weight-is : weightFrom text (at + 1) (5 + size) ≡ weightFrom text (at + 1) (5 + sizeAt text at)
+    weight-is = ap (λ (x : ℕ). weightFrom text (at + 1) (5 + x)) (F .size-is)
 
-    pub heavy : 131072 ≤ sum → GoodIs text at false
-    heavy h = not-good (λ G. omega (arith, sum-is, all-light G))
-
-    pub uneven : (sum % 256 ≡ 0 → ⊥) → GoodIs text at false
-    uneven f = not-good (λ G. f (ap (λ (x : ℕ). x % 256) sum-is ∙ G .sums))
+    pub too-heavy : 131072 ≤ sum → GoodIs text at false
+    too-heavy h = not-good (λ G. omega (arith, W .heavy h, weight-is, all-light G))
 
     module _ (light : sum < 131072) where
+      sum-is : sum ≡ weightFrom text (at + 1) (5 + sizeAt text at)
+      sum-is = W .light light ∙ weight-is
+
+      pub uneven : (sum % 256 ≡ 0 → ⊥) → GoodIs text at false
+      uneven f = not-good (λ G. f (ap (λ (x : ℕ). x % 256) sum-is ∙ G .sums))
+
       pub framed-digits : (from count : ℕ) → at + 1 ≤ from → from + count ≤ at + 11 + 2 * size → AreDigits text from count
-      framed-digits from count l h = digits-part text (at + 1) (2 * (5 + size)) (weigh-digits text (at + 1) (5 + size) (omega arith)) from count l (omega arith)
+      framed-digits from count l h =
+          digits-part text (at + 1) (2 * (5 + size)) (weigh-digits text (at + 1) (5 + size) (omega (arith, W .light light))) from count l (omega arith)
 
       pub sound-is : sum % 256 ≡ 0 → (kind address : ℕ) (r : Bool) → kind ≡ kindAt text at → address ≡ addressAt text at → r ≡ isType kind address size → GoodIs text at r
       sound-is mult kind address r k a t =

@@ -1,5 +1,5 @@
 -- A sum of weights tells whether all codes are digits, and is then the sum of the bytes that they spell.
-use Rattle.flash.proofs.Kit.{_≡_, refl, sym, ap, _∙_, _⊎_, inl, inr, ⊎-elim, Bool, true, false, _&&_, List, ℕ, zero, suc, _+_, _-_, _*_, _/_, _%_}
+use Rattle.flash.proofs.Kit.{_≡_, refl, sym, ap, _∙_, _⊎_, inl, inr, ⊎-elim, Bool, true, false, _&&_, _||_, List, ℕ, zero, suc, _+_, _-_, _*_, _/_, _%_}
 use Rattle.flash.proofs.Kit.{_≤_, _<_, arith, add-one, leb, length, getD, take, drop, set, length-drop, getD-set-same, getD-set-other, ltb-true}
 use Rattle.flash.proofs.Kit.{lt-ltb, le-ltb}
 use Rattle.flash.proofs.Bools.{bool-cases}
@@ -18,7 +18,7 @@ pub weight-digit : (code : ℕ) → isDigit code ≡ true → weightOf code ≡ 
 unfolding weightOf
 weight-digit code e = rw e
 
-weight-other : (code : ℕ) → isDigit code ≡ false → weightOf code ≡ 131072
+pub weight-other : (code : ℕ) → isDigit code ≡ false → weightOf code ≡ 131072
 unfolding weightOf
 weight-other code e = rw e
 
@@ -70,13 +70,23 @@ digit-bits code e =
     r)
     (value-cases code)
 
-pub weight-value : (code value : ℕ) → digitValue code ≡ value → value < 16 → weightOf code ≡ value
+-- by its range
+pub digit-ranges : (code : ℕ) (d u l : Bool) → d ≡ (leb 48 code && leb code 57) → u ≡ (leb 65 code && leb code 70) → l ≡ (leb 97 code && leb code 102)
+    → ((d || u) || l) ≡ isDigit code
 unfolding isDigit
-weight-value code value e h = weight-digit code (lt-ltb (digitValue code) 16 (omega arith)) ∙ e
-
-pub weight-none : (code : ℕ) → digitValue code ≡ 16 → weightOf code ≡ 131072
-unfolding isDigit
-weight-none code e = weight-other code (le-ltb (digitValue code) 16 (omega arith))
+digit-ranges code d u l e f g =
+    ⊎-elim
+    (λ (t : d ≡ true). rw t (sym (lt-ltb (digitValue code) 16 (omega (arith, value-decimal code d e t, in-high 48 code 57 d e t)))))
+    (λ (p : d ≡ false).
+    ⊎-elim
+    (λ (t : u ≡ true). rw (p, t) (sym (lt-ltb (digitValue code) 16 (omega (arith, value-capital code d e p u f t, in-high 65 code 70 u f t)))))
+    (λ (q : u ≡ false).
+    ⊎-elim
+    (λ (t : l ≡ true). rw (p, q, t) (sym (lt-ltb (digitValue code) 16 (omega (arith, value-small code d e p u f q l g t, in-high 97 code 102 l g t)))))
+    (λ (r : l ≡ false). rw (p, q, r) (sym (le-ltb (digitValue code) 16 (omega (arith, value-none code d e p u f q l g r)))))
+    (bool-cases l))
+    (bool-cases u))
+    (bool-cases d)
 
 -- ---- the table
 pub weights-more : (weights : List ℕ) (i value : ℕ) → ((k : ℕ) → k < i → getD weights k 0 ≡ weightOf k) → i < length weights → value ≡ weightOf i
@@ -95,6 +105,13 @@ module _ (text : List ℕ) where
       ap (λ (x : ℕ). isDigit (getD text x 0)) (sym e) ∙ D (at + i - from) (omega arith)
 
   module _ (from : ℕ) where
+    -- the two digits of a byte
+    pub digit-pair : (count i : ℕ) → AreDigits text from (2 * count) → i < count
+        → (isDigit (getD text (from + 2 * i) 0) ≡ true) × (isDigit (getD text (from + 2 * i + 1) 0) ≡ true)
+    digit-pair count i D h =
+        let e : from + (2 * i + 1) ≡ from + 2 * i + 1 = omega arith in
+        (D (2 * i) (omega arith), ap (λ (x : ℕ). isDigit (getD text x 0)) (sym e) ∙ D (2 * i + 1) (omega arith))
+
     digit-at : (k i : ℕ) → AreDigits text from (2 * suc k) → i < 2 * suc k → digitValue (getD text (from + i) 0) < 16
     digit-at k i D h = digit-small (getD text (from + i) 0) (D i h)
 
@@ -102,9 +119,8 @@ module _ (text : List ℕ) where
         → weightOf (getD text (from + 2 * k) 0) * 16 + weightOf (getD text (from + 2 * k + 1) 0)
         ≡ digitValue (getD text (from + 2 * k) 0) * 16 + digitValue (getD text (from + 2 * k + 1) 0)
     next-weight k D =
-        let e : from + (2 * k + 1) ≡ from + 2 * k + 1 = omega arith in
-        let low : isDigit (getD text (from + 2 * k + 1) 0) ≡ true = ap (λ (x : ℕ). isDigit (getD text x 0)) (sym e) ∙ D (2 * k + 1) (omega arith) in
-        rw (weight-digit (getD text (from + 2 * k) 0) (D (2 * k) (omega arith)), weight-digit (getD text (from + 2 * k + 1) 0) low)
+        let p = digit-pair (suc k) k D (omega arith) in
+        rw (weight-digit (getD text (from + 2 * k) 0) (p .0), weight-digit (getD text (from + 2 * k + 1) 0) (p .1))
 
     fewer : (k : ℕ) → AreDigits text from (2 * suc k) → AreDigits text from (2 * k)
     fewer k D i h = D i (omega arith)

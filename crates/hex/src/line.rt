@@ -7,6 +7,7 @@ ghost use Rattle.hex.specs.inner.Lines.{Weights, nextFrom, Framed, GoodI
 use crate::LINE_FEED;
 use crate::weights::NO_DIGIT;
 use crate::weights::byte_at;
+use crate::weights::record_weight;
 use crate::weights::weight_from;
 use crate::weights::word_at;
 use flash::casts::word;
@@ -46,7 +47,7 @@ fn is_sound(weights: &[u32], text: &[u8], at: usize, size: usize) -> bool
     requires { ⌜ Weights (now weights) × Framed (now text) at size × (size ≤ 255) ⌝ }
     ensures { λ r. ⌜ GoodIs (now (text .entry)) at r ⌝ }
 {
-    let sum = weight_from(weights, text, at + 1, 5 + size);
+    let sum = record_weight(weights, text, at + 1, size);
     if NO_DIGIT <= sum {
         return false;
     }

@@ -1,11 +1,11 @@
 // The last pass over a text that has no fault: its bytes are put into the image.
-ghost use mathlib.Core.Bool.{true};
 ghost use mathlib.Core.Path.{_≡_};
 ghost use Prim.Native.Nat.{_+_, _*_, _≤_, _<_};
 ghost use lib.ListN.{length};
-ghost use Rattle.hex.specs.Reading.{digitValue, isDigit, bytesOf};
+ghost use Rattle.hex.specs.Reading.{bytesOf};
 ghost use Rattle.hex.specs.inner.Lines.{Weights, AreDigits, bytesFrom, putFrom};
 ghost use Rattle.hex.specs.inner.Passes.{judgedBy, nowhere, Walk};
+use crate::codes::byte_of;
 use crate::survey::Found;
 use crate::turn::count_at;
 use crate::turn::half_at;
@@ -14,21 +14,6 @@ use crate::turn::place_at;
 use flash::ERASED;
 use flash::bytes::copy;
 use flash::bytes::fill;
-
-// The value of a digit of either case by its bits, which vector instructions can do: letters have bit 6.
-fn digit(code: u8) -> u8
-    requires { ⌜ isDigit code ≡ true ⌝ }
-    ensures { λ r. ⌜ (r ≡ digitValue code) × (r < 16) ⌝ }
-{
-    code % 16 + 9 * (code / 64)
-}
-
-fn byte_of(high: u8, low: u8) -> u8
-    requires { ⌜ (isDigit high ≡ true) × (isDigit low ≡ true) ⌝ }
-    ensures { λ r. ⌜ r ≡ digitValue high * 16 + digitValue low ⌝ }
-{
-    digit(high) * 16 + digit(low)
-}
 
 // The bytes that two digits each spell become those of a part.
 fn put_bytes(text: &[u8], from: usize, part: &mut [u8])
@@ -75,7 +60,8 @@ fn put(text: &[u8], from: usize, count: usize, image: &mut [u8], place: usize)
     put_rest(text, from + 2 * i, count - i, image, place + i);
 }
 
-// All bytes are put where they go; the others are as an erase leaves them.
+// All bytes are put where they go; the others are as an erase leaves them. A head is read before its bytes are put: behind that the compiler
+// would have it read again, lest the bytes were put over it.
 pub fn put_all(weights: &[u32], text: &[u8], found: Found, image: &mut [u8])
     requires { ⌜ Weights (now weights) × Walk (now text) found 0 0 ⌝ }
     requires { ⌜ (found .number ≡ 0) × (length (now image) ≡ found .size) ⌝ }
@@ -87,8 +73,10 @@ pub fn put_all(weights: &[u32], text: &[u8], found: Found, image: &mut [u8])
     while at < found.end {
         let count = count_at(weights, text, at);
         let place = place_at(weights, text, at, upper);
+        let half = half_at(weights, text, at, upper);
+        let next = next_at(weights, text, at);
         put(text, at + 9, count, image, place);
-        upper = half_at(weights, text, at, upper);
-        at = next_at(weights, text, at);
+        upper = half;
+        at = next;
     }
 }

@@ -1,34 +1,25 @@
 // Codes are valued by a table: a digit of either case weighs its value, and any other code more than the bytes of a record come to.
-ghost use mathlib.Core.Bool.{_&&_};
 ghost use mathlib.Core.Path.{_≡_};
 ghost use Prim.Native.Nat.{_+_, _*_, _≤_};
-ghost use lib.Dec.{leb};
 ghost use lib.ListN.{length};
-ghost use Rattle.hex.specs.inner.Lines.{weightOf, weightFrom, byteFrom, wordFrom, AreDigits, Weights};
+ghost use Rattle.hex.specs.inner.Lines.{weightOf, weightFrom, Weighs, byteFrom, wordFrom, AreDigits, Weights};
+use crate::codes::digit;
+use crate::codes::is_digit;
+use crate::codes::others;
+use crate::codes::total;
 use flash::casts::wide;
 use flash::casts::word;
 
 pub const NO_DIGIT: u32 = 131072;
 
-fn within(code: u32, low: u32, high: u32) -> bool
-    ensures { λ r. ⌜ r ≡ (leb low code && leb code high) ⌝ }
-{
-    (low <= code) & (code <= high)
-}
-
-fn weight(code: u32) -> u32
+fn weight(code: u8) -> u32
     ensures { λ r. ⌜ r ≡ weightOf code ⌝ }
 {
-    if within(code, 48, 57) {
-        return code - 48;
+    if is_digit(code) {
+        digit(code) as u32
+    } else {
+        NO_DIGIT
     }
-    if within(code, 65, 70) {
-        return code - 55;
-    }
-    if within(code, 97, 102) {
-        return code - 87;
-    }
-    NO_DIGIT
 }
 
 pub fn weigh_codes(weights: &mut [u32])
@@ -38,7 +29,7 @@ pub fn weigh_codes(weights: &mut [u32])
     let mut code: u32 = 0;
     while code < 256 {
         let at = word(code);
-        weights[at] = weight(code);
+        weights[at] = weight(code as u8);
         code += 1;
     }
 }
@@ -64,6 +55,31 @@ pub fn weight_from(weights: &[u32], text: &[u8], from: usize, count: usize) -> u
         i += 1;
     }
     sum
+}
+
+// What 16 bytes weigh, by vector instructions. Where a code is no digit that is not worked out: to read the codes here by the table too keeps
+// the compiler from making them.
+fn sixteen_weight(text: &[u8], from: usize) -> u32
+    requires { ⌜ from + 32 ≤ length (now text) ⌝ }
+    ensures { λ r. ⌜ Weighs (weightFrom (now (text .entry)) from 16) r × (r ≤ 131072) ⌝ }
+{
+    if others(text, from) != 0 {
+        return NO_DIGIT;
+    }
+    total(text, from)
+}
+
+// What a record weighs behind its colon: its head, its bytes and its checksum.
+pub fn record_weight(weights: &[u32], text: &[u8], from: usize, size: usize) -> u32
+    requires { ⌜ Weights (now weights) × (from + 2 * (5 + size) ≤ length (now text)) × (size ≤ 255) ⌝ }
+    ensures { λ r. ⌜ Weighs (weightFrom (now (text .entry)) from (5 + size)) r ⌝ }
+{
+    if size != 16 {
+        return weight_from(weights, text, from, 5 + size);
+    }
+    let head = weight_from(weights, text, from, 4);
+    let bytes = sixteen_weight(text, from + 8);
+    head + bytes + weight_from(weights, text, from + 40, 1)
 }
 
 // A byte and a word of two bytes, once their codes are known to be digits.

@@ -2,7 +2,7 @@
 use mathlib.Core.Path.{_≡_}
 use mathlib.Core.Bool.{Bool, true, false, cond, _&&_}
 use mathlib.Core.List.{List, _++_}
-use Prim.Native.Nat.{ℕ, zero, suc, _+_, _*_, _%_, _<_}
+use Prim.Native.Nat.{ℕ, zero, suc, _+_, _*_, _%_, _≤_, _<_}
 use lib.Dec.{eqb}
 use lib.ListN.{length, getD, take, drop}
 use Rattle.hex.specs.Reading.{digitValue, isDigit, pairs, isType}
@@ -22,6 +22,16 @@ pub record Weights (weights : List ℕ) : Type 0 where
 
 abbrev pub AreDigits : (text : List ℕ) → (from count : ℕ) → Type 0
 AreDigits text from count = (i : ℕ) → i < count → isDigit (getD text (from + i) 0) ≡ true
+
+-- how many of `count` codes are no digit
+unfoldable pub othersFrom : (text : List ℕ) → (from count : ℕ) → ℕ
+othersFrom text from zero = 0
+othersFrom text from (suc i) = othersFrom text from i + cond (isDigit (getD text (from + i) 0)) 0 1
+
+-- a sum is the weight, or both say only that some code is no digit
+pub record Weighs (weight sum : ℕ) : Type 0 where
+  pub light : sum < 131072 → sum ≡ weight
+  pub heavy : 131072 ≤ sum → 131072 ≤ weight
 
 -- ---- what digits spell from a position on: a byte, two bytes, some bytes
 unfoldable pub byteFrom : (text : List ℕ) → (from : ℕ) → ℕ

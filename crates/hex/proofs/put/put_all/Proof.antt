@@ -27,35 +27,35 @@ count-at-requires c κs = (c .before .before .before .before .before .before .be
 place-at-requires : tie.Need-place-at-requires Inv-loop μ-loop
 place-at-requires c κs = (c .before .before .before .before .before .before .before .before .before .before .before .pre .0 .0, placing-step (c .before .before .before .loop .inv .0) (c .before .if1 .taken) .good, c .before .before .before .loop .inv .0 .low)
 
+half-at-requires : tie.Need-half-at-requires Inv-loop μ-loop
+half-at-requires c κs = (c .before .before .before .before .before .before .before .before .before .before .before .before .pre .0 .0, placing-step (c .before .before .before .before .loop .inv .0) (c .before .before .if1 .taken) .good)
+
+next-at-requires : tie.Need-next-at-requires Inv-loop μ-loop
+next-at-requires c κs = (c .before .before .before .before .before .before .before .before .before .before .before .before .before .pre .0 .0, placing-step (c .before .before .before .before .before .loop .inv .0) (c .before .before .before .if1 .taken) .good)
+
 add-put : tie.Need-add-put Inv-loop μ-loop
-add-put c = omega (arith, placing-step (c .before .before .before .before .loop .inv .0) (c .before .before .if1 .taken) .good .inside)
+add-put c = omega (arith, placing-step (c .before .before .before .before .before .before .loop .inv .0) (c .before .before .before .before .if1 .taken) .good .inside)
 
 put-requires : tie.Need-put-requires Inv-loop μ-loop
 put-requires c κs =
-    let l = c .before .before .before .before .before .loop in
-    let text = c .before .before .before .before .before .before .before .before .before .before .before .before .before .args .text .now in
-    let S = placing-step (c .before .before .before .before .before .loop .inv .0) (c .before .before .before .if1 .taken) in
-    let n = c .before .before .count-at .ensures in
-    let p = c .before .place-at .ensures in
+    let l = c .before .before .before .before .before .before .before .loop in
+    let text = c .before .before .before .before .before .before .before .before .before .before .before .before .before .before .before .args .text .now in
+    let S = placing-step (l .inv .0) (c .before .before .before .before .before .if1 .taken) in
+    let n = c .before .before .before .before .count-at .ensures in
+    let p = c .before .before .before .place-at .ensures in
     let z = count-size text (l .at) in
     (omega (arith, S .good .inside), data-digits text (l .at) (S .good) _ (omega arith), omega (arith, S .goes .fits, l .inv .1))
-
-half-at-requires : tie.Need-half-at-requires Inv-loop μ-loop
-half-at-requires c κs = (c .before .before .before .before .before .before .before .before .before .before .before .before .before .before .before .before .pre .0 .0, placing-step (c .before .before .before .before .before .before .before .before .loop .inv .0) (c .before .before .before .before .before .before .if1 .taken) .good)
-
-next-at-requires : tie.Need-next-at-requires Inv-loop μ-loop
-next-at-requires c κs = (c .before .before .before .before .before .before .before .before .before .before .before .before .before .before .before .before .before .pre .0 .0, placing-step (c .before .before .before .before .before .before .before .before .before .loop .inv .0) (c .before .before .before .before .before .before .before .if1 .taken) .good)
 
 loop-less : tie.Need-loop-less Inv-loop μ-loop
 loop-less c =
     let G = placing-step (c .before .before .before .before .before .before .before .before .before .before .loop .inv .0) (c .before .before .before .before .before .before .before .before .if1 .taken) .goes in
-    omega (arith, G .inside, G .ends, c .next-at .ensures)
+    omega (arith, G .inside, G .ends, c .before .before .before .before .next-at .ensures)
 
 loop-again : tie.Need-loop-again Inv-loop μ-loop
 loop-again c =
     let l = c .before .before .before .before .before .before .before .before .before .before .loop in
-    let e = rw (c .before .before .before .before .before .before .place-at .ensures, c .before .before .before .before .before .before .before .count-at .ensures) at (c .before .before .before .before .put .ensures) in
-    (rw (e, c .next-at .ensures, c .before .half-at .ensures) (placing-on (l .inv .0) (c .before .before .before .before .before .before .before .before .if1 .taken)), omega (arith, l .inv .1))
+    let e = rw (c .before .before .before .before .before .before .place-at .ensures, c .before .before .before .before .before .before .before .count-at .ensures) at (c .before .before .put .ensures) in
+    (rw (e, c .before .before .before .before .next-at .ensures, c .before .before .before .before .before .half-at .ensures) (placing-on (l .inv .0) (c .before .before .before .before .before .before .before .before .if1 .taken)), omega (arith, l .inv .1))
 
 same-length : tie.Need-same-length Inv-loop μ-loop
 same-length c = omega (arith, c .before .before .loop .inv .1, c .before .before .before .before .before .before .before .before .before .before .pre .1 .1)
@@ -73,10 +73,10 @@ put-all-spec =
     loop-holds
     count-at-requires
     place-at-requires
-    add-put
-    put-requires
     half-at-requires
     next-at-requires
+    add-put
+    put-requires
     loop-less
     loop-again
     same-length

@@ -1,9 +1,9 @@
 -- `put_bytes` leaves the bytes that digits spell in a part.
-use Rattle.flash.proofs.Kit.{_≡_, refl, sym, ap, _∙_, ℕ, _+_, _*_, _++_, append-nil, _-_, _≤_, arith, drop, drop-length, getD, length, length-set}
+use Rattle.flash.proofs.Kit.{_≡_, refl, sym, _∙_, _++_, append-nil, _-_, _≤_, arith, drop, drop-length, length, length-set}
 use Rattle.flash.proofs.Kit.{needs, take, take-all}
 use Rattle.flash.proofs.Loops.{front-more}
-use Rattle.hex.specs.Reading.{isDigit}
 use Rattle.hex.specs.inner.Lines.{bytesFrom}
+use Rattle.hex.proofs.WeightLaws.{digit-pair}
 use Rattle.hex.proofs.PutLaws.{length-bytes, bytes-at}
 use Rattle.hex.proofs.put.put_bytes.Statement.{statement}
 use Rattle.hex.proofs.put.put_bytes.Tie as tie
@@ -36,9 +36,7 @@ shared-slice-read-byte-of-2 c = search needs
 byte-of-requires : tie.Need-byte-of-requires Inv-loop μ-loop
 byte-of-requires c κs =
     let s = c .before .before .before .before .before .before in
-    let i = c .before .before .before .loop .i in
-    let e : s .args .from + (2 * i + 1) ≡ s .args .from + 2 * i + 1 = omega arith in
-    (s .pre .1 (2 * i) (omega arith), ap (λ (x : ℕ). isDigit (getD (s .args .text .now) x 0)) (sym e) ∙ s .pre .1 (2 * i + 1) (omega arith))
+    digit-pair (s .args .text .now) (s .args .from) (length (s .args .part .now)) (c .before .before .before .loop .i) (s .pre .1) (omega arith)
 
 slice-write-part : tie.Need-slice-write-part Inv-loop μ-loop
 slice-write-part c = search needs

@@ -17,6 +17,9 @@ loop-holds c = ((λ k h. absurd (omega arith)), omega arith, omega arith)
 word-requires : tie.Need-word-requires Inv-loop μ-loop
 word-requires c κs = search needs
 
+cast-weight : tie.Need-cast-weight Inv-loop μ-loop
+cast-weight c = search needs
+
 weight-requires : tie.Need-weight-requires Inv-loop μ-loop
 weight-requires c κs = search needs
 
@@ -57,6 +60,7 @@ weigh-codes-spec =
     μ-loop
     loop-holds
     word-requires
+    cast-weight
     weight-requires
     mul-weights
     slice-write-weights

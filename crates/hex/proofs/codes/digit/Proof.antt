@@ -1,8 +1,8 @@
 -- `digit` values a digit by its bits.
 use Rattle.flash.proofs.Kit.{arith, needs}
 use Rattle.hex.proofs.WeightLaws.{digit-bits, digit-small}
-use Rattle.hex.proofs.put.digit.Statement.{statement}
-use Rattle.hex.proofs.put.digit.Tie as tie
+use Rattle.hex.proofs.codes.digit.Statement.{statement}
+use Rattle.hex.proofs.codes.digit.Tie as tie
 
 mul-result : tie.Need-mul-result
 mul-result c = search needs
