@@ -4,7 +4,7 @@ use Rattle.flash.proofs.Bools.{never-both}
 use Rattle.flash.proofs.Comparisons.{eq-cases}
 use Rattle.hex.specs.Reading.{isType}
 use Rattle.hex.specs.inner.Lines.{weightFrom, wordFrom, sizeAt, addressAt, kindAt, AreDigits, Weighs, Framed, Good, GoodIs}
-use Rattle.hex.specs.inner.Passes.{halfAt, placeAt, countAt}
+use Rattle.hex.specs.inner.Passes.{halfAt, offsetAt, countAt}
 use Rattle.hex.proofs.WeightLaws.{digits-part, digits-weigh, weigh-digits, byte-weight, byte-small}
 use Rattle.hex.proofs.LineLaws.{type-upper}
 
@@ -91,13 +91,13 @@ module _ (text : List ℕ) (at : ℕ) where
   unfolding halfAt
   half-data upper k = rw (ne-eqb (kindAt text at) 4 k)
 
-  pub place-upper : (upper : ℕ) → kindAt text at ≡ 4 → placeAt text at upper ≡ 0
-  unfolding placeAt
-  place-upper upper k = rw (eq-eqb (kindAt text at) 4 k)
+  pub offset-upper : (upper : ℕ) → kindAt text at ≡ 4 → offsetAt text at upper ≡ 0
+  unfolding offsetAt
+  offset-upper upper k = rw (eq-eqb (kindAt text at) 4 k)
 
-  pub place-data : (upper : ℕ) → (kindAt text at ≡ 4 → ⊥) → placeAt text at upper ≡ upper * 65536 + addressAt text at
-  unfolding placeAt
-  place-data upper k = rw (ne-eqb (kindAt text at) 4 k)
+  pub offset-data : (upper : ℕ) → (kindAt text at ≡ 4 → ⊥) → offsetAt text at upper ≡ upper * 65536 + addressAt text at
+  unfolding offsetAt
+  offset-data upper k = rw (ne-eqb (kindAt text at) 4 k)
 
   pub count-upper : kindAt text at ≡ 4 → countAt text at ≡ 0
   unfolding countAt

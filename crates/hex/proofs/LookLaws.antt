@@ -5,7 +5,7 @@ use Rattle.flash.specs.Lists.{any}
 use Rattle.hex.specs.Reading.{recordsIn, going, fault, isGiven, numberOf}
 use Rattle.hex.specs.declared.survey.Found.{Found}
 use Rattle.hex.specs.inner.Lines.{bytesAt, Good}
-use Rattle.hex.specs.inner.Passes.{judgeAllIn, stateOf, putAt, judgedBy, onlyIn, halfAt, placeAt, countAt, nextAt, Goes, Walk}
+use Rattle.hex.specs.inner.Passes.{judgeAllIn, stateOf, putAt, judgedBy, onlyIn, halfAt, offsetAt, countAt, nextAt, Goes, Walk}
 use Rattle.hex.specs.inner.Bits.{Shows, LookIs}
 use Rattle.hex.proofs.TurnLaws.{fault-stays}
 use Rattle.hex.proofs.BitLaws.{none-set}
@@ -41,20 +41,20 @@ module _ {text : List ℕ} {found : Found} {w : ℕ} {words : List ℕ} {at uppe
     pub looking-good : Good text at
     looking-good = walk-step (L .walk) h .good
 
-    pub looking-goes : Goes text at upper size (halfAt text at upper) (placeAt text at upper) (countAt text at) (nextAt text at)
+    pub looking-goes : Goes text at upper size (halfAt text at upper) (offsetAt text at upper) (countAt text at) (nextAt text at)
     looking-goes = walk-step (L .walk) h .goes
 
-    module _ {after : List ℕ} {r : Bool} (K : LookIs words w (halfAt text at upper) (placeAt text at upper) (countAt text at) after r) where
-      room : (placeAt text at upper) + (countAt text at) ≤ length (L .given)
+    module _ {after : List ℕ} {r : Bool} (K : LookIs words w (halfAt text at upper) (offsetAt text at upper) (countAt text at) after r) where
+      room : (offsetAt text at upper) + (countAt text at) ≤ length (L .given)
       room = omega (arith, looking-goes .fits, L .size-is)
 
-      test-is : r ≡ (onlyIn w (halfAt text at upper) && any isGiven (take (countAt text at) (drop (placeAt text at upper) (L .given))))
+      test-is : r ≡ (onlyIn w (halfAt text at upper) && any isGiven (take (countAt text at) (drop (offsetAt text at upper) (L .given))))
       test-is = K .found (L .given) (L .shows) room
 
-      went : judgedBy (onlyIn w) size text ≡ judgeAllIn (onlyIn w) size (cond r (fault 10) (going (stateOf (halfAt text at upper) (putAt (L .given) (placeAt text at upper) (bytesAt text at (countAt text at)))))) (recordsIn (drop (nextAt text at) text))
+      went : judgedBy (onlyIn w) size text ≡ judgeAllIn (onlyIn w) size (cond r (fault 10) (going (stateOf (halfAt text at upper) (putAt (L .given) (offsetAt text at upper) (bytesAt text at (countAt text at)))))) (recordsIn (drop (nextAt text at) text))
       went =
           L .same ∙ looking-goes .is (onlyIn w) (L .given)
-          ∙ ap (λ (t : Bool). judgeAllIn (onlyIn w) size (cond t (fault 10) (going (stateOf (halfAt text at upper) (putAt (L .given) (placeAt text at upper) (bytesAt text at (countAt text at)))))) (recordsIn (drop (nextAt text at) text))) (sym test-is)
+          ∙ ap (λ (t : Bool). judgeAllIn (onlyIn w) size (cond t (fault 10) (going (stateOf (halfAt text at upper) (putAt (L .given) (offsetAt text at upper) (bytesAt text at (countAt text at)))))) (recordsIn (drop (nextAt text at) text))) (sym test-is)
 
       pub looking-hit : r ≡ true → numberOf (judgedBy (onlyIn w) size text) ≡ 10
       unfolding numberOf
@@ -62,10 +62,10 @@ module _ {text : List ℕ} {found : Found} {w : ℕ} {words : List ℕ} {at uppe
 
       pub looking-on : r ≡ false → Looking text found w after (nextAt text at) (halfAt text at upper)
       looking-on e = record {
-        given = putAt (L .given) (placeAt text at upper) (bytesAt text at (countAt text at));
-        same = went ∙ ap (λ (t : Bool). judgeAllIn (onlyIn w) size (cond t (fault 10) (going (stateOf (halfAt text at upper) (putAt (L .given) (placeAt text at upper) (bytesAt text at (countAt text at)))))) (recordsIn (drop (nextAt text at) text))) e;
+        given = putAt (L .given) (offsetAt text at upper) (bytesAt text at (countAt text at));
+        same = went ∙ ap (λ (t : Bool). judgeAllIn (onlyIn w) size (cond t (fault 10) (going (stateOf (halfAt text at upper) (putAt (L .given) (offsetAt text at upper) (bytesAt text at (countAt text at)))))) (recordsIn (drop (nextAt text at) text))) e;
         shows = K .shows e (L .given) (bytesAt text at (countAt text at)) (L .shows) room (looking-goes .length-is);
-        size-is = length-put (L .given) (placeAt text at upper) (bytesAt text at (countAt text at)) (omega (arith, room, looking-goes .length-is)) ∙ L .size-is;
+        size-is = length-put (L .given) (offsetAt text at upper) (bytesAt text at (countAt text at)) (omega (arith, room, looking-goes .length-is)) ∙ L .size-is;
         walk = walk-on (L .walk) h;
         low = looking-goes .half-low;
       }

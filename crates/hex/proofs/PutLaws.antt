@@ -7,11 +7,11 @@ use Rattle.hex.specs.inner.Lines.{bytesFrom, putFrom}
 use Rattle.hex.proofs.PairLaws.{pairs-at, pairs-drop, length-pairs, drop-take}
 
 -- the length of a part that is lent
-pub lent-length : (image : List ℕ) (place count : ℕ) → place + count ≤ length image → length (take (place + count - place) (drop place image)) ≡ count
-lent-length image place count h =
-    let d = length-drop place image in
-    let e : place + count - place ≡ count = omega arith in
-    rw e (length-take-le count (drop place image) (omega arith))
+pub lent-length : (image : List ℕ) (offset count : ℕ) → offset + count ≤ length image → length (take (offset + count - offset) (drop offset image)) ≡ count
+lent-length image offset count h =
+    let d = length-drop offset image in
+    let e : offset + count - offset ≡ count = omega arith in
+    rw e (length-take-le count (drop offset image) (omega arith))
 
 module _ (text : List ℕ) (from : ℕ) where
   pub length-bytes : (count : ℕ) → from + 2 * count ≤ length text → length (bytesFrom text from count) ≡ count
@@ -35,32 +35,32 @@ module _ (text : List ℕ) (from : ℕ) where
       sym (ap (take part) rest ∙ take-take part (count - i) (drop i all) (omega arith) ∙ rw (pairs-drop i (drop from text), drop-drop (2 * i) from text))
 
   -- a part that was lent comes back
-  pub put-back : (count : ℕ) (image back : List ℕ) (place end : ℕ) → end ≡ place + count → back ≡ bytesFrom text from count
-      → take place image ++ (back ++ drop (end - place) (drop place image)) ≡ putFrom text from count image place
-  put-back count image back place end e f =
-      let n : end - place ≡ count = omega arith in
-      rw (f, n, drop-drop count place image)
+  pub put-back : (count : ℕ) (image back : List ℕ) (offset end : ℕ) → end ≡ offset + count → back ≡ bytesFrom text from count
+      → take offset image ++ (back ++ drop (end - offset) (drop offset image)) ≡ putFrom text from count image offset
+  put-back count image back offset end e f =
+      let n : end - offset ≡ count = omega arith in
+      rw (f, n, drop-drop count offset image)
 
   -- one more part behind those that are put
-  pub put-on : (count : ℕ) (image : List ℕ) (place i part : ℕ) → from + 2 * count ≤ length text → place + count ≤ length image → i + part ≤ count
-      → putFrom text (from + 2 * i) part (paste image place (bytesFrom text from count) i) (place + i) ≡ paste image place (bytesFrom text from count) (i + part)
-  put-on count image place i part t h l =
+  pub put-on : (count : ℕ) (image : List ℕ) (offset i part : ℕ) → from + 2 * count ≤ length text → offset + count ≤ length image → i + part ≤ count
+      → putFrom text (from + 2 * i) part (paste image offset (bytesFrom text from count) i) (offset + i) ≡ paste image offset (bytesFrom text from count) (i + part)
+  put-on count image offset i part t h l =
       let bytes : List ℕ = bytesFrom text from count in
       let n = length-bytes count t in
-      let e : place + i + part ≡ place + (i + part) = omega arith in
-      let head = take-paste image place bytes i (omega arith) (omega arith) in
-      let tail : drop (place + i + part) (paste image place bytes i) ≡ drop (place + (i + part)) image =
-      sym (drop-drop part (place + i) (paste image place bytes i)) ∙ ap (drop part) (drop-paste image place bytes i (omega arith) (omega arith))
-      ∙ drop-drop part (place + i) image ∙ ap (λ (k : ℕ). drop k image) e in
+      let e : offset + i + part ≡ offset + (i + part) = omega arith in
+      let head = take-paste image offset bytes i (omega arith) (omega arith) in
+      let tail : drop (offset + i + part) (paste image offset bytes i) ≡ drop (offset + (i + part)) image =
+      sym (drop-drop part (offset + i) (paste image offset bytes i)) ∙ ap (drop part) (drop-paste image offset bytes i (omega arith) (omega arith))
+      ∙ drop-drop part (offset + i) image ∙ ap (λ (k : ℕ). drop k image) e in
       rw (head, tail, bytes-part count i part l)
-      (sym (append-assoc (take place image ++ take i bytes) (take part (drop i bytes)) (drop (place + (i + part)) image))
-      ∙ ap (λ (b : List ℕ). b ++ drop (place + (i + part)) image) (append-assoc (take place image) (take i bytes) (take part (drop i bytes)) ∙ ap (λ (b : List ℕ). take place image ++ b) (sym (take-add i part bytes))))
+      (sym (append-assoc (take offset image ++ take i bytes) (take part (drop i bytes)) (drop (offset + (i + part)) image))
+      ∙ ap (λ (b : List ℕ). b ++ drop (offset + (i + part)) image) (append-assoc (take offset image) (take i bytes) (take part (drop i bytes)) ∙ ap (λ (b : List ℕ). take offset image ++ b) (sym (take-add i part bytes))))
 
   -- the last part
-  pub put-last : (count : ℕ) (image : List ℕ) (place i : ℕ) → from + 2 * count ≤ length text → place + count ≤ length image → i ≤ count
-      → putFrom text (from + 2 * i) (count - i) (paste image place (bytesFrom text from count) i) (place + i) ≡ putFrom text from count image place
-  put-last count image place i t h l =
+  pub put-last : (count : ℕ) (image : List ℕ) (offset i : ℕ) → from + 2 * count ≤ length text → offset + count ≤ length image → i ≤ count
+      → putFrom text (from + 2 * i) (count - i) (paste image offset (bytesFrom text from count) i) (offset + i) ≡ putFrom text from count image offset
+  put-last count image offset i t h l =
       let n = length-bytes count t in
       let e : i + (count - i) ≡ count = omega arith in
-      put-on count image place i (count - i) t h (omega arith)
-      ∙ rw (e, take-all count (bytesFrom text from count) (omega arith)) (append-assoc (take place image) (bytesFrom text from count) (drop (place + count) image))
+      put-on count image offset i (count - i) t h (omega arith)
+      ∙ rw (e, take-all count (bytesFrom text from count) (omega arith)) (append-assoc (take offset image) (bytesFrom text from count) (drop (offset + count) image))

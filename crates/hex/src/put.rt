@@ -10,7 +10,7 @@ use crate::survey::Found;
 use crate::turn::count_at;
 use crate::turn::half_at;
 use crate::turn::next_at;
-use crate::turn::place_at;
+use crate::turn::offset_at;
 use flash::ERASED;
 use flash::bytes::copy;
 use flash::bytes::fill;
@@ -29,35 +29,35 @@ fn put_bytes(text: &[u8], from: usize, part: &mut [u8])
 }
 
 // Sixteen bytes are gathered before they are put: no byte put could then be one yet to be read, and both loops become vector instructions.
-fn put_sixteen(text: &[u8], from: usize, image: &mut [u8], place: usize)
-    requires { ⌜ (from + 32 ≤ length (now text)) × AreDigits (now text) from 32 × (place + 16 ≤ length (now image)) ⌝ }
-    ensures { λ _. ⌜ now (image .exit) ≡ putFrom (now (text .entry)) from 16 (now (image .entry)) place ⌝ }
+fn put_sixteen(text: &[u8], from: usize, image: &mut [u8], offset: usize)
+    requires { ⌜ (from + 32 ≤ length (now text)) × AreDigits (now text) from 32 × (offset + 16 ≤ length (now image)) ⌝ }
+    ensures { λ _. ⌜ now (image .exit) ≡ putFrom (now (text .entry)) from 16 (now (image .entry)) offset ⌝ }
 {
     let mut bytes = [0u8; 16];
     put_bytes(text, from, &mut bytes);
-    let end = place + 16;
-    copy(&mut image[place..end], &bytes);
+    let end = offset + 16;
+    copy(&mut image[offset..end], &bytes);
 }
 
-fn put_rest(text: &[u8], from: usize, count: usize, image: &mut [u8], place: usize)
-    requires { ⌜ (from + 2 * count ≤ length (now text)) × AreDigits (now text) from (2 * count) × (place + count ≤ length (now image)) ⌝ }
-    ensures { λ _. ⌜ now (image .exit) ≡ putFrom (now (text .entry)) from count (now (image .entry)) place ⌝ }
+fn put_rest(text: &[u8], from: usize, count: usize, image: &mut [u8], offset: usize)
+    requires { ⌜ (from + 2 * count ≤ length (now text)) × AreDigits (now text) from (2 * count) × (offset + count ≤ length (now image)) ⌝ }
+    ensures { λ _. ⌜ now (image .exit) ≡ putFrom (now (text .entry)) from count (now (image .entry)) offset ⌝ }
 {
-    let end = place + count;
-    put_bytes(text, from, &mut image[place..end]);
+    let end = offset + count;
+    put_bytes(text, from, &mut image[offset..end]);
 }
 
-// The bytes of a record are put to a place.
-fn put(text: &[u8], from: usize, count: usize, image: &mut [u8], place: usize)
-    requires { ⌜ (from + 2 * count ≤ length (now text)) × AreDigits (now text) from (2 * count) × (place + count ≤ length (now image)) ⌝ }
-    ensures { λ _. ⌜ now (image .exit) ≡ putFrom (now (text .entry)) from count (now (image .entry)) place ⌝ }
+// The bytes of a record are put at an offset.
+fn put(text: &[u8], from: usize, count: usize, image: &mut [u8], offset: usize)
+    requires { ⌜ (from + 2 * count ≤ length (now text)) × AreDigits (now text) from (2 * count) × (offset + count ≤ length (now image)) ⌝ }
+    ensures { λ _. ⌜ now (image .exit) ≡ putFrom (now (text .entry)) from count (now (image .entry)) offset ⌝ }
 {
     let mut i = 0;
     while i + 16 <= count {
-        put_sixteen(text, from + 2 * i, image, place + i);
+        put_sixteen(text, from + 2 * i, image, offset + i);
         i += 16;
     }
-    put_rest(text, from + 2 * i, count - i, image, place + i);
+    put_rest(text, from + 2 * i, count - i, image, offset + i);
 }
 
 // All bytes are put where they go; the others are as an erase leaves them. A head is read before its bytes are put: behind that the compiler
@@ -72,10 +72,10 @@ pub fn put_all(weights: &[u32], text: &[u8], found: Found, image: &mut [u8])
     let mut upper = 0;
     while at < found.end {
         let count = count_at(weights, text, at);
-        let place = place_at(weights, text, at, upper);
+        let offset = offset_at(weights, text, at, upper);
         let half = half_at(weights, text, at, upper);
         let next = next_at(weights, text, at);
-        put(text, at + 9, count, image, place);
+        put(text, at + 9, count, image, offset);
         upper = half;
         at = next;
     }

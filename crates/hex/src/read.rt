@@ -14,7 +14,7 @@ use crate::survey::survey;
 use crate::turn::count_at;
 use crate::turn::half_at;
 use crate::turn::next_at;
-use crate::turn::place_at;
+use crate::turn::offset_at;
 use crate::weights::weigh_codes;
 
 // Whether records before the end of a survey give a byte of the span with upper half w twice.
@@ -27,8 +27,8 @@ fn repeats_in(weights: &[u32], text: &[u8], found: Found, w: usize) -> bool
     let mut upper = 0;
     while at < found.end {
         let half = half_at(weights, text, at, upper);
-        let place = place_at(weights, text, at, upper);
-        if look(&mut words, w, half, place, count_at(weights, text, at)) {
+        let offset = offset_at(weights, text, at, upper);
+        if look(&mut words, w, half, offset, count_at(weights, text, at)) {
             return true;
         }
         upper = half;

@@ -10,7 +10,7 @@ use crate::turn::count_at;
 use crate::turn::half_at;
 use crate::turn::judge_at;
 use crate::turn::next_at;
-use crate::turn::place_at;
+use crate::turn::offset_at;
 
 pub const FELL: usize = 4294967295;
 
@@ -22,22 +22,22 @@ pub struct Found {
 }
 
 // Where what is given in a span ends, after a record.
-fn next_top(top: usize, place: usize, count: usize) -> usize
-    requires { ⌜ place + count ≤ 16777216 ⌝ }
-    ensures { λ r. ⌜ (r ≡ fell) ⊎ ((top ≤ place) × (r ≡ place + count)) ⌝ }
+fn next_top(top: usize, offset: usize, count: usize) -> usize
+    requires { ⌜ offset + count ≤ 16777216 ⌝ }
+    ensures { λ r. ⌜ (r ≡ fell) ⊎ ((top ≤ offset) × (r ≡ offset + count)) ⌝ }
 {
-    if top <= place { place + count } else { FELL }
+    if top <= offset { offset + count } else { FELL }
 }
 
-fn note(tops: &mut [usize], half: usize, place: usize, count: usize)
-    requires { ⌜ (length (now tops) ≡ 257) × (place + count ≤ 16777216) ⌝ }
+fn note(tops: &mut [usize], half: usize, offset: usize, count: usize)
+    requires { ⌜ (length (now tops) ≡ 257) × (offset + count ≤ 16777216) ⌝ }
     requires { ⌜ (1 ≤ count → half < 257) ⌝ }
-    ensures { λ _. ⌜ NoteIs (now (tops .entry)) half place count (now (tops .exit)) ⌝ }
+    ensures { λ _. ⌜ NoteIs (now (tops .entry)) half offset count (now (tops .exit)) ⌝ }
 {
     if count == 0 {
         return;
     }
-    tops[half] = next_top(tops[half], place, count);
+    tops[half] = next_top(tops[half], offset, count);
 }
 
 pub fn survey(weights: &[u32], text: &[u8], size: usize, tops: &mut [usize]) -> Found
@@ -59,7 +59,7 @@ pub fn survey(weights: &[u32], text: &[u8], size: usize, tops: &mut [usize]) -> 
         note(
             tops,
             half,
-            place_at(weights, text, at, upper),
+            offset_at(weights, text, at, upper),
             count_at(weights, text, at),
         );
         upper = half;

@@ -27,8 +27,8 @@ pub record MarkIs (words : List ℕ) (from count : ℕ) (after : List ℕ) (r : 
 abbrev pub Shows : (words : List ℕ) → (w : ℕ) → (given : List (Option ℕ)) → Type 0
 Shows words w given = (b : ℕ) → b < 65536 → isSet words b ≡ isGiven (getD given (w * 65536 + b) none)
 
-pub record LookIs (words : List ℕ) (w half place count : ℕ) (after : List ℕ) (r : Bool) : Type 0 where
-  pub found : (given : List (Option ℕ)) → Shows words w given → place + count ≤ length given
-      → r ≡ (onlyIn w half && any isGiven (take count (drop place given)))
-  pub shows : r ≡ false → (given : List (Option ℕ)) (bytes : List ℕ) → Shows words w given → place + count ≤ length given → length bytes ≡ count
-      → Shows after w (putAt given place bytes)
+pub record LookIs (words : List ℕ) (w half offset count : ℕ) (after : List ℕ) (r : Bool) : Type 0 where
+  pub found : (given : List (Option ℕ)) → Shows words w given → offset + count ≤ length given
+      → r ≡ (onlyIn w half && any isGiven (take count (drop offset given)))
+  pub shows : r ≡ false → (given : List (Option ℕ)) (bytes : List ℕ) → Shows words w given → offset + count ≤ length given → length bytes ≡ count
+      → Shows after w (putAt given offset bytes)

@@ -44,8 +44,8 @@ unfoldable pub bytesFrom : (text : List ℕ) → (from count : ℕ) → List ℕ
 bytesFrom text from count = take count (pairs (drop from text))
 
 -- an image to which they are put
-abbrev pub putFrom : (text : List ℕ) → (from count : ℕ) → (image : List ℕ) → (place : ℕ) → List ℕ
-putFrom text from count image place = take place image ++ (bytesFrom text from count ++ drop (place + count) image)
+abbrev pub putFrom : (text : List ℕ) → (from count : ℕ) → (image : List ℕ) → (offset : ℕ) → List ℕ
+putFrom text from count image offset = take offset image ++ (bytesFrom text from count ++ drop (offset + count) image)
 
 -- ---- the fields of the record at a position
 abbrev pub sizeAt : (text : List ℕ) → (at : ℕ) → ℕ

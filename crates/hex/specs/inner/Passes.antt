@@ -34,8 +34,8 @@ module _ (looked : ℕ → Bool) (size : ℕ) where
 abbrev pub stateOf : (upper : ℕ) → (given : List (Option ℕ)) → State
 stateOf upper given = record { upper = upper; given = given; ended = false }
 
-abbrev pub putAt : (given : List (Option ℕ)) → (place : ℕ) → (bytes : List ℕ) → List (Option ℕ)
-putAt given place bytes = take place given ++ (map some bytes ++ drop (place + length bytes) given)
+abbrev pub putAt : (given : List (Option ℕ)) → (offset : ℕ) → (bytes : List ℕ) → List (Option ℕ)
+putAt given offset bytes = take offset given ++ (map some bytes ++ drop (offset + length bytes) given)
 
 abbrev pub judgedBy : (looked : ℕ → Bool) → (size : ℕ) → (text : List ℕ) → Outcome
 judgedBy looked size text = judgeAllIn looked size (going (start size)) (recordsIn text)
@@ -49,12 +49,12 @@ everywhere upper = true
 abbrev pub nowhere : ℕ → Bool
 nowhere upper = false
 
--- ---- what the record at a position does: `countAt` bytes go to `placeAt`, none of them for a record of type 04
+-- ---- what the record at a position does: `countAt` bytes go to `offsetAt`, none of them for a record of type 04
 unfoldable pub halfAt : (text : List ℕ) → (at upper : ℕ) → ℕ
 halfAt text at upper = cond (eqb (kindAt text at) 4) (wordFrom text (at + 9)) upper
 
-unfoldable pub placeAt : (text : List ℕ) → (at upper : ℕ) → ℕ
-placeAt text at upper = cond (eqb (kindAt text at) 4) 0 (upper * 65536 + addressAt text at)
+unfoldable pub offsetAt : (text : List ℕ) → (at upper : ℕ) → ℕ
+offsetAt text at upper = cond (eqb (kindAt text at) 4) 0 (upper * 65536 + addressAt text at)
 
 unfoldable pub countAt : (text : List ℕ) → (at : ℕ) → ℕ
 countAt text at = cond (eqb (kindAt text at) 4) 0 (sizeAt text at)
@@ -70,20 +70,20 @@ pub record Stops (text : List ℕ) (at upper size number : ℕ) : Type 0 where
   pub image-is : number ≡ 0 → (looked : ℕ → Bool) (given : List (Option ℕ))
       → bytesOf (judgeAllIn looked size (going (stateOf upper given)) (recordsIn (drop at text))) ≡ map byteOf given
 
--- `count` bytes go to `place`, none of them for a record of type 04
-pub record Goes (text : List ℕ) (at upper size half place count next : ℕ) : Type 0 where
+-- `count` bytes go to `offset` of the image, none of them for a record of type 04
+pub record Goes (text : List ℕ) (at upper size half offset count next : ℕ) : Type 0 where
   pub is : (looked : ℕ → Bool) (given : List (Option ℕ)) → judgeAllIn looked size (going (stateOf upper given)) (recordsIn (drop at text))
       ≡ judgeAllIn looked size
-      (cond (looked half && any isGiven (take count (drop place given))) (fault 10)
-      (going (stateOf half (putAt given place (bytesAt text at count)))))
+      (cond (looked half && any isGiven (take count (drop offset given))) (fault 10)
+      (going (stateOf half (putAt given offset (bytesAt text at count)))))
       (recordsIn (drop next text))
   pub inside : at + 11 + 2 * count < next
   pub ends : next ≤ length text
-  pub fits : place + count ≤ size
+  pub fits : offset + count ≤ size
   pub length-is : length (bytesAt text at count) ≡ count
   pub half-low : half ≤ 65535
-  pub span-start : 1 ≤ count → half * 65536 ≤ place
-  pub span-end : 1 ≤ count → place + count ≤ half * 65536 + 65536
+  pub span-start : 1 ≤ count → half * 65536 ≤ offset
+  pub span-end : 1 ≤ count → offset + count ≤ half * 65536 + 65536
 
 -- the record at a position decides the number, or the pass goes on behind it
 abbrev pub goesOn : ℕ
@@ -91,7 +91,7 @@ goesOn = 255
 
 pub record Steps (text : List ℕ) (at upper size : ℕ) : Type 0 where
   pub good : Good text at
-  pub goes : Goes text at upper size (halfAt text at upper) (placeAt text at upper) (countAt text at) (nextAt text at)
+  pub goes : Goes text at upper size (halfAt text at upper) (offsetAt text at upper) (countAt text at) (nextAt text at)
 
 pub record JudgeIs (text : List ℕ) (at upper size number : ℕ) : Type 0 where
   pub stops : (number ≡ goesOn → ⊥) → Stops text at upper size number
@@ -107,9 +107,9 @@ pub data Walk (text : List ℕ) (found : Found) : (at upper : ℕ) → Type 0 wh
 abbrev pub fell : ℕ
 fell = 4294967295
 
-pub record NoteIs (tops : List ℕ) (half place count : ℕ) (after : List ℕ) : Type 0 where
+pub record NoteIs (tops : List ℕ) (half offset count : ℕ) (after : List ℕ) : Type 0 where
   pub none : count ≡ 0 → after ≡ tops
-  pub here : 1 ≤ count → (getD after half 0 ≡ fell) ⊎ ((getD tops half 0 ≤ place) × (getD after half 0 ≡ place + count))
+  pub here : 1 ≤ count → (getD after half 0 ≡ fell) ⊎ ((getD tops half 0 ≤ offset) × (getD after half 0 ≡ offset + count))
   pub other : (w : ℕ) → (w ≡ half → ⊥) → getD after w 0 ≡ getD tops w 0
 
 -- The number without repeated bytes. Where a span's records rise, its judge meets none.

@@ -8,15 +8,15 @@ use Rattle.hex.proofs.put.put.Statement.{statement}
 use Rattle.hex.proofs.put.put.Tie as tie
 
 abbrev Inv-loop : tie.InvT-loop
-Inv-loop text from count image₀ place i₀ image i = (image ≡ paste image₀ place (bytesFrom text from count) i) × (i ≤ count) × (length image ≡ length image₀)
+Inv-loop text from count image₀ offset i₀ image i = (image ≡ paste image₀ offset (bytesFrom text from count) i) × (i ≤ count) × (length image ≡ length image₀)
 
 abbrev μ-loop : tie.MeasureT-loop
-μ-loop text from count image₀ place i₀ image i = count - i
+μ-loop text from count image₀ offset i₀ image i = count - i
 
 loop-holds : tie.Need-loop-holds Inv-loop μ-loop
 loop-holds c =
     let a = c .before .before .args in
-    (paste-zero (a .image .now) (a .place) (bytesFrom (a .text .now) (a .from) (a .count)), omega arith, refl)
+    (paste-zero (a .image .now) (a .offset) (bytesFrom (a .text .now) (a .from) (a .count)), omega arith, refl)
 
 add-loop : tie.Need-add-loop Inv-loop μ-loop
 add-loop c = search needs
@@ -48,7 +48,7 @@ loop-again c =
     let s = c .before .before .before .before .before .before .before .before in
     let a = s .args in
     let l = c .before .before .before .before .before .loop in
-    (c .before .before .put-sixteen .ensures ∙ rw (l .inv .0) (put-on (a .text .now) (a .from) (a .count) (a .image .now) (a .place) (l .i) 16 (s .pre .0) (s .pre .2) (omega arith)), omega arith, omega (arith, l .inv .2))
+    (c .before .before .put-sixteen .ensures ∙ rw (l .inv .0) (put-on (a .text .now) (a .from) (a .count) (a .image .now) (a .offset) (l .i) 16 (s .pre .0) (s .pre .2) (omega arith)), omega arith, omega (arith, l .inv .2))
 
 mul-put-rest : tie.Need-mul-put-rest Inv-loop μ-loop
 mul-put-rest c = search needs
@@ -77,7 +77,7 @@ returns c =
     let s = c .before .before .before .before .before .before .before .before in
     let a = s .args in
     let l = c .before .before .before .before .before .loop in
-    c .before .before .put-rest .ensures ∙ rw (l .inv .0) (put-last (a .text .now) (a .from) (a .count) (a .image .now) (a .place) (l .i) (s .pre .0) (s .pre .2) (omega arith))
+    c .before .before .put-rest .ensures ∙ rw (l .inv .0) (put-last (a .text .now) (a .from) (a .count) (a .image .now) (a .offset) (l .i) (s .pre .0) (s .pre .2) (omega arith))
 
 pub put-spec : {M : Type 1} → statement M
 put-spec =

@@ -24,8 +24,8 @@ loop-holds c =
 count-at-requires : tie.Need-count-at-requires Inv-loop μ-loop
 count-at-requires c κs = (c .before .before .before .before .before .before .before .before .before .before .pre .0 .0, placing-step (c .before .before .loop .inv .0) (c .if1 .taken) .good)
 
-place-at-requires : tie.Need-place-at-requires Inv-loop μ-loop
-place-at-requires c κs = (c .before .before .before .before .before .before .before .before .before .before .before .pre .0 .0, placing-step (c .before .before .before .loop .inv .0) (c .before .if1 .taken) .good, c .before .before .before .loop .inv .0 .low)
+offset-at-requires : tie.Need-offset-at-requires Inv-loop μ-loop
+offset-at-requires c κs = (c .before .before .before .before .before .before .before .before .before .before .before .pre .0 .0, placing-step (c .before .before .before .loop .inv .0) (c .before .if1 .taken) .good, c .before .before .before .loop .inv .0 .low)
 
 half-at-requires : tie.Need-half-at-requires Inv-loop μ-loop
 half-at-requires c κs = (c .before .before .before .before .before .before .before .before .before .before .before .before .pre .0 .0, placing-step (c .before .before .before .before .loop .inv .0) (c .before .before .if1 .taken) .good)
@@ -42,7 +42,7 @@ put-requires c κs =
     let text = c .before .before .before .before .before .before .before .before .before .before .before .before .before .before .before .args .text .now in
     let S = placing-step (l .inv .0) (c .before .before .before .before .before .if1 .taken) in
     let n = c .before .before .before .before .count-at .ensures in
-    let p = c .before .before .before .place-at .ensures in
+    let p = c .before .before .before .offset-at .ensures in
     let z = count-size text (l .at) in
     (omega (arith, S .good .inside), data-digits text (l .at) (S .good) _ (omega arith), omega (arith, S .goes .fits, l .inv .1))
 
@@ -54,7 +54,7 @@ loop-less c =
 loop-again : tie.Need-loop-again Inv-loop μ-loop
 loop-again c =
     let l = c .before .before .before .before .before .before .before .before .before .before .loop in
-    let e = rw (c .before .before .before .before .before .before .place-at .ensures, c .before .before .before .before .before .before .before .count-at .ensures) at (c .before .before .put .ensures) in
+    let e = rw (c .before .before .before .before .before .before .offset-at .ensures, c .before .before .before .before .before .before .before .count-at .ensures) at (c .before .before .put .ensures) in
     (rw (e, c .before .before .before .before .next-at .ensures, c .before .before .before .before .before .half-at .ensures) (placing-on (l .inv .0) (c .before .before .before .before .before .before .before .before .if1 .taken)), omega (arith, l .inv .1))
 
 same-length : tie.Need-same-length Inv-loop μ-loop
@@ -72,7 +72,7 @@ put-all-spec =
     fill-requires
     loop-holds
     count-at-requires
-    place-at-requires
+    offset-at-requires
     half-at-requires
     next-at-requires
     add-put

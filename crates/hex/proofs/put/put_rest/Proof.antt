@@ -1,4 +1,4 @@
--- `put_rest` puts bytes to a place of the image.
+-- `put_rest` puts bytes at an offset of the image.
 use Rattle.flash.proofs.Kit.{refl, _∙_, ap, arith, needs}
 use Rattle.hex.specs.inner.Lines.{bytesFrom}
 use Rattle.hex.proofs.PutLaws.{put-back, lent-length}
@@ -21,7 +21,7 @@ put-bytes-requires : tie.Need-put-bytes-requires
 put-bytes-requires c κs =
     let s = c .before .before .before in
     let a = s .args in
-    let n = lent-length (a .image .now) (a .place) (a .count) (s .pre .2) in
+    let n = lent-length (a .image .now) (a .offset) (a .count) (s .pre .2) in
     (omega (arith, n, s .pre .0), λ i h. s .pre .1 i (omega (arith, n)))
 
 same-length : tie.Need-same-length
@@ -31,8 +31,8 @@ returns : tie.Need-returns
 returns c =
     let s = c .before .before .before .before .before .before in
     let a = s .args in
-    let n = lent-length (a .image .now) (a .place) (a .count) (s .pre .2) in
-    put-back (a .text .now) (a .from) (a .count) (a .image .now) _ (a .place) _ refl (c .before .before .put-bytes .ensures ∙ ap (bytesFrom (a .text .now) (a .from)) n)
+    let n = lent-length (a .image .now) (a .offset) (a .count) (s .pre .2) in
+    put-back (a .text .now) (a .from) (a .count) (a .image .now) _ (a .offset) _ refl (c .before .before .put-bytes .ensures ∙ ap (bytesFrom (a .text .now) (a .from)) n)
 
 pub put-rest-spec : {M : Type 1} → statement M
 put-rest-spec =

@@ -1,4 +1,4 @@
--- `put_sixteen` puts 16 bytes to a place of the image.
+-- `put_sixteen` puts 16 bytes at an offset of the image.
 use Rattle.flash.proofs.Kit.{refl, _∙_, needs}
 use Rattle.hex.proofs.PutLaws.{put-back}
 use Rattle.hex.proofs.put.put_sixteen.Statement.{statement}
@@ -34,7 +34,7 @@ same-length c = search needs
 returns : tie.Need-returns
 returns c =
     let a = c .before .before .before .before .before .before .before .before .before .before .args in
-    put-back (a .text .now) (a .from) 16 (a .image .now) _ (a .place) _ refl (c .before .before .copy .ensures ∙ c .before .before .before .before .before .before .put-bytes .ensures)
+    put-back (a .text .now) (a .from) 16 (a .image .now) _ (a .offset) _ refl (c .before .before .copy .ensures ∙ c .before .before .before .before .before .before .put-bytes .ensures)
 
 pub put-sixteen-spec : {M : Type 1} → statement M
 put-sixteen-spec =

@@ -17,8 +17,8 @@ loop-holds c = (looking-start _ _ _ (c .before .before .pre .1), refl)
 half-at-requires : tie.Need-half-at-requires Inv-loop μ-loop
 half-at-requires c κs = (c .before .before .before .before .before .pre .0, looking-good (c .before .before .loop .inv .0) (c .if1 .taken))
 
-place-at-requires : tie.Need-place-at-requires Inv-loop μ-loop
-place-at-requires c κs = (c .before .before .before .before .before .before .pre .0, looking-good (c .before .before .before .loop .inv .0) (c .before .if1 .taken), c .before .before .before .loop .inv .0 .low)
+offset-at-requires : tie.Need-offset-at-requires Inv-loop μ-loop
+offset-at-requires c κs = (c .before .before .before .before .before .before .pre .0, looking-good (c .before .before .before .loop .inv .0) (c .before .if1 .taken), c .before .before .before .loop .inv .0 .low)
 
 slice-aggregate-look : tie.Need-slice-aggregate-look Inv-loop μ-loop
 slice-aggregate-look c = search needs
@@ -30,13 +30,13 @@ look-requires : tie.Need-look-requires Inv-loop μ-loop
 look-requires c κs =
     let G = looking-goes (c .before .before .before .before .before .before .loop .inv .0) (c .before .before .before .before .if1 .taken) in
     let h = c .before .before .before .half-at .ensures in
-    let p = c .before .before .place-at .ensures in
+    let p = c .before .before .offset-at .ensures in
     let n = c .count-at .ensures in
     ((c .before .before .before .before .before .before .loop .inv .1, omega (arith, G .half-low)), ((λ q. omega (arith, G .span-start (omega arith))), (λ q. omega (arith, G .span-end (omega arith)))))
 
 returns : tie.Need-returns Inv-loop μ-loop
 returns c =
-    let K = rw (c .before .before .before .before .before .before .half-at .ensures, c .before .before .before .before .before .place-at .ensures, c .before .before .before .count-at .ensures) at (c .before .before .look .ensures) in
+    let K = rw (c .before .before .before .before .before .before .half-at .ensures, c .before .before .before .before .before .offset-at .ensures, c .before .before .before .count-at .ensures) at (c .before .before .look .ensures) in
     record { repeated = λ _. looking-hit (c .before .before .before .before .before .before .before .before .before .loop .inv .0) (c .before .before .before .before .before .before .before .if1 .taken) K (c .if2 .taken); none = λ e. absurd (never-both refl e) }
 
 next-at-requires : tie.Need-next-at-requires Inv-loop μ-loop
@@ -50,7 +50,7 @@ loop-less c =
 loop-again : tie.Need-loop-again Inv-loop μ-loop
 loop-again c =
     let l = c .before .before .before .before .before .before .before .before .before .before .loop in
-    let K = rw (c .before .before .before .before .before .before .before .half-at .ensures, c .before .before .before .before .before .before .place-at .ensures, c .before .before .before .before .count-at .ensures) at (c .before .before .before .look .ensures) in
+    let K = rw (c .before .before .before .before .before .before .before .half-at .ensures, c .before .before .before .before .before .before .offset-at .ensures, c .before .before .before .before .count-at .ensures) at (c .before .before .before .look .ensures) in
     (rw (c .next-at .ensures, c .before .before .before .before .before .before .before .half-at .ensures) (looking-on (l .inv .0) (c .before .before .before .before .before .before .before .before .if1 .taken) K (c .before .if2 .left)), omega (arith, l .inv .1))
 
 returns-2 : tie.Need-returns-2 Inv-loop μ-loop
@@ -64,7 +64,7 @@ repeats-in-spec =
     μ-loop
     loop-holds
     half-at-requires
-    place-at-requires
+    offset-at-requires
     slice-aggregate-look
     count-at-requires
     look-requires

@@ -7,7 +7,7 @@ use Rattle.hex.proofs.survey.note.Tie as tie
 returns : tie.Need-returns
 returns c =
     let a = c .before .before .args in
-    note-none (a .tops .now) (a .half) (a .place) (a .count) (c .if1 .taken)
+    note-none (a .tops .now) (a .half) (a .offset) (a .count) (c .if1 .taken)
 
 mul-next-top : tie.Need-mul-next-top
 mul-next-top c =
@@ -39,7 +39,7 @@ returns-2 : tie.Need-returns-2
 returns-2 c =
     let a = c .before .before .before .before .args in
     let h = c .before .before .before .before .pre .1 (omega (arith, c .before .before .if1 .left)) in
-    note-top (a .tops .now) (a .half) (a .place) (a .count) _ (omega (arith, c .before .before .if1 .left)) (omega arith) (c .next-top .ensures)
+    note-top (a .tops .now) (a .half) (a .offset) (a .count) _ (omega (arith, c .before .before .if1 .left)) (omega arith) (c .next-top .ensures)
 
 pub note-spec : {M : Type 1} → statement M
 note-spec =

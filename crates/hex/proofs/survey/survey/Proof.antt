@@ -25,8 +25,8 @@ returns c = surveying-stop (c .before .before .loop .inv .0) _ (c .before .judge
 half-at-requires : tie.Need-half-at-requires Inv-loop μ-loop
 half-at-requires c κs = (c .before .before .before .before .before .before .pre .0, (c .before .judge-at .ensures .steps (c .if1 .left)) .good)
 
-place-at-requires : tie.Need-place-at-requires Inv-loop μ-loop
-place-at-requires c κs = (c .before .before .before .before .before .before .before .before .pre .0, (c .before .before .before .judge-at .ensures .steps (c .before .before .if1 .left)) .good, c .before .before .before .before .loop .inv .0 .low)
+offset-at-requires : tie.Need-offset-at-requires Inv-loop μ-loop
+offset-at-requires c κs = (c .before .before .before .before .before .before .before .before .pre .0, (c .before .before .before .judge-at .ensures .steps (c .before .before .if1 .left)) .good, c .before .before .before .before .loop .inv .0 .low)
 
 count-at-requires : tie.Need-count-at-requires Inv-loop μ-loop
 count-at-requires c κs = (c .before .before .before .before .before .before .before .before .before .pre .0, (c .before .before .before .before .judge-at .ensures .steps (c .before .before .before .if1 .left)) .good)
@@ -35,7 +35,7 @@ note-requires : tie.Need-note-requires Inv-loop μ-loop
 note-requires c κs =
     let G = (c .before .before .before .before .before .judge-at .ensures .steps (c .before .before .before .before .if1 .left)) .goes in
     let h = c .before .before .before .half-at .ensures in
-    let p = c .before .place-at .ensures in
+    let p = c .before .offset-at .ensures in
     let n = c .count-at .ensures in
     ((c .before .before .before .before .before .before .loop .inv .1, omega (arith, G .fits, c .before .before .before .before .before .before .before .before .before .before .pre .1)), (λ q. omega (arith, G .span-start (omega arith), G .fits, c .before .before .before .before .before .before .before .before .before .before .pre .1)))
 
@@ -50,7 +50,7 @@ loop-less c =
 loop-again : tie.Need-loop-again Inv-loop μ-loop
 loop-again c =
     let l = c .before .before .before .before .before .before .before .before .before .before .loop in
-    let K = rw (c .before .before .before .before .before .before .before .half-at .ensures, c .before .before .before .before .before .place-at .ensures, c .before .before .before .before .count-at .ensures) at (c .before .before .before .note .ensures) in
+    let K = rw (c .before .before .before .before .before .before .before .half-at .ensures, c .before .before .before .before .before .offset-at .ensures, c .before .before .before .before .count-at .ensures) at (c .before .before .before .note .ensures) in
     (rw (c .next-at .ensures, c .before .before .before .before .before .before .before .half-at .ensures) (surveying-on (l .inv .0) (c .before .before .before .before .before .before .before .before .before .judge-at .ensures .steps (c .before .before .before .before .before .before .before .before .if1 .left)) K (c .before .before .before .before .before .before .before .before .before .before .before .before .before .before .pre .1)), omega (arith, l .inv .1))
 
 pub survey-spec : {M : Type 1} → statement M
@@ -64,7 +64,7 @@ survey-spec =
     same-length
     returns
     half-at-requires
-    place-at-requires
+    offset-at-requires
     count-at-requires
     note-requires
     next-at-requires

@@ -2,7 +2,7 @@
 use Rattle.flash.proofs.Kit.{sym, _∙_, inl, inr, arith, not-false, not-true}
 use Rattle.hex.proofs.LineLaws.{bad-record}
 use Rattle.hex.proofs.HeadLaws.{kind-digits, size-small, count-size}
-use Rattle.hex.proofs.TurnLaws.{stops-nothing, stops-malformed, stops-end, stops-after, stops-outside, steps, judged-stop, judged-step, place-small}
+use Rattle.hex.proofs.TurnLaws.{stops-nothing, stops-malformed, stops-end, stops-after, stops-outside, steps, judged-stop, judged-step, offset-small}
 use Rattle.hex.proofs.turn.judge_at.Statement.{statement}
 use Rattle.hex.proofs.turn.judge_at.Tie as tie
 
@@ -41,8 +41,8 @@ returns-4 c =
     let G = c .before .before .before .before .before .is-good .ensures .good (not-false _ (c .before .before .before .before .if2 .left)) in
     judged-stop _ _ _ _ 10 (omega arith) (stops-after _ _ _ _ G (sym (c .before .before .before .byte-at .ensures .0) ∙ c .before .before .if3 .taken) (λ e. c .if4 .left (c .before .next-at .ensures ∙ e)))
 
-place-at-requires : tie.Need-place-at-requires
-place-at-requires c κs = (c .before .before .before .before .before .before .before .pre .0, c .before .before .before .is-good .ensures .good (not-false _ (c .before .before .if2 .left)), c .before .before .before .before .before .before .before .pre .2)
+offset-at-requires : tie.Need-offset-at-requires
+offset-at-requires c κs = (c .before .before .before .before .before .before .before .pre .0, c .before .before .before .is-good .ensures .good (not-false _ (c .before .before .if2 .left)), c .before .before .before .before .before .before .before .pre .2)
 
 count-at-requires : tie.Need-count-at-requires
 count-at-requires c κs = (c .before .before .before .before .before .before .before .before .pre .0, c .before .before .before .before .is-good .ensures .good (not-false _ (c .before .before .before .if2 .left)))
@@ -51,9 +51,9 @@ add-end : tie.Need-add-end
 add-end c =
     let a = c .before .before .before .before .before .before .before .before .before .args in
     let G = c .before .before .before .before .before .is-good .ensures .good (not-false _ (c .before .before .before .before .if2 .left)) in
-    let p = c .before .place-at .ensures in
+    let p = c .before .offset-at .ensures in
     let n = c .count-at .ensures in
-    omega (arith, place-small (a .text .now) (a .at) (a .upper) (a .size) G (c .before .before .before .before .before .before .before .before .before .pre .2), count-size (a .text .now) (a .at), size-small (a .text .now) (a .at) G)
+    omega (arith, offset-small (a .text .now) (a .at) (a .upper) (a .size) G (c .before .before .before .before .before .before .before .before .before .pre .2), count-size (a .text .now) (a .at), size-small (a .text .now) (a .at) G)
 
 mul-if5 : tie.Need-mul-if5
 mul-if5 c = omega (arith, c .before .before .before .before .before .before .before .before .before .pre .2)
@@ -64,21 +64,21 @@ add-if5 c = omega (arith, c .before .before .before .before .before .before .bef
 returns-5 : tie.Need-returns-5
 returns-5 c =
     let G = c .before .before .before .before .before .before .is-good .ensures .good (not-false _ (c .before .before .before .before .before .if2 .left)) in
-    let p = c .before .before .place-at .ensures in
+    let p = c .before .before .offset-at .ensures in
     let n = c .before .count-at .ensures in
     judged-stop _ _ _ _ 9 (omega arith) (stops-outside _ _ _ _ G (λ e. c .before .before .before .if3 .left (c .before .before .before .before .byte-at .ensures .0 ∙ e)) (inl (omega (arith, c .if5 .taken))))
 
 returns-6 : tie.Need-returns-6
 returns-6 c =
     let G = c .before .before .before .before .before .before .before .is-good .ensures .good (not-false _ (c .before .before .before .before .before .before .if2 .left)) in
-    let p = c .before .before .before .place-at .ensures in
+    let p = c .before .before .before .offset-at .ensures in
     let n = c .before .before .count-at .ensures in
     judged-stop _ _ _ _ 9 (omega arith) (stops-outside _ _ _ _ G (λ e. c .before .before .before .before .if3 .left (c .before .before .before .before .before .byte-at .ensures .0 ∙ e)) (inr (omega (arith, c .if6 .taken))))
 
 returns-7 : tie.Need-returns-7
 returns-7 c =
     let G = c .before .before .before .before .before .before .before .is-good .ensures .good (not-false _ (c .before .before .before .before .before .before .if2 .left)) in
-    let p = c .before .before .before .place-at .ensures in
+    let p = c .before .before .before .offset-at .ensures in
     let n = c .before .before .count-at .ensures in
     judged-step _ _ _ _ (steps _ _ _ _ G (λ e. c .before .before .before .before .if3 .left (c .before .before .before .before .before .byte-at .ensures .0 ∙ e)) (omega (arith, c .before .if5 .left)) (omega (arith, c .if6 .left)) (c .before .before .before .before .before .before .before .before .before .before .before .pre .2))
 
@@ -94,7 +94,7 @@ judge-at-spec =
     next-at-requires
     returns-3
     returns-4
-    place-at-requires
+    offset-at-requires
     count-at-requires
     add-end
     mul-if5

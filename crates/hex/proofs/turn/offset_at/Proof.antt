@@ -1,8 +1,8 @@
--- `place_at` gives the place of a record's bytes.
+-- `offset_at` gives the offset of a record's bytes.
 use Rattle.flash.proofs.Kit.{sym, _∙_, arith}
-use Rattle.hex.proofs.HeadLaws.{kind-digits, address-digits, place-upper, place-data}
-use Rattle.hex.proofs.turn.place_at.Statement.{statement}
-use Rattle.hex.proofs.turn.place_at.Tie as tie
+use Rattle.hex.proofs.HeadLaws.{kind-digits, address-digits, offset-upper, offset-data}
+use Rattle.hex.proofs.turn.offset_at.Statement.{statement}
+use Rattle.hex.proofs.turn.offset_at.Tie as tie
 
 add-byte-at : tie.Need-add-byte-at
 add-byte-at c = omega (arith, c .before .before .pre .1 .inside)
@@ -15,7 +15,7 @@ byte-at-requires c κs =
 returns : tie.Need-returns
 returns c =
     let a = c .before .before .before .before .args in
-    sym (place-upper (a .text .now) (a .at) (a .upper) (sym (c .before .byte-at .ensures .0) ∙ c .if1 .taken))
+    sym (offset-upper (a .text .now) (a .at) (a .upper) (sym (c .before .byte-at .ensures .0) ∙ c .if1 .taken))
 
 mul-result : tie.Need-mul-result
 mul-result c = omega (arith, c .before .before .before .before .pre .2)
@@ -34,10 +34,10 @@ add-result c = omega (arith, c .before .before .before .before .before .pre .2, 
 returns-2 : tie.Need-returns-2
 returns-2 c =
     let a = c .before .before .before .before .before .args in
-    rw (c .word-at .ensures .0) (sym (place-data (a .text .now) (a .at) (a .upper) (λ e. c .before .if1 .left (c .before .before .byte-at .ensures .0 ∙ e))))
+    rw (c .word-at .ensures .0) (sym (offset-data (a .text .now) (a .at) (a .upper) (λ e. c .before .if1 .left (c .before .before .byte-at .ensures .0 ∙ e))))
 
-pub place-at-spec : {M : Type 1} → statement M
-place-at-spec =
+pub offset-at-spec : {M : Type 1} → statement M
+offset-at-spec =
     tie.close
     (tie.spec
     add-byte-at
