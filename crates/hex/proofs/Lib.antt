@@ -11,7 +11,7 @@ pub mod Uppers
 pub mod Answered
 pub mod PairLaws
 pub mod WeightLaws
-pub mod SixteenLaws
+pub mod ChunkLaws
 pub mod LineEnds
 pub mod LineLaws
 pub mod PutLaws

@@ -6,6 +6,10 @@ ghost use lib.Dec.{leb};
 ghost use lib.ListN.{length};
 ghost use Rattle.hex.specs.Reading.{digitValue, isDigit};
 ghost use Rattle.hex.specs.inner.Lines.{weightFrom, othersFrom, AreDigits};
+use crate::CHUNK;
+
+// The codes of a chunk, two a byte.
+const CODES: usize = 32;
 
 fn within(code: u8, low: u8, high: u8) -> bool
     ensures { λ r. ⌜ r ≡ (leb low code && leb code high) ⌝ }
@@ -40,28 +44,28 @@ fn other(code: u8) -> u8
     if is_digit(code) { 0 } else { 1 }
 }
 
-// How many of the 32 codes of 16 bytes are no digit.
+// How many of the codes of a chunk are no digit.
 pub fn others(text: &[u8], from: usize) -> u8
     requires { ⌜ from + 32 ≤ length (now text) ⌝ }
     ensures { λ r. ⌜ r ≡ othersFrom (now (text .entry)) from 32 ⌝ }
 {
     let mut count: u8 = 0;
     let mut i = 0;
-    while i < 32 {
+    while i < CODES {
         count += other(text[from + i]);
         i += 1;
     }
     count
 }
 
-// What 16 bytes come to whose codes are all digits.
+// What the bytes of a chunk come to whose codes are all digits.
 pub fn total(text: &[u8], from: usize) -> u32
     requires { ⌜ (from + 32 ≤ length (now text)) × AreDigits (now text) from 32 ⌝ }
     ensures { λ r. ⌜ r ≡ weightFrom (now (text .entry)) from 16 ⌝ }
 {
     let mut sum: u32 = 0;
     let mut i = 0;
-    while i < 16 {
+    while i < CHUNK {
         let at = from + 2 * i;
         sum += byte_of(text[at], text[at + 1]) as u32;
         i += 1;

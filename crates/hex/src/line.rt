@@ -5,6 +5,7 @@ ghost use lib.ListN.{length};
 ghost use Rattle.hex.specs.Reading.{isType};
 ghost use Rattle.hex.specs.inner.Lines.{Weights, nextFrom, Framed, GoodIs};
 use crate::LINE_FEED;
+use crate::SHORTEST;
 use crate::weights::NO_DIGIT;
 use crate::weights::byte_at;
 use crate::weights::record_weight;
@@ -66,7 +67,7 @@ pub fn is_good(weights: &[u32], text: &[u8], at: usize) -> bool
     requires { ⌜ Weights (now weights) × (at < length (now text)) ⌝ }
     ensures { λ r. ⌜ GoodIs (now (text .entry)) at r ⌝ }
 {
-    if text.len() - at < 12 {
+    if text.len() - at < SHORTEST {
         return false;
     }
     if text[at] != COLON {

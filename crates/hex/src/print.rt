@@ -15,6 +15,9 @@ use listing::digits::put_text;
 // instructions.
 const ROOM: usize = 24;
 
+// Two for each byte of it.
+const DIGITS: usize = 48;
+
 fn digit_of(d: u8) -> u8
     requires { ⌜ d < 16 ⌝ }
     ensures { λ r. ⌜ r ≡ digitOf capitals d ⌝ }
@@ -76,7 +79,7 @@ pub fn put_record(text: &mut [u8], at: usize, kind: u8, address: usize, bytes: &
 {
     let mut area = [0u8; ROOM];
     gather(&mut area, kind, address, bytes);
-    let mut digits = [0u8; 48];
+    let mut digits = [0u8; DIGITS];
     let sum = spell(&area, &mut digits);
     let count = 8 + 2 * bytes.len();
     let past_colon = put_text(text, at, b":");

@@ -5,6 +5,7 @@ ghost use lib.ListN.{length};
 ghost use Rattle.hex.specs.Reading.{bytesOf};
 ghost use Rattle.hex.specs.inner.Lines.{Weights, AreDigits, bytesFrom, putFrom};
 ghost use Rattle.hex.specs.inner.Passes.{judgedBy, nowhere, Walk};
+use crate::CHUNK;
 use crate::codes::byte_of;
 use crate::survey::Found;
 use crate::turn::count_at;
@@ -28,14 +29,14 @@ fn put_bytes(text: &[u8], from: usize, part: &mut [u8])
     }
 }
 
-// Sixteen bytes are gathered before they are put: no byte put could then be one yet to be read, and both loops become vector instructions.
-fn put_sixteen(text: &[u8], from: usize, image: &mut [u8], offset: usize)
+// A chunk is gathered before it is put: no byte put could then be one yet to be read, and both loops become vector instructions.
+fn put_chunk(text: &[u8], from: usize, image: &mut [u8], offset: usize)
     requires { ⌜ (from + 32 ≤ length (now text)) × AreDigits (now text) from 32 × (offset + 16 ≤ length (now image)) ⌝ }
     ensures { λ _. ⌜ now (image .exit) ≡ putFrom (now (text .entry)) from 16 (now (image .entry)) offset ⌝ }
 {
-    let mut bytes = [0u8; 16];
+    let mut bytes = [0u8; CHUNK];
     put_bytes(text, from, &mut bytes);
-    let end = offset + 16;
+    let end = offset + CHUNK;
     copy(&mut image[offset..end], &bytes);
 }
 
@@ -53,9 +54,9 @@ fn put(text: &[u8], from: usize, count: usize, image: &mut [u8], offset: usize)
     ensures { λ _. ⌜ now (image .exit) ≡ putFrom (now (text .entry)) from count (now (image .entry)) offset ⌝ }
 {
     let mut i = 0;
-    while i + 16 <= count {
-        put_sixteen(text, from + 2 * i, image, offset + i);
-        i += 16;
+    while i + CHUNK <= count {
+        put_chunk(text, from + 2 * i, image, offset + i);
+        i += CHUNK;
     }
     put_rest(text, from + 2 * i, count - i, image, offset + i);
 }

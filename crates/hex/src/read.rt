@@ -6,10 +6,12 @@ ghost use Rattle.hex.specs.Reading.{Read, numberOf};
 ghost use Rattle.hex.specs.inner.Lines.{Weights};
 ghost use Rattle.hex.specs.inner.Passes.{judgedBy, onlyIn, fell, Walk, SurveyIs, SpanIs, RepeatsIs};
 use crate::SPAN;
+use crate::bits::WORDS;
 use crate::bits::look;
 use crate::put::put_all;
 use crate::survey::FELL;
 use crate::survey::Found;
+use crate::survey::SPANS;
 use crate::survey::survey;
 use crate::turn::count_at;
 use crate::turn::half_at;
@@ -22,7 +24,7 @@ fn repeats_in(weights: &[u32], text: &[u8], found: Found, w: usize) -> bool
     requires { ⌜ Weights (now weights) × Walk (now text) found 0 0 ⌝ }
     ensures { λ r. ⌜ SpanIs (now (text .entry)) found w r ⌝ }
 {
-    let mut words = [0u64; 1024];
+    let mut words = [0u64; WORDS];
     let mut at = 0;
     let mut upper = 0;
     while at < found.end {
@@ -76,7 +78,7 @@ pub fn read(text: &[u8], image: &mut [u8]) -> u32
 {
     let mut weights = [0u32; 256];
     weigh_codes(&mut weights);
-    let mut tops = [0usize; 257];
+    let mut tops = [0usize; SPANS];
     let found = survey(&weights, text, image.len(), &mut tops);
     if repeats(&weights, text, found, &tops) {
         return 10;

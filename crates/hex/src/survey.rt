@@ -12,6 +12,9 @@ use crate::turn::judge_at;
 use crate::turn::next_at;
 use crate::turn::offset_at;
 
+// The spans of the largest image, and one behind it.
+pub const SPANS: usize = 257;
+
 pub const FELL: usize = 4294967295;
 
 // For an image of `size` bytes: the number, repeated bytes apart, and the position of the record that decides it.

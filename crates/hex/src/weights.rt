@@ -3,6 +3,7 @@ ghost use mathlib.Core.Path.{_≡_};
 ghost use Prim.Native.Nat.{_+_, _*_, _≤_};
 ghost use lib.ListN.{length};
 ghost use Rattle.hex.specs.inner.Lines.{weightOf, weightFrom, Weighs, byteFrom, wordFrom, AreDigits, Weights};
+use crate::CHUNK;
 use crate::codes::digit;
 use crate::codes::is_digit;
 use crate::codes::others;
@@ -57,9 +58,9 @@ pub fn weight_from(weights: &[u32], text: &[u8], from: usize, count: usize) -> u
     sum
 }
 
-// What 16 bytes weigh, by vector instructions. Where a code is no digit that is not worked out: to read the codes here by the table too keeps
-// the compiler from making them.
-fn sixteen_weight(text: &[u8], from: usize) -> u32
+// What a chunk weighs, by vector instructions. Where a code is no digit that is not worked out: reading the codes by the table here too keeps
+// the compiler from making these.
+fn chunk_weight(text: &[u8], from: usize) -> u32
     requires { ⌜ from + 32 ≤ length (now text) ⌝ }
     ensures { λ r. ⌜ Weighs (weightFrom (now (text .entry)) from 16) r × (r ≤ 131072) ⌝ }
 {
@@ -74,11 +75,11 @@ pub fn record_weight(weights: &[u32], text: &[u8], from: usize, size: usize) -> 
     requires { ⌜ Weights (now weights) × (from + 2 * (5 + size) ≤ length (now text)) × (size ≤ 255) ⌝ }
     ensures { λ r. ⌜ Weighs (weightFrom (now (text .entry)) from (5 + size)) r ⌝ }
 {
-    if size != 16 {
+    if size != CHUNK {
         return weight_from(weights, text, from, 5 + size);
     }
     let head = weight_from(weights, text, from, 4);
-    let bytes = sixteen_weight(text, from + 8);
+    let bytes = chunk_weight(text, from + 8);
     head + bytes + weight_from(weights, text, from + 40, 1)
 }
 

@@ -1,6 +1,6 @@
 -- `other` is 1 for a code that is no digit.
 use Rattle.flash.proofs.Kit.{sym, _∙_, needs}
-use Rattle.hex.proofs.SixteenLaws.{one-digit, one-other}
+use Rattle.hex.proofs.ChunkLaws.{one-digit, one-other}
 use Rattle.hex.proofs.codes.other.Statement.{statement}
 use Rattle.hex.proofs.codes.other.Tie as tie
 

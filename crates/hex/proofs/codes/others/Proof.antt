@@ -1,7 +1,7 @@
 -- `others` counts the codes that are no digit.
 use Rattle.flash.proofs.Kit.{_≡_, refl, _∙_, _+_, _-_, _≤_, arith, ap, needs}
 use Rattle.hex.specs.inner.Lines.{othersFrom}
-use Rattle.hex.proofs.SixteenLaws.{others-more, others-few}
+use Rattle.hex.proofs.ChunkLaws.{others-more, others-few}
 use Rattle.hex.proofs.codes.others.Statement.{statement}
 use Rattle.hex.proofs.codes.others.Tie as tie
 

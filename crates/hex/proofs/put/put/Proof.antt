@@ -21,17 +21,17 @@ loop-holds c =
 add-loop : tie.Need-add-loop Inv-loop μ-loop
 add-loop c = search needs
 
-mul-put-sixteen : tie.Need-mul-put-sixteen Inv-loop μ-loop
-mul-put-sixteen c = search needs
+mul-put-chunk : tie.Need-mul-put-chunk Inv-loop μ-loop
+mul-put-chunk c = search needs
 
-add-put-sixteen : tie.Need-add-put-sixteen Inv-loop μ-loop
-add-put-sixteen c = search needs
+add-put-chunk : tie.Need-add-put-chunk Inv-loop μ-loop
+add-put-chunk c = search needs
 
-add-put-sixteen-2 : tie.Need-add-put-sixteen-2 Inv-loop μ-loop
-add-put-sixteen-2 c = search needs
+add-put-chunk-2 : tie.Need-add-put-chunk-2 Inv-loop μ-loop
+add-put-chunk-2 c = search needs
 
-put-sixteen-requires : tie.Need-put-sixteen-requires Inv-loop μ-loop
-put-sixteen-requires c κs =
+put-chunk-requires : tie.Need-put-chunk-requires Inv-loop μ-loop
+put-chunk-requires c κs =
     let s = c .before .before .before .before .before in
     let a = s .args in
     let i = c .before .before .loop .i in
@@ -48,7 +48,7 @@ loop-again c =
     let s = c .before .before .before .before .before .before .before .before in
     let a = s .args in
     let l = c .before .before .before .before .before .loop in
-    (c .before .before .put-sixteen .ensures ∙ rw (l .inv .0) (put-on (a .text .now) (a .from) (a .count) (a .image .now) (a .offset) (l .i) 16 (s .pre .0) (s .pre .2) (omega arith)), omega arith, omega (arith, l .inv .2))
+    (c .before .before .put-chunk .ensures ∙ rw (l .inv .0) (put-on (a .text .now) (a .from) (a .count) (a .image .now) (a .offset) (l .i) 16 (s .pre .0) (s .pre .2) (omega arith)), omega arith, omega (arith, l .inv .2))
 
 mul-put-rest : tie.Need-mul-put-rest Inv-loop μ-loop
 mul-put-rest c = search needs
@@ -87,10 +87,10 @@ put-spec =
     μ-loop
     loop-holds
     add-loop
-    mul-put-sixteen
-    add-put-sixteen
-    add-put-sixteen-2
-    put-sixteen-requires
+    mul-put-chunk
+    add-put-chunk
+    add-put-chunk-2
+    put-chunk-requires
     add-i
     loop-less
     loop-again

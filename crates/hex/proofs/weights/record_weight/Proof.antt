@@ -1,7 +1,7 @@
--- `record_weight` weighs a record, with its 16 bytes apart if it has so many.
+-- `record_weight` weighs a record, with its bytes apart if they are a chunk.
 use Rattle.flash.proofs.Kit.{_+_, arith, needs}
 use Rattle.hex.proofs.WeightLaws.{weight-small}
-use Rattle.hex.proofs.SixteenLaws.{weighs-all, weighs-parts}
+use Rattle.hex.proofs.ChunkLaws.{weighs-all, weighs-parts}
 use Rattle.hex.proofs.weights.record_weight.Statement.{statement}
 use Rattle.hex.proofs.weights.record_weight.Tie as tie
 
@@ -19,16 +19,16 @@ returns c =
 weight-from-requires-2 : tie.Need-weight-from-requires-2
 weight-from-requires-2 c κs = (c .before .before .before .pre .0, omega (arith, c .before .before .before .pre .1, c .if1 .left), omega arith)
 
-add-sixteen-weight : tie.Need-add-sixteen-weight
-add-sixteen-weight c = omega (arith, c .before .before .before .before .pre .1, c .before .if1 .left)
+add-chunk-weight : tie.Need-add-chunk-weight
+add-chunk-weight c = omega (arith, c .before .before .before .before .pre .1, c .before .if1 .left)
 
-sixteen-weight-requires : tie.Need-sixteen-weight-requires
-sixteen-weight-requires c κs = omega (arith, c .before .before .before .before .pre .1, c .before .if1 .left)
+chunk-weight-requires : tie.Need-chunk-weight-requires
+chunk-weight-requires c κs = omega (arith, c .before .before .before .before .pre .1, c .before .if1 .left)
 
 add-result : tie.Need-add-result
 add-result c =
     let a = c .before .before .before .before .before .args in
-    omega (arith, c .before .weight-from2 .ensures, weight-small (a .text .now) (a .from) 4, c .sixteen-weight .ensures .1)
+    omega (arith, c .before .weight-from2 .ensures, weight-small (a .text .now) (a .from) 4, c .chunk-weight .ensures .1)
 
 add-weight-from-2 : tie.Need-add-weight-from-2
 add-weight-from-2 c = omega (arith, c .before .before .before .before .before .pre .1, c .before .before .if1 .left)
@@ -39,12 +39,12 @@ weight-from-requires-3 c κs = (c .before .before .before .before .before .pre .
 add-result-2 : tie.Need-add-result-2
 add-result-2 c =
     let a = c .before .before .before .before .before .before .args in
-    omega (arith, c .before .before .weight-from2 .ensures, weight-small (a .text .now) (a .from) 4, c .before .sixteen-weight .ensures .1, c .weight-from3 .ensures, weight-small (a .text .now) (a .from + 40) 1)
+    omega (arith, c .before .before .weight-from2 .ensures, weight-small (a .text .now) (a .from) 4, c .before .chunk-weight .ensures .1, c .weight-from3 .ensures, weight-small (a .text .now) (a .from + 40) 1)
 
 returns-2 : tie.Need-returns-2
 returns-2 c =
     let a = c .before .before .before .before .before .before .args in
-    let W = weighs-parts (a .text .now) (a .from) _ _ _ (c .before .before .weight-from2 .ensures) (c .before .sixteen-weight .ensures .0) (c .weight-from3 .ensures) in
+    let W = weighs-parts (a .text .now) (a .from) _ _ _ (c .before .before .weight-from2 .ensures) (c .before .chunk-weight .ensures .0) (c .weight-from3 .ensures) in
     rw (c .before .before .before .if1 .left) W
 
 pub record-weight-spec : {M : Type 1} → statement M
@@ -55,8 +55,8 @@ record-weight-spec =
     weight-from-requires
     returns
     weight-from-requires-2
-    add-sixteen-weight
-    sixteen-weight-requires
+    add-chunk-weight
+    chunk-weight-requires
     add-result
     add-weight-from-2
     weight-from-requires-3

@@ -1,9 +1,9 @@
--- `sixteen_weight` weighs 16 bytes, or says that they are too heavy.
+-- `chunk_weight` weighs a chunk, or says that it is too heavy.
 use Rattle.flash.proofs.Kit.{sym, _∙_, arith, needs}
 use Rattle.hex.proofs.WeightLaws.{digits-weigh}
-use Rattle.hex.proofs.SixteenLaws.{none-digits, weighs-all, weighs-other}
-use Rattle.hex.proofs.weights.sixteen_weight.Statement.{statement}
-use Rattle.hex.proofs.weights.sixteen_weight.Tie as tie
+use Rattle.hex.proofs.ChunkLaws.{none-digits, weighs-all, weighs-other}
+use Rattle.hex.proofs.weights.chunk_weight.Statement.{statement}
+use Rattle.hex.proofs.weights.chunk_weight.Tie as tie
 
 others-requires : tie.Need-others-requires
 others-requires c κs = search needs
@@ -24,5 +24,5 @@ returns-2 c =
     let D = none-digits (a .text .now) (a .from) 32 (sym (c .before .before .others .ensures) ∙ c .before .if1 .left) in
     (weighs-all (a .text .now) (a .from) 16 _ (c .total .ensures), omega (arith, c .total .ensures, digits-weigh (a .text .now) (a .from) 16 D))
 
-pub sixteen-weight-spec : {M : Type 1} → statement M
-sixteen-weight-spec = tie.close (tie.spec others-requires returns total-requires returns-2)
+pub chunk-weight-spec : {M : Type 1} → statement M
+chunk-weight-spec = tie.close (tie.spec others-requires returns total-requires returns-2)

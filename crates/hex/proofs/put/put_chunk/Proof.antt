@@ -1,8 +1,8 @@
--- `put_sixteen` puts 16 bytes at an offset of the image.
+-- `put_chunk` puts a chunk at an offset of the image.
 use Rattle.flash.proofs.Kit.{refl, _∙_, needs}
 use Rattle.hex.proofs.PutLaws.{put-back}
-use Rattle.hex.proofs.put.put_sixteen.Statement.{statement}
-use Rattle.hex.proofs.put.put_sixteen.Tie as tie
+use Rattle.hex.proofs.put.put_chunk.Statement.{statement}
+use Rattle.hex.proofs.put.put_chunk.Tie as tie
 
 slice-aggregate-put-bytes : tie.Need-slice-aggregate-put-bytes
 slice-aggregate-put-bytes c = search needs
@@ -36,8 +36,8 @@ returns c =
     let a = c .before .before .before .before .before .before .before .before .before .before .args in
     put-back (a .text .now) (a .from) 16 (a .image .now) _ (a .offset) _ refl (c .before .before .copy .ensures ∙ c .before .before .before .before .before .before .put-bytes .ensures)
 
-pub put-sixteen-spec : {M : Type 1} → statement M
-put-sixteen-spec =
+pub put-chunk-spec : {M : Type 1} → statement M
+put-chunk-spec =
     tie.close
     (tie.spec
     slice-aggregate-put-bytes

@@ -1,4 +1,4 @@
--- The weight of a record by that of its parts, where 16 bytes are weighed by themselves.
+-- The weight of a record by that of its parts, where its 16 bytes are weighed as a chunk.
 use Rattle.flash.proofs.Kit.{_≡_, refl, sym, ap, _∙_, ⊎-elim, List, ℕ, zero, suc, _+_, _*_, _≤_, _<_, arith, add-one, true, false, cond, getD}
 use Rattle.flash.proofs.Bools.{bool-cases}
 use Rattle.flash.proofs.Comparisons.{eq-cases, lt-cases}
