@@ -1,9 +1,9 @@
 -- The weight of a record by that of its parts, where its 16 bytes are weighed as a chunk.
 use Rattle.flash.proofs.Kit.{_≡_, refl, sym, ap, _∙_, ⊎-elim, List, ℕ, zero, suc, _+_, _*_, _≤_, _<_, arith, add-one, true, false, cond, getD}
 use Rattle.flash.proofs.Bools.{bool-cases}
-use Rattle.flash.proofs.Comparisons.{eq-cases, lt-cases}
+use Rattle.flash.proofs.Comparisons.{lt-cases}
 use Rattle.hex.specs.Reading.{isDigit}
-use Rattle.hex.specs.inner.Lines.{weightOf, weightFrom, othersFrom, Weighs, AreDigits}
+use Rattle.hex.specs.inner.Lines.{weightFrom, othersFrom, Weighs, AreDigits}
 use Rattle.hex.proofs.WeightLaws.{weigh-digits}
 
 pub one-digit : (code : ℕ) → isDigit code ≡ true → _≡_ {A = ℕ} 0 (cond (isDigit code) 0 1)
