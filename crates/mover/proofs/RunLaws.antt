@@ -5,6 +5,7 @@ use Rattle.flash.proofs.Kit.{add-one, arith, eqb, length}
 use Rattle.flash.specs.declared.sizes.Sizes.{Sizes}
 use Rattle.flash.specs.Geometry.{slot}
 use Rattle.flash.specs.Chip.{Chip, pageAt}
+use Rattle.flash.proofs.Bools.{one-or-0}
 use Rattle.flash.proofs.Bounds.{block-in-marks, block-in-store, slot-in-marks, slot-in-store}
 use Rattle.flash.proofs.Chips.{write-page, erase-page-other}
 use Rattle.method.specs.declared.tally.Tally.{Tally}
@@ -55,10 +56,6 @@ counts-fit M A place i tally h e =
     rw e (omega arith, omega arith, omega arith)
 
 -- ---- the answer of a run that is carried out
-one-or-0 : (t : Bool) → boolByte t ≡ cond t 1 0
-one-or-0 true = refl
-one-or-0 false = refl
-
 pub carried : (M : Move) (store marks work : List ℕ) (place budget last taken : ℕ) (store′ marks′ work′ : List ℕ) (tally : Tally)
     → last ≡ lastPlace (M .sizes) → taken ≡ min budget (last - place)
     → _≡_ {A = Chip} (record { store = store′; marks = marks′ }) (steps M taken place (runningOf store marks work) .chip)

@@ -40,14 +40,14 @@ loop-again c =
 
 returns : tie.Need-returns Inv-loop μ-loop
 returns c =
-    let l = c .before .loop in
-    let a = c .before .before .before .before .before .args in
+    let l = c .before .before .before .loop in
+    let a = c .before .before .before .before .before .before .before .args in
     let all = take-all (l .i) (take (a .count) (a .slots .now)) (omega (arith, length-take-le (a .count) (a .slots .now) (omega arith))) in
-    rw (lt-ltb 0 (l .i) (omega arith), all) at (l .inv .0)
+    (rw (lt-ltb 0 (l .i) (omega arith), all) at (l .inv .0), c .count-written .ensures)
 
 pub sum-to-page-spec : {M : Type 1} → statement M
 sum-to-page-spec =
     tie.close
     (tie.spec Inv-loop μ-loop loop-holds
     (λ c. search needs) (λ c. search needs) (λ c. search needs) (λ c. search needs) sum-from-requires
-    (λ c. search needs) (λ c. search needs) loop-again (λ c. search needs) returns)
+    (λ c. search needs) (λ c. search needs) loop-again (λ c. search needs) (λ c. search needs) returns)
