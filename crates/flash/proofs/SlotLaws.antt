@@ -83,6 +83,6 @@ module _ (store : List ℕ) (p : ℕ) (slots page : List ℕ) (add : Bool) (some
       rw byte-is (front-more new page i size (omega arith))
 
 -- the bytes of a slot's page, cut out by its first and last
-pub counted : (p to : ℕ) (store page : List ℕ) → part p to store ≡ page → writtenBytes (take (to * p + p - to * p) (drop (to * p) store)) ≡ writtenBytes page
+pub counted : (p to : ℕ) (store : List ℕ) → writtenBytes (take (to * p + p - to * p) (drop (to * p) store)) ≡ writtenBytes (part p to store)
 unfolding part
-counted p to store page e = let all : to * p + p - to * p ≡ p = omega arith in ap writtenBytes (ap (λ (x : ℕ). take x (drop (to * p) store)) all ∙ e)
+counted p to store = (let all : to * p + p - to * p ≡ p = omega arith in rw all)

@@ -124,7 +124,7 @@ pub fn sum_to_page(store: &[u8], p: usize, slots: &[usize], count: usize, page: 
     requires { ⌜ (1 ≤ count) × (count ≤ length (now slots)) × (count ≤ 4096) × (length (now page) ≡ p) ⌝ }
     requires { ⌜ ((j : ℕ) → j < count → getD (now slots) j 0 * p + p ≤ length (now store)) ⌝ }
     ensures { λ r. ⌜ (now (page .exit) ≡ sum (λ t. part p t (now (store .entry))) (take count (now (slots .entry))))
-        × (r ≡ writtenBytes (now (page .exit))) ⌝ }
+        × (r ≡ writtenBytes (now (page .exit))) × (r ≤ p) ⌝ }
 {
     let mut i = 0;
     while i < count {
@@ -141,7 +141,7 @@ pub fn sum_to_slot(store: &mut [u8], p: usize, slots: &[usize], count: usize, to
     requires { ⌜ ((j : ℕ) → j < count → getD (now slots) j 0 ≢ to) ⌝ }
     ensures { λ r. ⌜ (now (store .exit)
         ≡ setPart p to (now (store .entry)) (sum (λ t. part p t (now (store .entry))) (take count (now (slots .entry)))))
-        × (r ≡ writtenBytes (sum (λ t. part p t (now (store .entry))) (take count (now (slots .entry))))) ⌝ }
+        × (r ≡ writtenBytes (sum (λ t. part p t (now (store .entry))) (take count (now (slots .entry))))) × (r ≤ p) ⌝ }
 {
     let mut i = 0;
     while i < count {

@@ -158,8 +158,8 @@ returns-4 c =
     let f = e .before .before .before .before in
     let s = start f in
     let G = gathered r in
-    rebuilt (asked s) (chip s) (s .args .work .now) (s .args .k) (none f) _ _ (readable (e .before .before) .fits-one) (within e) (count-is _ _ _ _ G)
-    (c .before .before .sum-to-page .ensures ∙ ap (sum (λ t. part (s .args .sizes .p) t (s .args .store .now))) (G .slots-are))
+    rebuilt (asked s) (chip s) (s .args .work .now) (s .args .k) (none f) _ _ _ (readable (e .before .before) .fits-one) (within e) (count-is _ _ _ _ G)
+    (c .before .before .sum-to-page .ensures .0 ∙ ap (sum (λ t. part (s .args .sizes .p) t (s .args .store .now))) (G .slots-are)) (c .before .before .sum-to-page .ensures .1)
 
 pub read-spec : {M : Type 1} → statement M
 read-spec =
