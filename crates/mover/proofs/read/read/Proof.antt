@@ -144,6 +144,11 @@ sum-to-page-requires c κs =
       (λ j h. rw (L .store-length) (slot-in-store (s .args .sizes) _ (inside j h))),
     )
 
+cast-bytes : tie.Need-cast-bytes
+cast-bytes c =
+    let f = c .before .before .before .before .before .before .before .before .before .before .before in
+    omega (arith, c .before .before .sum-to-page .ensures .2, accepted f .0 .ranges .p-high)
+
 cast-count : tie.Need-cast-count
 cast-count c = omega (arith, gathered (c .before .before .before .before .before) .few)
 
@@ -186,6 +191,7 @@ read-spec =
     read-slots-requires
     slice-aggregate-sum-to-page
     sum-to-page-requires
+    cast-bytes
     cast-count
     same-length-4
     returns-4)
