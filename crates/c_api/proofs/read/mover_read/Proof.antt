@@ -30,7 +30,7 @@ same-length c = search needs
 
 returns : tie.Need-returns
 returns c =
-    let done = c .before .before .before in
+    let done = c .before .before in
     let z = done .before .before .before in
     let d = z .before .before .decode .ensures in
     rw (z .sizes-of .ensures) at (read-exported _ _ _ _ (front-is _ _ _ _ (d .0) (d .1)) _ _ _ _ (done .read .ensures))

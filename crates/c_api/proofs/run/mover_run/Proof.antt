@@ -36,7 +36,7 @@ same-length-3 c = search needs
 
 returns : tie.Need-returns
 returns c =
-    let done = c .before .before .before .before .before .before .before in
+    let done = c .before .before .before .before .before .before in
     let z = done .before .before .before .before .before in
     let d = z .before .before .decode .ensures in
     rw (z .sizes-of .ensures) at (run-exported _ _ _ _ (front-is _ _ _ _ (d .0) (d .1)) _ _ _ _ _ (done .run .ensures))
