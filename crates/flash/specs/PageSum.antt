@@ -1,4 +1,4 @@
--- Rules 1.10 and 1.11: the sum of pages, and what of a page is programmed.
+-- Rules 1.10 and 1.17: the sum of pages, and what of a page is programmed.
 use mathlib.Core.Bool.{not}
 use mathlib.Core.List.{List, [], _∷_}
 use Prim.Native.Nat.{ℕ}
