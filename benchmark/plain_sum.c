@@ -15,16 +15,16 @@ static inline vector load(const uint8_t *from)
     return v;
 }
 
-/* One pass of so many pages, all of which but `to` and `bytes` are constants where it is called, so that the compiler makes a loop of its own for each.
- * Erased bytes are counted by lane, four vectors of them: vectors that are compared give 255, one below 0, for bytes that are equal. A lane
- * is met once in 64 bytes, and a page has at most 4096, so that two lanes together have room in a byte. */
+/* One pass over up to five pages. How many they are, whether `to` is added and whether the sum is counted are constants wherever it is
+ * called, so that the compiler makes a loop for each. 255s are counted by lane: a comparison of vectors gives 255, which is 0 - 1, where
+ * bytes are equal. A lane is met once in 64 bytes, 64 times in a page, so that a byte has room for two of them. */
 static inline uint32_t pass(uint8_t *restrict to, const uint8_t *const *pages, uint32_t terms, int add, int counts, size_t bytes)
 {
-    const vector blank = load((const uint8_t *)"\377\377\377\377\377\377\377\377\377\377\377\377\377\377\377\377");
-    vector erased[VECTORS] = {{0}};
+    vector blank, erased[VECTORS] = {{0}};
     const uint8_t *page[MOST];
     uint32_t written = 0;
     size_t i;
+    memset(&blank, ERASED, sizeof blank);
     for (uint32_t k = 0; k < terms; k++)
         page[k] = pages[k];
     for (i = 0; i + VECTORS * WIDTH <= bytes; i += VECTORS * WIDTH)
