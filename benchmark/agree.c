@@ -37,10 +37,28 @@ static struct answer any_call(const struct mover *mover, struct scene *z, uint32
     }
 }
 
+/* Pages are short where there are many. */
+static uint32_t any_length(uint32_t pages, uint64_t *random)
+{
+    return 1 + random_below(random, pages > 40 ? 40 : random_below(random, 16) == 0 ? 4096 : 150);
+}
+
+/* Half of the stores get 255s among their bytes, which random ones hardly have. */
+static void mix_erased(struct scene *z, uint64_t *random)
+{
+    uint64_t spare = (uint64_t)z->m * z->page_bytes;
+    if (random_below(random, 2) == 0)
+        return;
+    for (uint64_t i = spare; i < z->store_len; i++)
+        if (random_below(random, 2) == 0)
+            z->store[i] = 255;
+}
+
 /* Makes a move that stands somewhere. */
 static void make_standing(struct scene *z, const struct mover *mover, uint32_t place, uint32_t n, uint32_t m, uint64_t *random)
 {
-    scene_make(z, n, m, 1 + random_below(random, 40), random_below(random, 8) == 0 ? CYCLE_UP : RANDOM, random);
+    scene_make(z, n, m, any_length(n * m, random), random_below(random, 8) == 0 ? CYCLE_UP : RANDOM, random);
+    mix_erased(z, random);
     z->s = random_below(random, 3);
     memset(z->marks + m, (int)z->s, (size_t)n * m);
     call_split(mover, z);

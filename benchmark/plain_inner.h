@@ -76,7 +76,7 @@ struct moment {
 int plain_moment(const struct sizes *z, const uint8_t *marks, struct moment *found);
 void plain_erase(const struct sizes *z, uint8_t *store, uint8_t *marks, uint32_t block);
 
-/* plain_sum.c: `to` becomes the sum of the pages, which are 1 or more and lie elsewhere. */
-void plain_sum(uint8_t *to, const uint8_t *const *pages, uint32_t count, uint32_t bytes);
+/* plain_sum.c: `to` becomes the sum of the pages, which are 1 or more and lie elsewhere. Returns how many of its bytes are not 255. */
+uint32_t plain_sum(uint8_t *to, const uint8_t *const *pages, uint32_t count, uint32_t bytes);
 
 #endif

@@ -91,14 +91,14 @@ static uint32_t gather(struct reading *r, const struct moment *at, uint32_t v)
 uint32_t plain_read(uint32_t n, uint32_t m, uint32_t page_bytes, uint32_t s,
                     const uint8_t *list, uint64_t list_len, const uint8_t *sets, uint64_t sets_len,
                     const uint8_t *store, uint64_t store_len, const uint8_t *marks, uint64_t marks_len,
-                    uint8_t *work, uint64_t work_len, uint32_t original, uint32_t *count)
+                    uint8_t *work, uint64_t work_len, uint32_t original, uint32_t *count, uint32_t *written_bytes)
 {
     struct sizes z = {n, m, page_bytes, s};
     struct moment at;
     struct reading r;
     uint8_t set_of[ORIGINALS];
     uint32_t number = plain_refusal(&z, list, list_len, sets, sets_len, store_len, marks_len, work_len, set_of);
-    *count = 0;
+    *count = *written_bytes = 0;
     if (number != 0)
         return number;
     if (!plain_moment(&z, marks, &at))
@@ -113,6 +113,6 @@ uint32_t plain_read(uint32_t n, uint32_t m, uint32_t page_bytes, uint32_t s,
     r.set = sets[original];
     plain_row(&r.row, &z, list, sets, r.set);
     *count = gather(&r, &at, original / m);
-    plain_sum(work, r.pages, *count, page_bytes);
+    *written_bytes = plain_sum(work, r.pages, *count, page_bytes);
     return 0;
 }

@@ -9,6 +9,7 @@ struct running {
     uint32_t turn, filled;                 /* the place: turns of m + 1 steps, and the pages written in this one */
     int all_rows;                          /* whether all rows are made; if not, each write makes its own */
     const uint8_t *last;                   /* the page written last */
+    uint32_t bytes;                        /* of all pages written, those that are not 255 */
     uint8_t set_of[ORIGINALS];
     struct row rows[PAGES];
 };
@@ -85,7 +86,7 @@ static void write_pages(struct running *r, uint32_t stop)
         uint32_t at = first + r->filled;
         uint32_t count = forward ? coded_pages(r, block, r->filled, pages)
                                  : final_pages(r, block - 1, r->set_of[at - r->z.m], pages);
-        plain_sum(slot(r, at), pages, count, r->z.p);
+        r->bytes += plain_sum(slot(r, at), pages, count, r->z.p);
         r->marks[at] = mark;
         r->last = slot(r, at);
     }
@@ -114,11 +115,12 @@ uint32_t plain_run(uint32_t n, uint32_t m, uint32_t page_bytes, uint32_t s,
                    const uint8_t *list, uint64_t list_len, const uint8_t *sets, uint64_t sets_len,
                    uint8_t *store, uint64_t store_len, uint8_t *marks, uint64_t marks_len, uint8_t *work, uint64_t work_len,
                    uint32_t place, uint32_t budget,
-                   uint32_t *place_reached, uint32_t *steps, uint32_t *writes, uint32_t *erases, uint32_t *finished)
+                   uint32_t *place_reached, uint32_t *steps, uint32_t *writes, uint32_t *erases, uint32_t *finished,
+                   uint32_t *written_bytes)
 {
     struct running r;
     uint32_t end, taken, number;
-    *place_reached = *steps = *writes = *erases = *finished = 0;
+    *place_reached = *steps = *writes = *erases = *finished = *written_bytes = 0;
     r.z = (struct sizes){n, m, page_bytes, s};
     number = plain_refusal(&r.z, list, list_len, sets, sets_len, store_len, marks_len, work_len, r.set_of);
     if (number != 0)
@@ -131,6 +133,7 @@ uint32_t plain_run(uint32_t n, uint32_t m, uint32_t page_bytes, uint32_t s,
     r.store = store;
     r.marks = marks;
     r.last = NULL;
+    r.bytes = 0;
     r.turn = place / (m + 1);
     r.filled = place % (m + 1);
     if (!stands(&r))
@@ -146,5 +149,6 @@ uint32_t plain_run(uint32_t n, uint32_t m, uint32_t page_bytes, uint32_t s,
     *steps = taken;
     *writes = taken - *erases;
     *finished = place + taken == end;
+    *written_bytes = r.bytes;
     return 0;
 }

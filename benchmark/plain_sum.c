@@ -1,59 +1,74 @@
-/* By hand: the sum of pages, up to five in one pass over the bytes. */
+/* By hand: the sum of pages, up to five in one pass over the bytes, and the count of its bytes that are not 255 in the last pass. */
 #include "plain.h"
 #include "plain_inner.h"
 
 uint64_t plain_bytes_summed;
 
-typedef const uint8_t *restrict page;
+typedef uint8_t vector __attribute__((vector_size(16)));
 
-/* SUM for each byte i: 64 of them a turn, which the compiler makes four vectors, then what is left. */
-#define EACH(SUM)                                        \
-    do {                                                 \
-        size_t i = 0;                                    \
-        for (size_t turn = 0; turn < bytes / 64; turn++) \
-            for (int j = 0; j < 64; j++, i++)            \
-                SUM;                                     \
-        for (; i < bytes; i++)                           \
-            SUM;                                         \
-    } while (0)
+enum { WIDTH = sizeof(vector), VECTORS = 4, MOST = 5 };
 
-static void put_2(uint8_t *restrict to, page a, page b, size_t bytes)
+static inline vector load(const uint8_t *from)
 {
-    EACH(to[i] = a[i] ^ b[i]);
+    vector v;
+    memcpy(&v, from, sizeof v);
+    return v;
 }
 
-static void put_3(uint8_t *restrict to, page a, page b, page c, size_t bytes)
+/* One pass over up to five pages. How many they are, whether `to` is added and whether the sum is counted are constants wherever it is
+ * called, so that the compiler makes a loop for each. 255s are counted by lane: a comparison of vectors gives 255, which is 0 - 1, where
+ * bytes are equal. A lane is met once in 64 bytes, 64 times in a page, so that a byte has room for two of them. */
+static inline uint32_t pass(uint8_t *restrict to, const uint8_t *const *pages, uint32_t terms, int add, int counts, size_t bytes)
 {
-    EACH(to[i] = a[i] ^ b[i] ^ c[i]);
-}
-
-static void put_4(uint8_t *restrict to, page a, page b, page c, page d, size_t bytes)
-{
-    EACH(to[i] = a[i] ^ b[i] ^ c[i] ^ d[i]);
-}
-
-static void put_5(uint8_t *restrict to, page a, page b, page c, page d, page e, size_t bytes)
-{
-    EACH(to[i] = a[i] ^ b[i] ^ c[i] ^ d[i] ^ e[i]);
-}
-
-static void add_4(uint8_t *restrict to, page a, page b, page c, page d, size_t bytes)
-{
-    EACH(to[i] ^= a[i] ^ b[i] ^ c[i] ^ d[i]);
+    vector blank, erased[VECTORS] = {{0}};
+    const uint8_t *page[MOST];
+    uint32_t written = 0;
+    size_t i;
+    memset(&blank, ERASED, sizeof blank);
+    for (uint32_t k = 0; k < terms; k++)
+        page[k] = pages[k];
+    for (i = 0; i + VECTORS * WIDTH <= bytes; i += VECTORS * WIDTH)
+        for (int j = 0; j < VECTORS; j++) {
+            size_t at = i + (size_t)j * WIDTH;
+            vector sum = load(page[0] + at);
+            for (uint32_t k = 1; k < terms; k++)
+                sum ^= load(page[k] + at);
+            if (add)
+                sum ^= load(to + at);
+            if (counts)
+                erased[j] -= (vector)(sum == blank);
+            memcpy(to + at, &sum, WIDTH);
+        }
+    if (counts) {
+        vector one = erased[0] + erased[1], two = erased[2] + erased[3];
+        written = (uint32_t)i;
+        for (int j = 0; j < WIDTH; j++)
+            written -= (uint32_t)one[j] + two[j];
+    }
+    for (; i < bytes; i++) {
+        uint8_t sum = add ? to[i] : 0;
+        for (uint32_t k = 0; k < terms; k++)
+            sum ^= page[k][i];
+        to[i] = sum;
+        written += sum != ERASED;
+    }
+    return written;
 }
 
 /* The first pass takes as many as leave a multiple of four. */
-void plain_sum(uint8_t *to, const uint8_t *const *pages, uint32_t count, uint32_t bytes)
+uint32_t plain_sum(uint8_t *to, const uint8_t *const *pages, uint32_t count, uint32_t bytes)
 {
-    uint32_t done = count == 1 ? 1 : 2 + (count - 2) % 4;
+    uint32_t done = count == 1 ? 1 : 2 + (count - 2) % 4, written = 0;
+    int last = done == count;
     switch (done) {
-    case 1: memcpy(to, pages[0], bytes); break;
-    case 2: put_2(to, pages[0], pages[1], bytes); break;
-    case 3: put_3(to, pages[0], pages[1], pages[2], bytes); break;
-    case 4: put_4(to, pages[0], pages[1], pages[2], pages[3], bytes); break;
-    default: put_5(to, pages[0], pages[1], pages[2], pages[3], pages[4], bytes); break;
+    case 1: written = pass(to, pages, 1, 0, 1, bytes); break;
+    case 2: written = last ? pass(to, pages, 2, 0, 1, bytes) : pass(to, pages, 2, 0, 0, bytes); break;
+    case 3: written = last ? pass(to, pages, 3, 0, 1, bytes) : pass(to, pages, 3, 0, 0, bytes); break;
+    case 4: written = last ? pass(to, pages, 4, 0, 1, bytes) : pass(to, pages, 4, 0, 0, bytes); break;
+    default: written = last ? pass(to, pages, 5, 0, 1, bytes) : pass(to, pages, 5, 0, 0, bytes); break;
     }
     for (; done < count; done += 4)
-        add_4(to, pages[done], pages[done + 1], pages[done + 2], pages[done + 3], bytes);
+        written = done + 4 == count ? pass(to, pages + done, 4, 1, 1, bytes) : pass(to, pages + done, 4, 1, 0, bytes);
     plain_bytes_summed += (uint64_t)count * bytes;
+    return written;
 }

@@ -17,7 +17,8 @@ struct answer call_run(const struct mover *mover, struct scene *z, uint32_t plac
 {
     struct answer a;
     a.number = mover->run(z->n, z->m, z->page_bytes, z->s, z->list, z->list_len, z->sets, z->sets_len, z->store, z->store_len, z->marks,
-                          z->marks_len, z->work, z->work_len, place, budget, &a.out[0], &a.out[1], &a.out[2], &a.out[3], &a.out[4]);
+                          z->marks_len, z->work, z->work_len, place, budget, &a.out[0], &a.out[1], &a.out[2], &a.out[3], &a.out[4],
+                          &a.out[5]);
     return a;
 }
 
@@ -32,7 +33,7 @@ struct answer call_read(const struct mover *mover, struct scene *z, uint32_t ori
 {
     struct answer a = {0, {0}};
     a.number = mover->read(z->n, z->m, z->page_bytes, z->s, z->list, z->list_len, z->sets, z->sets_len, z->store, z->store_len,
-                           z->marks, z->marks_len, z->work, z->work_len, original, &a.out[0]);
+                           z->marks, z->marks_len, z->work, z->work_len, original, &a.out[0], &a.out[1]);
     return a;
 }
 

@@ -18,17 +18,17 @@ struct mover {
     uint32_t (*split)(uint32_t, uint32_t, uint32_t, uint32_t, const uint8_t *, uint64_t, uint8_t *, uint64_t);
     uint32_t (*run)(uint32_t, uint32_t, uint32_t, uint32_t, const uint8_t *, uint64_t, const uint8_t *, uint64_t, uint8_t *, uint64_t,
                     uint8_t *, uint64_t, uint8_t *, uint64_t, uint32_t, uint32_t, uint32_t *, uint32_t *, uint32_t *, uint32_t *,
-                    uint32_t *);
+                    uint32_t *, uint32_t *);
     uint32_t (*mend)(uint32_t, uint32_t, uint32_t, uint32_t, uint8_t *, uint64_t, uint8_t *, uint64_t, uint32_t *, uint32_t *);
     uint32_t (*read)(uint32_t, uint32_t, uint32_t, uint32_t, const uint8_t *, uint64_t, const uint8_t *, uint64_t, const uint8_t *,
-                     uint64_t, const uint8_t *, uint64_t, uint8_t *, uint64_t, uint32_t, uint32_t *);
+                     uint64_t, const uint8_t *, uint64_t, uint8_t *, uint64_t, uint32_t, uint32_t *, uint32_t *);
     uint32_t (*hex_read)(uint32_t, uint32_t, uint32_t, const uint8_t *, uint64_t, uint8_t *, uint64_t, uint8_t *, uint64_t);
     uint32_t (*hex_write)(uint32_t, uint32_t, uint32_t, const uint8_t *, uint64_t, const uint8_t *, uint64_t, uint8_t *, uint64_t);
 };
 
 /* All that a call returns: the refusal number, then the numbers out. */
 struct answer {
-    uint32_t number, out[5];
+    uint32_t number, out[6];
 };
 
 struct answer call_split(const struct mover *mover, struct scene *scene);

@@ -11,7 +11,7 @@ static const struct mover_move move = {N, M, P, S, list, sets, store, marks, wor
 int main(void)
 {
     struct mover_state at;
-    uint32_t k, count;
+    uint32_t k, count, bytes;
 
     memset(store, 255, sizeof store);                                   /* the spare is blank .. */
     memset(marks, 255, M);
@@ -27,7 +27,7 @@ int main(void)
     marks[3 * M + 1] = 255;                                             /* power fails inside the write of step 10 .. */
     memset(store + (3 * M + 1) * P, '?', P);                            /* .. and leaves anything on that page */
 
-    if (mover_read_move(&move, 0, &count) != MOVER_DONE)                /* every page can still be read */
+    if (mover_read_move(&move, 0, &count, &bytes) != MOVER_DONE)        /* every page can still be read */
         return 1;
     printf("page 0 is %.*s, the sum of %u stored pages\n", P, (const char *)work, (unsigned)count);
 
@@ -36,6 +36,7 @@ int main(void)
     printf("recovery erased %u block, the move goes on at place %u\n", (unsigned)at.erases, (unsigned)at.place);
     if (mover_run_move(&move, at.place, UINT32_MAX, &at) != MOVER_DONE || !at.finished)
         return 1;
+    printf("the rest of the move programmed %u bytes that are not 255\n", (unsigned)at.written_bytes);
     printf("%.*s\n", N * M * P, (const char *)store + M * P);
     return memcmp(store + M * P, "ddddddddeeeeeeeeffffffffaaaaaaaabbbbbbbbcccccccc", N * M * P) != 0;
 }

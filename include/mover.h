@@ -87,13 +87,16 @@ uint32_t mover_split(uint32_t n, uint32_t m, uint32_t page_bytes, uint32_t s,
  *   *place_reached  the place after the last step taken, where the next run goes on
  *   *steps          the steps taken, of which *writes wrote a page and *erases erased a block
  *   *finished       1 if the place reached is 2 * n * (m + 1), else 0
+ *   *written_bytes  how many bytes of the pages written, all together, are not 255: the load of programming them. 0 to *writes * page_bytes,
+ *                   and never above 2 * n * m * page_bytes, which is at most 33554432
  * Changes `store`, `marks` and `work`; `work` is left with the last page written, or as it was if none was.
  * Returns 0, or 1, 2, 3, 4 or 5. */
 uint32_t mover_run(uint32_t n, uint32_t m, uint32_t page_bytes, uint32_t s,
                    const uint8_t *list, uint64_t list_len, const uint8_t *sets, uint64_t sets_len,
                    uint8_t *store, uint64_t store_len, uint8_t *marks, uint64_t marks_len, uint8_t *work, uint64_t work_len,
                    uint32_t place, uint32_t budget,
-                   uint32_t *place_reached, uint32_t *steps, uint32_t *writes, uint32_t *erases, uint32_t *finished);
+                   uint32_t *place_reached, uint32_t *steps, uint32_t *writes, uint32_t *erases, uint32_t *finished,
+                   uint32_t *written_bytes);
 
 /* Recovery, to be called after every power cut before the next run. Reads the marks and erases the block that is unfinished, if
  * there is one; it may itself be cut, and called again.
@@ -113,13 +116,14 @@ uint32_t mover_mend(uint32_t n, uint32_t m, uint32_t page_bytes, uint32_t s,
                     uint32_t *place, uint32_t *erases);
 
 /* Reads an original at any moment of the move, also after a cut and before recovery: puts it into `work`.
- *   *count   how many stored pages were summed for it, 1 to n
+ *   *count          how many stored pages were summed for it, 1 to n
+ *   *written_bytes  how many bytes of it are not 255, 0 to page_bytes
  * Changes only `work`.
  * Returns 0, or 1, 2, 3, 4, 6 or 7. */
 uint32_t mover_read(uint32_t n, uint32_t m, uint32_t page_bytes, uint32_t s,
                     const uint8_t *list, uint64_t list_len, const uint8_t *sets, uint64_t sets_len,
                     const uint8_t *store, uint64_t store_len, const uint8_t *marks, uint64_t marks_len,
-                    uint8_t *work, uint64_t work_len, uint32_t original, uint32_t *count);
+                    uint8_t *work, uint64_t work_len, uint32_t original, uint32_t *count, uint32_t *written_bytes);
 
 /* Tells the step at a place, for a program that has to do it on a chip.
  *   *kind    a mover_kind
@@ -209,7 +213,7 @@ struct mover_move {
 
 /* How a call left the move: the place reached, and what it took. */
 struct mover_state {
-    uint32_t place, steps, writes, erases, finished;
+    uint32_t place, steps, writes, erases, finished, written_bytes;
 };
 
 /* The step at a place. */
@@ -254,10 +258,10 @@ static inline uint32_t mover_run_move(const struct mover_move *move, uint32_t pl
     return mover_run(move->n, move->m, move->page_bytes, move->s, move->list, mover_list_bytes(move->n, move->m), move->sets,
                      mover_sets_bytes(move->n, move->m), move->store, mover_store_bytes(move->n, move->m, move->page_bytes),
                      move->marks, mover_marks_bytes(move->n, move->m), move->work, move->page_bytes, place, budget, &state->place,
-                     &state->steps, &state->writes, &state->erases, &state->finished);
+                     &state->steps, &state->writes, &state->erases, &state->finished, &state->written_bytes);
 }
 
-/* As mover_mend: sets place and erases, an erase being a step, and finished if the place is the last. */
+/* As mover_mend: sets place and erases, an erase being a step, and finished if the place is the last; it writes no page. */
 static inline uint32_t mover_mend_move(const struct mover_move *move, struct mover_state *state)
 {
     uint32_t number;
@@ -266,17 +270,17 @@ static inline uint32_t mover_mend_move(const struct mover_move *move, struct mov
                         mover_store_bytes(move->n, move->m, move->page_bytes), move->marks, mover_marks_bytes(move->n, move->m),
                         &state->place, &state->erases);
     state->steps = state->erases;
-    state->writes = 0;
+    state->writes = state->written_bytes = 0;
     state->finished = number == MOVER_DONE && state->place == mover_last_place(move->n, move->m) ? 1 : 0;
     return number;
 }
 
-static inline uint32_t mover_read_move(const struct mover_move *move, uint32_t original, uint32_t *count)
+static inline uint32_t mover_read_move(const struct mover_move *move, uint32_t original, uint32_t *count, uint32_t *written_bytes)
 {
     assert(mover_apart(move));
     return mover_read(move->n, move->m, move->page_bytes, move->s, move->list, mover_list_bytes(move->n, move->m), move->sets,
                       mover_sets_bytes(move->n, move->m), move->store, mover_store_bytes(move->n, move->m, move->page_bytes),
-                      move->marks, mover_marks_bytes(move->n, move->m), move->work, move->page_bytes, original, count);
+                      move->marks, mover_marks_bytes(move->n, move->m), move->work, move->page_bytes, original, count, written_bytes);
 }
 
 /* As mover_hex_read, into the move's store and marks; the move's s has to be 0 from then on. */

@@ -42,6 +42,7 @@ static enum outcome take_step(struct demo *demo)
     if (mover_step_of(&demo->move, demo->place, &step) != MOVER_DONE
         || mover_run_move(&demo->move, demo->place, 1, &state) != MOVER_DONE)
         return wrong(demo, "a step was refused");
+    demo->written_bytes += state.written_bytes;
     if (step.kind == MOVER_WRITE)
         outcome = outcome_of(demo, chip_program(&demo->chip, step.block, step.page, demo->move.work, step.mark));
     else
@@ -65,9 +66,9 @@ static enum outcome recover(struct demo *demo)
 /* Reads an original and compares it. */
 static enum outcome read_one(struct demo *demo, uint32_t original)
 {
-    uint32_t count;
+    uint32_t count, bytes;
     const uint8_t *due = demo->originals + (uint64_t)original * demo->options.page_bytes;
-    if (mover_read_move(&demo->move, original, &count) != MOVER_DONE)
+    if (mover_read_move(&demo->move, original, &count, &bytes) != MOVER_DONE)
         return wrong(demo, "a read was refused");
     demo->pages_read++;
     demo->reads_wrong += memcmp(demo->move.work, due, demo->options.page_bytes) != 0;

@@ -17,6 +17,7 @@ struct demo {
     uint32_t moves_ended, moves_stopped;    /* a move comes to its end, or stops because something was refused */
     uint32_t moves_wrong;                   /* those that stopped, lost a page or read one wrong */
     uint32_t cuts, recoveries, cut_recoveries;
+    uint64_t written_bytes;                 /* as run counts them: those of its pages that are not 255 */
     uint32_t pages_read, reads_wrong, most_summed;
     uint32_t pages_lost, moves_with_loss;   /* of moves that ended */
     const char *stopped_by;                 /* what was wrong in the first move that stopped, or NULL */

@@ -110,6 +110,7 @@ static void print_work(const struct demo *demo)
     const struct options *o = &demo->options;
     uint32_t writes = demo->chip.cells.writes, erases = erases_begun(demo), data_blocks = o->blocks * o->moves;
     printf("  written     %" PRIu32 " page%s; without a cut it is %" PRIu32 "\n", writes, s(writes), 2 * data_blocks * o->pages);
+    printf("  load        %" PRIu64 " bytes that are not 255, as run counts those of the pages it writes\n", demo->written_bytes);
     printf("  erased      %" PRIu32 " block%s", erases, s(erases));
     if (keeps_promises(demo))
         printf("; proved: at most 2 x %" PRIu32 " + %" PRIu32 " recover%s = %" PRIu32, data_blocks, demo->recoveries,

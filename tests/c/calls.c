@@ -53,7 +53,7 @@ struct chip {
 };
 
 struct due {
-    uint32_t number, place, steps, writes, erases, finished;
+    uint32_t number, place, steps, writes, erases, finished, written_bytes;
 };
 
 /* The call turns `before` into `after` and returns the numbers due. */
@@ -61,10 +61,10 @@ static void runs(const char *what, uint32_t n, uint32_t m, const uint8_t *list, 
                  const struct chip *before, struct due due, const struct chip *after)
 {
     struct chip chip = *before;
-    struct due got = {77, 77, 77, 77, 77, 77};
+    struct due got = {77, 77, 77, 77, 77, 77, 77};
     uint64_t slots = ((uint64_t)n + 1) * m;
     got.number = mover_run(n, m, 1, 0, list, 2 * (uint64_t)n * m, sets, (uint64_t)n * m, chip.store, slots, chip.marks, slots, chip.work,
-                           1, place, budget, &got.place, &got.steps, &got.writes, &got.erases, &got.finished);
+                           1, place, budget, &got.place, &got.steps, &got.writes, &got.erases, &got.finished, &got.written_bytes);
     check(what, memcmp(&got, &due, sizeof got) == 0 && memcmp(&chip, after, sizeof chip) == 0);
 }
 
@@ -78,16 +78,16 @@ static void runs_checked(void)
     static const struct chip end = {{255, 255, 1, 4, 2, 8}, {255, 255, 2, 2, 2, 2}, {4}};
     static const struct chip one = {{255, 9}, {255, 0}, {77}}, one_end = {{255, 9}, {255, 2}, {9}};
     static const struct chip soiled = {{255, 254, 1, 2, 4, 8}, {255, 255, 0, 0, 0, 0}, {77}};
-    static const struct due refused_3 = {3, 0, 0, 0, 0, 0}, refused_4 = {4, 0, 0, 0, 0, 0}, refused_5 = {5, 0, 0, 0, 0, 0};
+    static const struct due refused_3 = {3, 0, 0, 0, 0, 0, 0}, refused_4 = {4, 0, 0, 0, 0, 0, 0}, refused_5 = {5, 0, 0, 0, 0, 0, 0};
 
-    runs("P3: block 0", 2, 2, p1, sets, 0, 2, &rest, (struct due){0, 2, 2, 2, 0, 0}, &coded_1);
-    runs("P3: block 1", 2, 2, p1, sets, 2, 3, &coded_1, (struct due){0, 5, 3, 2, 1, 0}, &coded_2);
-    runs("P3: the end", 2, 2, p1, sets, 5, UINT32_MAX, &coded_2, (struct due){0, 12, 7, 4, 3, 1}, &end);
-    runs("P3: at once", 2, 2, p1, sets, 0, 12, &rest, (struct due){0, 12, 12, 8, 4, 1}, &end);
-    runs("P4", 1, 1, stays, only, 0, 4, &one, (struct due){0, 4, 4, 2, 2, 1}, &one_end);
-    runs("P8: at the end", 2, 2, p1, sets, 12, 9, &end, (struct due){0, 12, 0, 0, 0, 1}, &end);
+    runs("P3: block 0", 2, 2, p1, sets, 0, 2, &rest, (struct due){0, 2, 2, 2, 0, 0, 2}, &coded_1);
+    runs("P3: block 1", 2, 2, p1, sets, 2, 3, &coded_1, (struct due){0, 5, 3, 2, 1, 0, 2}, &coded_2);
+    runs("P3: the end", 2, 2, p1, sets, 5, UINT32_MAX, &coded_2, (struct due){0, 12, 7, 4, 3, 1, 4}, &end);
+    runs("P3: at once", 2, 2, p1, sets, 0, 12, &rest, (struct due){0, 12, 12, 8, 4, 1, 8}, &end);
+    runs("P4", 1, 1, stays, only, 0, 4, &one, (struct due){0, 4, 4, 2, 2, 1, 2}, &one_end);
+    runs("P8: at the end", 2, 2, p1, sets, 12, 9, &end, (struct due){0, 12, 0, 0, 0, 1, 0}, &end);
     runs("P8: past the end", 2, 2, p1, sets, 13, 9, &end, refused_5, &end);
-    runs("P11: budget 0", 2, 2, p1, sets, 0, 0, &rest, (struct due){0, 0, 0, 0, 0, 0}, &rest);
+    runs("P11: budget 0", 2, 2, p1, sets, 0, 0, &rest, (struct due){0, 0, 0, 0, 0, 0, 0}, &rest);
     runs("an entry met twice", 2, 2, twice, sets, 0, 9, &rest, refused_3, &rest);
     runs("no split", 2, 2, p1, no_split, 0, 9, &rest, refused_4, &rest);
     runs("a set of m", 2, 2, p1, set_2, 0, 9, &rest, refused_4, &rest);
@@ -136,16 +136,16 @@ static void mends_checked(void)
     mends("s = 3", torn, torn_marks, 4, 3, MOVER_BAD_SIZES, 0, 0, -1);
 }
 
-/* The call puts a page of one byte in the work page, or refuses and leaves it; the byte behind it must stay. */
+/* The call puts a page of one byte, which is not 255, in the work page, or refuses and leaves it; the byte behind it must stay. */
 static void reads(const char *what, uint32_t n, uint32_t m, const uint8_t *list, const uint8_t *sets, const uint8_t *store,
                   const uint8_t *marks, uint64_t work_len, uint32_t original, uint32_t number, uint32_t count, uint8_t page)
 {
     uint8_t work[] = {77, 99};
-    uint32_t got, got_count = 77;
+    uint32_t got, got_count = 77, got_bytes = 77;
     uint64_t slots = ((uint64_t)n + 1) * m;
     got = mover_read(n, m, 1, 0, list, 2 * (uint64_t)n * m, sets, (uint64_t)n * m, store, slots, marks, slots, work, work_len, original,
-                     &got_count);
-    check(what, got == number && got_count == count && work[0] == page && work[1] == 99);
+                     &got_count, &got_bytes);
+    check(what, got == number && got_count == count && got_bytes == (number == MOVER_DONE) && work[0] == page && work[1] == 99);
 }
 
 static void reads_checked(void)
@@ -170,6 +170,49 @@ static void reads_checked(void)
     reads("an entry met twice", 2, 2, twice, sets, rest, rest_marks, 1, 0, MOVER_BAD_LIST, 0, 77);
     reads("work page too short", 2, 2, p1, sets, rest, rest_marks, 0, 0, MOVER_BAD_LENGTH, 0, 77);
     reads("n = 0", 0, 2, p1, sets, rest, rest_marks, 1, 0, MOVER_BAD_SIZES, 0, 77);
+}
+
+/* Two pages of two bytes trade places, one of them half 255 and the other 255 throughout. Their sum, which is written first, has no 255. */
+static void bytes_checked(void)
+{
+    static const uint8_t list[] = {1, 0, 0, 0};
+    static const uint32_t due[] = {2, 0, 0, 0, 1, 0, 0, 0};
+    uint8_t sets[] = {0, 0}, store[] = {255, 255, 255, 3, 255, 255}, marks[] = {255, 0, 0}, work[2], rest[6], rest_marks[3];
+    struct mover_move move = {2, 1, 2, 0, list, sets, store, marks, work};
+    struct mover_state at = {77, 77, 77, 77, 77, 77};
+    uint32_t count = 77, bytes = 77, place;
+    memcpy(rest, store, sizeof rest);
+    memcpy(rest_marks, marks, sizeof rest_marks);
+    check("one byte read", mover_read_move(&move, 0, &count, &bytes) == MOVER_DONE && count == 1 && bytes == 1);
+    check("no byte read", mover_read_move(&move, 1, &count, &bytes) == MOVER_DONE && count == 1 && bytes == 0);
+    bytes = 77;
+    check("a refused read counts none", mover_read_move(&move, 2, &count, &bytes) == MOVER_BAD_ORIGINAL && count == 0 && bytes == 0);
+    for (place = 0; place < 8; place++)
+        check("the bytes of a step", mover_run_move(&move, place, 1, &at) == MOVER_DONE && at.written_bytes == due[place]);
+    memcpy(store, rest, sizeof rest);
+    memcpy(marks, rest_marks, sizeof rest_marks);
+    check("the bytes of a move", mover_run_move(&move, 0, UINT32_MAX, &at) == MOVER_DONE && at.writes == 4 && at.written_bytes == 3);
+    at.written_bytes = 77;
+    check("recovery writes none", mover_mend_move(&move, &at) == MOVER_DONE && at.written_bytes == 0);
+    at.written_bytes = 77;
+    check("a refused run counts none", mover_run_move(&move, 0, 8, &at) == MOVER_BAD_PLACE && at.written_bytes == 0);
+}
+
+/* The most that a run can count: pages of zeros, whose sums are zeros too, and every size at its limit. */
+static void most_bytes_checked(void)
+{
+    enum { N = 64, M = 64, P = 4096 };
+    static uint8_t list[2 * N * M], sets[N * M], store[(N + 1) * M * P], marks[(N + 1) * M], work[P];
+    static const struct mover_move move = {N, M, P, 0, list, sets, store, marks, work};
+    struct mover_state at;
+    uint32_t k;
+    memset(store, 255, M * P);
+    memset(marks, 255, M);
+    for (k = 0; k < N * M; k++)
+        mover_send(list, k, N * M - 1 - k);
+    check("the biggest list", mover_split_move(&move) == MOVER_DONE);
+    check("the biggest move", mover_run_move(&move, 0, UINT32_MAX, &at) == MOVER_DONE && at.finished);
+    check("every byte of every page", at.written_bytes == 33554432);
 }
 
 /* The call tells the step at a place of a move of 3 blocks of one page with s = 2. */
@@ -283,6 +326,8 @@ int main(void)
     runs_checked();
     mends_checked();
     reads_checked();
+    bytes_checked();
+    most_bytes_checked();
     tells_checked();
     hex_reads_checked();
     hex_lengths_checked();

@@ -42,7 +42,7 @@ int main(int count, char **words)
     static const unsigned at[5] = {0, 8, 12, 18, 17};
     struct mover_move move = lend(at);
     struct mover_state state;
-    uint32_t number;
+    uint32_t number, bytes_written;
     if (count < 2)
         return wrong_answers();
     if (strcmp(words[1], "split") == 0)
@@ -52,7 +52,7 @@ int main(int count, char **words)
     if (strcmp(words[1], "mend") == 0)
         return (int)mover_mend_move(&move, &state);
     if (strcmp(words[1], "read") == 0)
-        return (int)mover_read_move(&move, 0, &number);
+        return (int)mover_read_move(&move, 0, &number, &bytes_written);
     move = lend(start);
     if (strcmp(words[1], "hex_read") == 0)
         return (int)mover_hex_read_move(&move, text - 1, 12);

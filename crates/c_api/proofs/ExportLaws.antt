@@ -7,7 +7,7 @@ use Rattle.flash.proofs.Bools.{bool-cases}
 use Rattle.split.specs.Request.{requestOf}
 use Rattle.split.specs.Answer.{SplitAnswer, splitAnswer}
 use Rattle.split.proofs.Answers.{gives-1, gives-2-list}
-use Rattle.method.specs.Answers.{RunAnswer, runRefused, runAnswer, ReadAnswer, readAnswer}
+use Rattle.method.specs.Answers.{RunAnswer, runRefused, runAnswer, ReadAnswer, readRefused, readAnswer}
 use Rattle.method.proofs.refusals.ListRefusals.{run-refuses-list, read-refuses-list}
 use Rattle.c_api.specs.Bytes.{entriesWithin}
 use Rattle.c_api.specs.Exports.{splitOfBytes, runOfBytes, readOfBytes}
@@ -41,5 +41,5 @@ module _ (Z : Sizes) (list sets entries : List ℕ) (decoded : entries ≡ entri
         → r ≡ readOfBytes Z list sets chip work original
     unfolding readOfBytes
     read-exported original r =
-        on-bytes Z (λ number. record { number = number; count = 0; work = work }) (λ list. readAnswer (requestOf Z list sets) chip work original)
+        on-bytes Z (λ number. readRefused number work) (λ list. readAnswer (requestOf Z list sets) chip work original)
         (λ list differs. read-refuses-list (requestOf Z list sets) chip work differs original) list entries r decoded

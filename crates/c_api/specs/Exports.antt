@@ -7,7 +7,7 @@ use Rattle.flash.specs.Geometry.{inRange}
 use Rattle.flash.specs.Chip.{Chip}
 use Rattle.split.specs.Request.{requestOf}
 use Rattle.split.specs.Answer.{SplitAnswer, splitAnswer}
-use Rattle.method.specs.Answers.{RunAnswer, runRefused, runAnswer, ReadAnswer, readAnswer}
+use Rattle.method.specs.Answers.{RunAnswer, runRefused, runAnswer, ReadAnswer, readRefused, readAnswer}
 use Rattle.c_api.specs.Bytes.{entriesOf, isOdd}
 
 -- an odd number of bytes is refused as a list of another length is, after sizes out of range
@@ -24,5 +24,5 @@ runOfBytes Z list sets chip work place budget =
 
 unfoldable pub readOfBytes : Sizes → (list sets : List ℕ) → Chip → (work : List ℕ) → (original : ℕ) → ReadAnswer
 readOfBytes Z list sets chip work original =
-    onBytes Z (λ number. record { number = number; count = 0; work = work })
+    onBytes Z (λ number. readRefused number work)
     (λ entries. readAnswer (requestOf Z entries sets) chip work original) list

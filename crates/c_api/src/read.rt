@@ -20,8 +20,9 @@ pub extern "C" fn mover_read(
     work: &mut [u8],
     original: u32,
     count: &mut u32,
+    bytes: &mut u32,
 ) -> u32
-    ensures { λ r. ⌜ record { number = r; count = now (count .exit); work = now (work .exit) }
+    ensures { λ r. ⌜ record { number = r; count = now (count .exit); bytes = now (bytes .exit); work = now (work .exit) }
         ≡ readOfBytes (record { n = n; m = m; p = p; s = s }) (now (list .entry)) (now (sets .entry))
         (record { store = now (store .entry); marks = now (marks .entry) }) (now (work .entry)) original ⌝ }
 {
@@ -37,5 +38,6 @@ pub extern "C" fn mover_read(
         original as usize,
     );
     *count = rebuilt.count;
+    *bytes = rebuilt.bytes;
     rebuilt.number
 }

@@ -25,11 +25,12 @@ pub extern "C" fn mover_run(
     writes: &mut u32,
     erases: &mut u32,
     finished: &mut u32,
+    bytes: &mut u32,
 ) -> u32
     ensures { λ r. ⌜ record {
       number = r;
       place = now (reached .exit);
-      tally = record { steps = now (steps .exit); writes = now (writes .exit); erases = now (erases .exit) };
+      tally = record { steps = now (steps .exit); writes = now (writes .exit); erases = now (erases .exit); bytes = now (bytes .exit) };
       finished = now (finished .exit);
       chip = record { store = now (store .exit); marks = now (marks .exit) };
       work = now (work .exit);
@@ -53,5 +54,6 @@ pub extern "C" fn mover_run(
     *writes = ran.tally.writes;
     *erases = ran.tally.erases;
     *finished = ran.finished;
+    *bytes = ran.tally.bytes;
     ran.number
 }

@@ -1,9 +1,19 @@
 -- Laws of tests: what a test that holds, or fails, says of the tests that it is made of.
-use Rattle.flash.proofs.Kit.{_≡_, refl, sym, _∙_, _⊎_, inl, inr, Bool, true, false, _&&_, _||_, true≢false}
+use mir.Val.{boolByte}
+use Rattle.flash.proofs.Kit.{_≡_, refl, sym, _∙_, _⊎_, inl, inr, Bool, true, false, cond, _&&_, _||_, true≢false, _≤_, arith}
 
 pub bool-cases : (t : Bool) → (t ≡ true) ⊎ (t ≡ false)
 bool-cases true = inl refl
 bool-cases false = inr refl
+
+-- a bool as a number
+pub one-or-0 : (t : Bool) → boolByte t ≡ cond t 1 0
+one-or-0 true = refl
+one-or-0 false = refl
+
+pub one-at-most : (t : Bool) → boolByte t ≤ 1
+one-at-most true = omega arith
+one-at-most false = omega arith
 
 pub never-both : {t : Bool} → t ≡ true → t ≡ false → ⊥
 never-both p q = true≢false (sym p ∙ q)

@@ -11,6 +11,7 @@ pub mod Xor
 pub mod Sums
 pub mod Blocks
 pub mod Chips
+pub mod Written
 pub mod Loops
 pub mod Bounds
 pub mod PassLaws

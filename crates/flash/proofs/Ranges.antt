@@ -1,7 +1,7 @@
 -- Laws of `range`, and of tests, counts and searches over one.
 use Rattle.flash.proofs.Kit.{_≡_, refl, sym, ap, _∙_, _⊎_, inl, inr, ⊎-elim, _≢_, Bool, true, false, ℕ, zero, suc, _+_, _-_, _≤_, _<_}
-use Rattle.flash.proofs.Kit.{not-suc-le-zero, le-of-suc-le-suc, add-zero, arith, length, getD}
-use Rattle.flash.specs.Lists.{range, all, any, count, first}
+use Rattle.flash.proofs.Kit.{not-suc-le-zero, le-of-suc-le-suc, add-zero, suc-add, add-suc, arith, map, length, getD}
+use Rattle.flash.specs.Lists.{range, all, any, count, first, total}
 use Rattle.flash.proofs.Bools.{bool-cases, never-both, fails}
 use Rattle.flash.proofs.Comparisons.{eq-cases}
 use Rattle.flash.proofs.Searches.{all-at, all-of, none-at, none-of, any-find, count-none, none-counted, first-none}
@@ -175,3 +175,17 @@ one-counted test start (suc size) k O =
       others = λ j a b p. O .others j (omega arith) (omega arith) p;
     })))
     (bool-cases (test start))
+
+-- what a function gives over a range, added up: one number more, and another function that gives the same
+module _ (f : ℕ → ℕ) where
+  pub total-more : (start size : ℕ) → total (map f (range start (suc size))) ≡ total (map f (range start size)) + f (start + size)
+  unfolding total range
+  total-more start zero = omega (arith, ap f (add-zero start))
+  total-more start (suc size) = omega (arith, total-more (suc start) size, ap f (suc-add start size ∙ sym (add-suc start size)))
+
+  pub total-same : (g : ℕ → ℕ) (start size : ℕ) → ((i : ℕ) → start ≤ i → i < start + size → f i ≡ g i)
+      → total (map f (range start size)) ≡ total (map g (range start size))
+  unfolding total range
+  total-same g start zero e = refl
+  total-same g start (suc size) e =
+      omega (arith, e start (omega arith) (omega arith), total-same g (suc start) size (λ i l h. e i (omega arith) (omega arith)))

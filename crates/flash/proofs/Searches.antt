@@ -1,6 +1,6 @@
 -- Laws of `all`, `any`, `count` and `first` over any list.
 use Rattle.flash.proofs.Kit.{_≡_, refl, sym, ap, _∙_, ⊎-elim, Bool, true, false, _&&_, _||_, and-assoc, or-assoc, List, [], _∷_, _++_, ℕ, zero}
-use Rattle.flash.proofs.Kit.{suc, _+_, _<_, not-suc-le-zero, le-of-suc-le-suc, arith, length, getD}
+use Rattle.flash.proofs.Kit.{suc, _+_, _≤_, _<_, not-suc-le-zero, le-of-suc-le-suc, arith, length, getD, take, drop, take-append-drop}
 use Rattle.flash.specs.Lists.{all, any, count, first}
 use Rattle.flash.proofs.Bools.{bool-cases, never-both, and-left, and-right, or-false-left, or-false-right, fails}
 
@@ -61,6 +61,13 @@ module _ {A : Type 0} (test : A → Bool) where
       (λ (q : test x ≡ true). (0, omega arith, q))
       (λ (q : test x ≡ false). (let r = any-find xs d (rw q at e) in (suc (r .0), omega (arith, r .1), r .2)))
       (bool-cases (test x))
+
+  -- a part has no more
+  pub count-take : (k : ℕ) (xs : List A) → count test (take k xs) ≤ count test xs
+  count-take k xs = omega (arith, count-append (take k xs) (drop k xs), ap (count test) (take-append-drop k xs))
+
+  pub count-drop : (k : ℕ) (xs : List A) → count test (drop k xs) ≤ count test xs
+  count-drop k xs = omega (arith, count-append (take k xs) (drop k xs), ap (count test) (take-append-drop k xs))
 
   pub count-none : (xs : List A) → any test xs ≡ false → count test xs ≡ 0
   unfolding any count

@@ -3,7 +3,7 @@ use Rattle.flash.proofs.Kit.{_≡_, _≢_, sym, ap, _∙_, Bool, cond, 
 use Rattle.flash.proofs.Kit.{getD, set, take, drop, length-append, length-take, length-drop, length-take-le, getD-take, getD-drop, drop-drop}
 use Rattle.flash.proofs.Kit.{drop-of-length-le, take-append-drop, take-at, drop-at, take-all, take-set-le, drop-set-add, set-append-left}
 use Rattle.flash.specs.Lists.{part, setPart}
-use Rattle.flash.specs.PageSum.{_⊕_}
+use Rattle.flash.specs.PageSum.{_⊕_, writtenBytes}
 use Rattle.flash.specs.declared.slots.Terms.{Terms}
 use Rattle.flash.specs.inner.Terms.{termsOf, sumAt}
 use Rattle.flash.proofs.Loops.{front-at, front-more}
@@ -81,3 +81,8 @@ module _ (store : List ℕ) (p : ℕ) (slots page : List ℕ) (add : Bool) (some
       ∙ rw (e, f, a, front-at new page i size (omega arith)) (passed-at now p slots page add some i h)
       ∙ ap (λ (s : List ℕ). getD s i 0) same in
       rw byte-is (front-more new page i size (omega arith))
+
+-- the bytes of a slot's page, cut out by its first and last
+pub counted : (p to : ℕ) (store : List ℕ) → writtenBytes (take (to * p + p - to * p) (drop (to * p) store)) ≡ writtenBytes (part p to store)
+unfolding part
+counted p to store = (let all : to * p + p - to * p ≡ p = omega arith in rw all)

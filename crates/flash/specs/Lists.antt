@@ -41,6 +41,11 @@ module _ {A : Type 0} where
   first test [] otherwise = otherwise
   first test (x ∷ xs) otherwise = cond (test x) x (first test xs otherwise)
 
+-- the numbers of a list added up
+unfoldable pub total : List ℕ → ℕ
+total [] = 0
+total (x ∷ xs) = x + total xs
+
 -- the lists that f gives, one after the other
 unfoldable pub concatMap : {A B : Type 0} → (A → List B) → List A → List B
 concatMap f [] = []

@@ -1,7 +1,11 @@
--- Rule 1.10: the sum of pages.
+-- Rules 1.10 and 1.17: the sum of pages, and what of a page is programmed.
+use mathlib.Core.Bool.{not}
 use mathlib.Core.List.{List, [], _∷_}
 use Prim.Native.Nat.{ℕ}
+use lib.Dec.{eqb}
 use lib.Bits.{bitXor}
+use Rattle.flash.specs.Lists.{count}
+use Rattle.flash.specs.Chip.{erased}
 
 infixl 40 _⊕_
 -- Of two pages of one length. A shorter list counts as filled up with zeros, so that the empty list is the sum of no pages.
@@ -14,3 +18,7 @@ _⊕_ (x ∷ xs) (y ∷ ys) = bitXor x y ∷ (xs ⊕ ys)
 unfoldable pub sum : (page : ℕ → List ℕ) → List ℕ → List ℕ
 sum page [] = []
 sum page (t ∷ ts) = page t ⊕ sum page ts
+
+-- How many bytes of a page a write programs: those that are not as an erase leaves them.
+unfoldable pub writtenBytes : List ℕ → ℕ
+writtenBytes page = count (λ byte. not (eqb byte erased)) page

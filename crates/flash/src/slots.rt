@@ -1,4 +1,5 @@
-// The page sum: of the pages of slots that stand in an array, four pages a pass. Nothing else sums pages.
+// The page sum: of the pages of slots that stand in an array, four pages a pass. Nothing else sums pages. What a sum programs is counted
+// once it is there, while the processor still has its bytes at hand: a count within the loop of the sum would widen each byte.
 
 ghost use mathlib.Core.Path.{_≡_};
 ghost use mathlib.Core.Logic.{_≢_};
@@ -8,8 +9,9 @@ ghost use Prim.Native.Nat.{ℕ, _+_, _*_, _≤_, _<_};
 ghost use lib.Bits.{bitXor};
 ghost use lib.ListN.{length, getD, take};
 ghost use Rattle.flash.specs.Lists.{part, setPart};
-ghost use Rattle.flash.specs.PageSum.{_⊕_, sum};
+ghost use Rattle.flash.specs.PageSum.{_⊕_, sum, writtenBytes};
 ghost use Rattle.flash.specs.inner.Terms.{slotAt, termsOf, byteSum, TermsFit, sumAt};
+use crate::bytes::count_written;
 
 // The slots of one pass and how many of them count: the first stands for those that are missing.
 struct Terms {
@@ -117,30 +119,35 @@ fn sum_within(store: &mut [u8], p: usize, slots: &[usize], to: usize, add: bool)
     }
 }
 
-// The sum of the pages of the first `count` slots goes into a page.
-pub fn sum_to_page(store: &[u8], p: usize, slots: &[usize], count: usize, page: &mut [u8])
+// The sum of the pages of the first `count` slots goes into a page; returns how many of its bytes are not erased.
+pub fn sum_to_page(store: &[u8], p: usize, slots: &[usize], count: usize, page: &mut [u8]) -> usize
     requires { ⌜ (1 ≤ count) × (count ≤ length (now slots)) × (count ≤ 4096) × (length (now page) ≡ p) ⌝ }
     requires { ⌜ ((j : ℕ) → j < count → getD (now slots) j 0 * p + p ≤ length (now store)) ⌝ }
-    ensures { λ _. ⌜ now (page .exit) ≡ sum (λ t. part p t (now (store .entry))) (take count (now (slots .entry))) ⌝ }
+    ensures { λ r. ⌜ (now (page .exit) ≡ sum (λ t. part p t (now (store .entry))) (take count (now (slots .entry))))
+        × (r ≡ writtenBytes (now (page .exit))) × (r ≤ p) ⌝ }
 {
     let mut i = 0;
     while i < count {
         sum_from(store, p, &slots[i..count], page, 0 < i);
         i += 4;
     }
+    count_written(page)
 }
 
 // The same sum goes straight into the page of a slot that is none of the summed ones.
-pub fn sum_to_slot(store: &mut [u8], p: usize, slots: &[usize], count: usize, to: usize)
+pub fn sum_to_slot(store: &mut [u8], p: usize, slots: &[usize], count: usize, to: usize) -> usize
     requires { ⌜ (1 ≤ count) × (count ≤ length (now slots)) × (count ≤ 4096) × (to * p + p ≤ length (now store)) ⌝ }
     requires { ⌜ ((j : ℕ) → j < count → getD (now slots) j 0 * p + p ≤ length (now store)) ⌝ }
     requires { ⌜ ((j : ℕ) → j < count → getD (now slots) j 0 ≢ to) ⌝ }
-    ensures { λ _. ⌜ now (store .exit)
-        ≡ setPart p to (now (store .entry)) (sum (λ t. part p t (now (store .entry))) (take count (now (slots .entry)))) ⌝ }
+    ensures { λ r. ⌜ (now (store .exit)
+        ≡ setPart p to (now (store .entry)) (sum (λ t. part p t (now (store .entry))) (take count (now (slots .entry)))))
+        × (r ≡ writtenBytes (sum (λ t. part p t (now (store .entry))) (take count (now (slots .entry))))) × (r ≤ p) ⌝ }
 {
     let mut i = 0;
     while i < count {
         sum_within(store, p, &slots[i..count], to, 0 < i);
         i += 4;
     }
+    let start = to * p;
+    count_written(&store[start..start + p])
 }

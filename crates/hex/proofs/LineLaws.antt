@@ -2,11 +2,11 @@
 use Rattle.flash.proofs.Kit.{_≡_, refl, sym, ap, _∙_, ⊎-elim, Bool, true, false, _&&_, List, [], _∷_, Option, none, some, ℕ, zero, suc, _+_, _-_, _*_}
 use Rattle.flash.proofs.Kit.{_%_, _≤_, _<_, arith, eqb, length, getD, take, drop, length-drop, getD-drop, getD-take, drop-drop, take-take}
 use Rattle.flash.proofs.Kit.{length-take-le, eqb-true, List·getD-eq-default, subst}
-use Rattle.flash.specs.Lists.{all}
+use Rattle.flash.specs.Lists.{all, total}
 use Rattle.flash.proofs.Bools.{and-left, and-right, bool-cases, never-both}
 use Rattle.flash.proofs.Comparisons.{eq-cases, lt-cases}
 use Rattle.flash.proofs.Searches.{all-at, all-of}
-use Rattle.hex.specs.Records.{Record, total}
+use Rattle.hex.specs.Records.{Record}
 use Rattle.hex.specs.Reading.{digitValue, isDigit, pairs, isType, isKnown, spelt, isGood, parse, parseLine, recordsIn}
 use Rattle.hex.specs.inner.Lines.{weightFrom, nextFrom, byteFrom, bytesFrom, sizeAt, addressAt, kindAt, stopAt, bytesAt, AreDigits, Good}
 use Rattle.hex.proofs.LineEnds.{EndIs, StopIs, line-starts, end-here, end-from, runs-to, stop-carried, stop-plain, stop-of}

@@ -4,7 +4,7 @@ use Rattle.flash.proofs.Kit.{_≤_, _<_, arith, add-one, leb, length, getD, tak
 use Rattle.flash.proofs.Kit.{lt-ltb, le-ltb}
 use Rattle.flash.proofs.Bools.{bool-cases}
 use Rattle.flash.proofs.Comparisons.{eq-cases, lt-cases}
-use Rattle.hex.specs.Records.{total}
+use Rattle.flash.specs.Lists.{total}
 use Rattle.hex.specs.Reading.{digitValue, isDigit, pairs}
 use Rattle.hex.specs.inner.Lines.{weightOf, weightFrom, byteFrom, AreDigits}
 use Rattle.hex.proofs.PairLaws.{pairs-at, length-pairs, in-low, in-high, value-decimal, value-capital, value-small, value-none}

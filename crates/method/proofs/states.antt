@@ -7,3 +7,4 @@ pub mod StatesOfPlaces
 pub mod AtRest
 pub mod StepsAddUp
 pub mod RunsAddUp
+pub mod RunsCount

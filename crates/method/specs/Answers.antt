@@ -9,6 +9,7 @@ use Rattle.flash.specs.Lists.{range, any, isSame}
 use Rattle.flash.specs.Tables.{Row, refusal}
 use Rattle.flash.specs.declared.sizes.Sizes.{Sizes}
 use Rattle.flash.specs.Geometry.{inRange, originalCount, slotCount, storeLength, marksLength, listLength, setsLength, workLength}
+use Rattle.flash.specs.PageSum.{writtenBytes}
 use Rattle.flash.specs.Chip.{Chip, erased, markAt, isBlank, eraseBlock}
 use Rattle.split.specs.OneToOne.{badList}
 use Rattle.split.specs.Split.{isSplit}
@@ -17,7 +18,7 @@ use Rattle.method.specs.declared.tally.Tally.{Tally}
 use Rattle.method.specs.Move.{Move, move}
 use Rattle.method.specs.Place.{lastPlace, marksOf}
 use Rattle.method.specs.Read.{readSlots, readPage}
-use Rattle.method.specs.Step.{steps, nothingDone, tallyOf, operationsFrom}
+use Rattle.method.specs.Step.{Running, steps, nothingDone, tallyOf}
 use Rattle.method.specs.Mend.{Reading, reading}
 
 -- number 2, of mend, and of run and read
@@ -89,11 +90,12 @@ stepsTaken Z place budget = min budget (lastPlace Z - place)
 -- a run that takes so many steps
 unfoldable pub runCarriedOut : Move → Chip → (work : List ℕ) → (place taken : ℕ) → RunAnswer
 runCarriedOut M chip work place taken =
-    let after = steps M taken place (record { chip = chip; work = work }) in
+    let start : Running = record { chip = chip; work = work } in
+    let after = steps M taken place start in
     record {
       number = 0;
       place = place + taken;
-      tally = tallyOf (operationsFrom (M .sizes) place taken);
+      tally = tallyOf M taken place start;
       finished = cond (eqb (place + taken) (lastPlace (M .sizes))) 1 0;
       chip = after .chip;
       work = after .work;
@@ -127,15 +129,22 @@ mendAnswer Z chip =
     let refused : MendAnswer = record { number = number; place = 0; erases = 0; chip = chip } in
     cond (eqb number 0) (elim (reading Z (chip .marks)) [ none ↦ refused | some found ↦ mended Z chip found ]) refused
 
--- Rule 7.5: what read returns and leaves. None of its rows looks at the bytes of a page.
+-- Rule 7.5: what read returns and leaves; `bytes` is what a write of the page would program. None of its rows looks at the bytes of a page.
 pub record ReadAnswer : Type 0 where
   pub number : ℕ
   pub count : ℕ
+  pub bytes : ℕ
   pub work : List ℕ
+
+-- a read that sums so many stored pages and gives this one
+abbrev pub readGives : (count : ℕ) → (page : List ℕ) → ReadAnswer
+readGives count page = record { number = 0; count = count; bytes = writtenBytes page; work = page }
+
+-- rule 7.8
+abbrev pub readRefused : (number : ℕ) → (work : List ℕ) → ReadAnswer
+readRefused number work = record { number = number; count = 0; bytes = 0; work = work }
 
 unfoldable pub readAnswer : Request → Chip → (work : List ℕ) → (k : ℕ) → ReadAnswer
 readAnswer R chip work k =
     let number = refusal (readRows R chip work k) in
-    cond (eqb number 0)
-    (record { number = 0; count = length (readSlots (move R) (chip .marks) k); work = readPage (move R) chip k })
-    (record { number = number; count = 0; work = work })
+    cond (eqb number 0) (readGives (length (readSlots (move R) (chip .marks) k)) (readPage (move R) chip k)) (readRefused number work)

@@ -73,15 +73,15 @@ chip store marks = record { store = store; marks = marks }
 abbrev pub junk : ℕ → List ℕ
 junk length = replicate length 7
 
-abbrev counts : (steps writes erases : ℕ) → Tally
-counts steps writes erases = record { steps = steps; writes = writes; erases = erases }
+abbrev counts : (steps writes erases bytes : ℕ) → Tally
+counts steps writes erases bytes = record { steps = steps; writes = writes; erases = erases; bytes = bytes }
 
 abbrev ran : (place : ℕ) → Tally → (finished : ℕ) → Chip → (work : List ℕ) → RunAnswer
 ran place tally finished chip work = record { number = 0; place = place; tally = tally; finished = finished; chip = chip; work = work }
 
 -- what a refusal gives: zeros, and all that was lent as it was
 abbrev refusedRun : (number : ℕ) → Chip → (work : List ℕ) → RunAnswer
-refusedRun number lent work = record { number = number; place = 0; tally = counts 0 0 0; finished = 0; chip = lent; work = work }
+refusedRun number lent work = record { number = number; place = 0; tally = counts 0 0 0 0; finished = 0; chip = lent; work = work }
 
 -- the move of P1 to P3
 abbrev pub two : Request
@@ -108,7 +108,7 @@ abbrev ListRefused : (number n : ℕ) → (list : List ℕ) → Type 0
 ListRefused number n list =
     (splitAnswer (requestOf (sizes n 1) list (junk n)) ≡ record { number = number; sets = junk n })
     × (runAnswer (small n list) (resting n) (junk 1) 0 9 ≡ refusedRun number (resting n) (junk 1))
-    × (readAnswer (small n list) (resting n) (junk 1) 0 ≡ record { number = number; count = 0; work = junk 1 })
+    × (readAnswer (small n list) (resting n) (junk 1) 0 ≡ record { number = number; count = 0; bytes = 0; work = junk 1 })
 
 abbrev MendRefused : (number n : ℕ) → Type 0
 MendRefused number n = mendAnswer (sizes n 1) (resting n) ≡ record { number = number; place = 0; erases = 0; chip = resting n }
@@ -137,6 +137,13 @@ threeBadly = requestOf (three .sizes) (three .list) (0 ∷ 1 ∷ 0 ∷ [])
 abbrev threeUnfit : Chip
 threeUnfit = chip (255 ∷ 1 ∷ 2 ∷ 4 ∷ []) (255 ∷ 0 ∷ 255 ∷ 0 ∷ [])
 
+-- two blocks change places, two bytes a page: the first page is half as an erase leaves it, the second is nothing else
+abbrev pub half : Request
+half = record { sizes = record { n = 2; m = 1; p = 2; s = 0 }; list = 1 ∷ 0 ∷ []; sets = 0 ∷ 0 ∷ [] }
+
+abbrev pub halfAtRest : Chip
+halfAtRest = chip (255 ∷ 255 ∷ 255 ∷ 3 ∷ 255 ∷ 255 ∷ []) (255 ∷ 0 ∷ 0 ∷ [])
+
 -- The paper's example 3: α = (3, 6, 8, 1, 2, 5, 4, 7). Each original is one bit, so that a byte shows what it sums.
 abbrev eight : Request
 eight = small 8 (2 ∷ 5 ∷ 7 ∷ 0 ∷ 1 ∷ 4 ∷ 3 ∷ 6 ∷ [])
@@ -160,46 +167,53 @@ pub record CasesHold (byte : ℕ) : Type 0 where
   pub p1 : splitAnswer (requestOf (sizes 2 2) (0 ∷ 2 ∷ 1 ∷ 3 ∷ []) (junk 4)) ≡ record { number = 0; sets = 1 ∷ 0 ∷ 0 ∷ 1 ∷ [] }
   pub p2 : splitAnswer (requestOf (sizes 2 2) (0 ∷ 3 ∷ 2 ∷ 1 ∷ []) (junk 4)) ≡ record { number = 0; sets = 0 ∷ 1 ∷ 0 ∷ 1 ∷ [] }
   -- the forward pass, then the backward pass
-  pub p3 : (runAnswer two twoAtRest (junk 1) 0 6 ≡ ran 6 (counts 6 4 2) 0 twoHalfway (8 ∷ []))
-      × (runAnswer two twoHalfway (junk 1) 6 6 ≡ ran 12 (counts 6 4 2) 1 twoFinished (4 ∷ []))
-  pub p4 : runAnswer (small 1 (0 ∷ [])) (resting 1) (junk 1) 0 9 ≡ ran 4 (counts 4 2 2) 1 (chip (255 ∷ 1 ∷ []) (255 ∷ 2 ∷ [])) (1 ∷ [])
+  pub p3 : (runAnswer two twoAtRest (junk 1) 0 6 ≡ ran 6 (counts 6 4 2 4) 0 twoHalfway (8 ∷ []))
+      × (runAnswer two twoHalfway (junk 1) 6 6 ≡ ran 12 (counts 6 4 2 4) 1 twoFinished (4 ∷ []))
+  pub p4 : runAnswer (small 1 (0 ∷ [])) (resting 1) (junk 1) 0 9 ≡ ran 4 (counts 4 2 2 2) 1 (chip (255 ∷ 1 ∷ []) (255 ∷ 2 ∷ [])) (1 ∷ [])
   pub p5 : (isOneToOne 2 (0 ∷ 0 ∷ []) ≡ false) × ListRefused 3 2 (0 ∷ 0 ∷ [])
   pub p6 : ListRefused 1 0 [] × MendRefused 1 0
   pub p7 : ListRefused 1 65 (range 0 65) × MendRefused 1 65
       × (isOneToOne 64 (range 0 64) ≡ true)
       × (splitAnswer (requestOf (sizes 64 1) (range 0 64) (junk 64)) ≡ record { number = 0; sets = replicate 64 0 })
-      × (runAnswer (small 64 (range 0 64)) (resting 64) (junk 1) 0 0 ≡ ran 0 (counts 0 0 0) 0 (resting 64) (junk 1))
+      × (runAnswer (small 64 (range 0 64)) (resting 64) (junk 1) 0 0 ≡ ran 0 (counts 0 0 0 0) 0 (resting 64) (junk 1))
       × (mendAnswer (sizes 64 1) (resting 64) ≡ record { number = 0; place = 0; erases = 1; chip = resting 64 })
-      × (readAnswer (small 64 (range 0 64)) (resting 64) (junk 1) 63 ≡ record { number = 0; count = 1; work = 64 ∷ [] })
-  pub p8 : (runAnswer three threeFinished (junk 1) 12 5 ≡ ran 12 (counts 0 0 0) 1 threeFinished (junk 1))
+      × (readAnswer (small 64 (range 0 64)) (resting 64) (junk 1) 63 ≡ record { number = 0; count = 1; bytes = 1; work = 64 ∷ [] })
+  pub p8 : (runAnswer three threeFinished (junk 1) 12 5 ≡ ran 12 (counts 0 0 0 0) 1 threeFinished (junk 1))
       × (runAnswer three threeFinished (junk 1) 13 5 ≡ refusedRun 5 threeFinished (junk 1))
-  pub p9 : (runAnswer three threeAtRest (junk 1) 0 3 ≡ ran 3 (counts 3 2 1) 0 threeBeforeErase (3 ∷ []))
+  pub p9 : (runAnswer three threeAtRest (junk 1) 0 3 ≡ ran 3 (counts 3 2 1 2) 0 threeBeforeErase (3 ∷ []))
       × CutInside (three .sizes) (operationAt (three .sizes) 3) threeBeforeErase (threeTorn byte)
-      × (readAnswer three (threeTorn byte) (junk 1) 1 ≡ record { number = 0; count = 3; work = 2 ∷ [] })
+      × (readAnswer three (threeTorn byte) (junk 1) 1 ≡ record { number = 0; count = 3; bytes = 1; work = 2 ∷ [] })
       × (mendAnswer (three .sizes) (threeTorn byte) ≡ record { number = 0; place = 4; erases = 1; chip = threeTorn 255 })
   -- a run at that place is refused while the page marked 255 is not blank, and goes on once it is
   pub p9-on : (runAnswer three (threeTorn 0) (junk 1) 4 1 ≡ refusedRun 5 (threeTorn 0) (junk 1))
-      × (runAnswer three (threeTorn 255) (junk 1) 4 1 ≡ ran 5 (counts 1 1 0) 0 (chip (5 ∷ 3 ∷ 4 ∷ 4 ∷ []) (1 ∷ 1 ∷ 1 ∷ 0 ∷ [])) (4 ∷ []))
+      × (runAnswer three (threeTorn 255) (junk 1) 4 1 ≡ ran 5 (counts 1 1 0 1) 0 (chip (5 ∷ 3 ∷ 4 ∷ 4 ∷ []) (1 ∷ 1 ∷ 1 ∷ 0 ∷ [])) (4 ∷ []))
   pub p10 : mendAnswer (three .sizes) threeFinished ≡ record { number = 0; place = 12; erases = 1; chip = threeFinished }
-  pub p11 : runAnswer three threeAtRest (junk 1) 0 0 ≡ ran 0 (counts 0 0 0) 0 threeAtRest (junk 1)
+  pub p11 : runAnswer three threeAtRest (junk 1) 0 0 ≡ ran 0 (counts 0 0 0 0) 0 threeAtRest (junk 1)
   -- the numbers that no P gives: a part one byte short
   pub number-2 : (splitAnswer (requestOf (sizes 2 1) (0 ∷ 1 ∷ []) (junk 1)) ≡ record { number = 2; sets = junk 1 })
       × (runAnswer three threeAtRest [] 0 9 ≡ refusedRun 2 threeAtRest [])
       × (mendAnswer (sizes 3 1) (resting 2) ≡ record { number = 2; place = 0; erases = 0; chip = resting 2 })
-      × (readAnswer three threeAtRest [] 0 ≡ record { number = 2; count = 0; work = [] })
+      × (readAnswer three threeAtRest [] 0 ≡ record { number = 2; count = 0; bytes = 0; work = [] })
   -- set bytes that are no split
   pub number-4 : (runAnswer threeBadly threeAtRest (junk 1) 0 9 ≡ refusedRun 4 threeAtRest (junk 1))
-      × (readAnswer threeBadly threeAtRest (junk 1) 0 ≡ record { number = 4; count = 0; work = junk 1 })
+      × (readAnswer threeBadly threeAtRest (junk 1) 0 ≡ record { number = 4; count = 0; bytes = 0; work = junk 1 })
   -- two blocks unfinished
   pub number-6 : (mendAnswer (three .sizes) threeUnfit ≡ record { number = 6; place = 0; erases = 0; chip = threeUnfit })
-      × (readAnswer three threeUnfit (junk 1) 0 ≡ record { number = 6; count = 0; work = junk 1 })
+      × (readAnswer three threeUnfit (junk 1) 0 ≡ record { number = 6; count = 0; bytes = 0; work = junk 1 })
   -- an original too many
-  pub number-7 : readAnswer three threeAtRest (junk 1) 3 ≡ record { number = 7; count = 0; work = junk 1 }
+  pub number-7 : readAnswer three threeAtRest (junk 1) 3 ≡ record { number = 7; count = 0; bytes = 0; work = junk 1 }
+  -- of the four pages written the first, the sum of both, programs two bytes, and of the others one and none
+  pub bytes : (runAnswer half halfAtRest (junk 2) 0 1
+      ≡ ran 1 (counts 1 1 0 2) 0 (chip (0 ∷ 252 ∷ 255 ∷ 3 ∷ 255 ∷ 255 ∷ []) (1 ∷ 0 ∷ 0 ∷ [])) (0 ∷ 252 ∷ []))
+      × (runAnswer half halfAtRest (junk 2) 0 99
+      ≡ ran 8 (counts 8 4 4 3) 1 (chip (255 ∷ 255 ∷ 255 ∷ 255 ∷ 255 ∷ 3 ∷ []) (255 ∷ 2 ∷ 2 ∷ [])) (255 ∷ 255 ∷ []))
+      × (readAnswer half halfAtRest (junk 2) 0 ≡ record { number = 0; count = 1; bytes = 1; work = 255 ∷ 3 ∷ [] })
+      × (readAnswer half halfAtRest (junk 2) 1 ≡ record { number = 0; count = 1; bytes = 0; work = 255 ∷ 255 ∷ [] })
   -- the program's case, with its end line
   pub program : listing (move three) 12 0 (record { chip = threeAtRest; work = [] })
       ≡ W 0 0 0 (5 ∷ []) ∷ E 1 1 ∷ W 2 1 0 (3 ∷ []) ∷ E 3 2 ∷ W 4 2 0 (4 ∷ []) ∷ E 5 3
       ∷ W 6 3 0 (2 ∷ []) ∷ E 7 2 ∷ W 8 2 0 (1 ∷ []) ∷ E 9 1 ∷ W 10 1 0 (4 ∷ []) ∷ E 11 0 ∷ []
-  pub program-end : runAnswer three threeAtRest (junk 1) 0 99 ≡ ran 12 (counts 12 6 6) 1 threeFinished (4 ∷ [])
+  pub program-end : runAnswer three threeAtRest (junk 1) 0 99 ≡ ran 12 (counts 12 6 6 6) 1 threeFinished (4 ∷ [])
   -- the paper's Fig. 2: each page written, and what it is made from, in the forward pass and in the backward pass
   pub figure-2 : figure (move eight) 32 0
       ≡ written 0 (1 ∷ 4 ∷ []) (1 ∷ 4 ∷ []) ∷ written 1 (2 ∷ 5 ∷ []) (2 ∷ 5 ∷ [])
@@ -212,8 +226,8 @@ pub record CasesHold (byte : ℕ) : Type 0 where
       ∷ written 2 (5 ∷ []) (1 ∷ 6 ∷ []) ∷ written 1 (4 ∷ []) (0 ∷ 3 ∷ []) ∷ []
   -- and as bytes: after the forward pass, and at the end
   pub figure-bytes : (runAnswer eight (atRest (sizes 8 1) eightBits) (junk 1) 0 16
-      ≡ ran 16 (counts 16 8 8) 0 (chip (map sumOfBits eightCoded ++ (255 ∷ [])) (replicate 8 1 ++ (255 ∷ []))) (sumOfBits (8 ∷ []) ∷ []))
+      ≡ ran 16 (counts 16 8 8 8) 0 (chip (map sumOfBits eightCoded ++ (255 ∷ [])) (replicate 8 1 ++ (255 ∷ []))) (sumOfBits (8 ∷ []) ∷ []))
       × (runAnswer eight (atRest (sizes 8 1) eightBits) (junk 1) 0 32
-      ≡ ran 32 (counts 32 16 16) 1 (chip (255 ∷ map sumOfBits eightFinal) (255 ∷ replicate 8 2)) (sumOfBits (4 ∷ []) ∷ []))
+      ≡ ran 32 (counts 32 16 16 16) 1 (chip (255 ∷ map sumOfBits eightFinal) (255 ∷ replicate 8 2)) (sumOfBits (4 ∷ []) ∷ []))
   -- the states of the places, in the moves above
   pub states : Reaches two (1 ∷ 2 ∷ 4 ∷ 8 ∷ []) 12 × Reaches three (1 ∷ 2 ∷ 4 ∷ []) 12 × Reaches eight eightBits 32

@@ -18,10 +18,11 @@ use Rattle.method.specs.Move.{Move, AcceptedMove}
 use Rattle.method.specs.Cycle.{dest, top}
 use Rattle.method.specs.Read.{fullOf, goBack, goOn, readSlots}
 use Rattle.method.specs.Place.{Pass, write, erase, done, operations, lastPlace, operationAt, passAt, blank, heldAt, marksOf}
-use Rattle.method.specs.Step.{erasesBlock, tallyOf, operationsFrom}
+use Rattle.method.specs.Step.{isWrite, isErase, erasesBlock}
 use Rattle.method.specs.Mend.{Reading, lines, reading}
 use Rattle.method.specs.Answers.{runRows, mendRows, readRows}
 use Rattle.method.specs.Runs.{RunsAddUp, StatesReached}
+use Rattle.method.specs.Counts.{RunsCount}
 use Rattle.method.specs.Demand3.{Demand3}
 use Rattle.method.specs.Example.{ExampleHolds, BoundsMet}
 use Rattle.method.specs.TwoPages.{TwoPagesHold}
@@ -36,17 +37,13 @@ unfoldable pub PlacesDiffer : Type 0
 PlacesDiffer =
     (Z : Sizes) → inRange Z ≡ true → (p q : ℕ) → p ≤ lastPlace Z → q ≤ lastPlace Z → marksOf Z p ≡ marksOf Z q → p ≡ q
 
--- 2 × n erases: block 0 and block n are erased once, every block between twice. What a run counts is as many
--- steps as it takes, each a write or an erase.
+-- 2 × n erases, each page written twice: block 0 and block n are erased once, every block between twice.
 pub record ErasesCounted : Type 0 where
   pub spare : (Z : Sizes) → inRange Z ≡ true → count (erasesBlock 0) (operations Z) ≡ 1
   pub highest : (Z : Sizes) → inRange Z ≡ true → count (erasesBlock (Z .n)) (operations Z) ≡ 1
   pub between : (Z : Sizes) (b : ℕ) → 1 ≤ b → b < Z .n → count (erasesBlock b) (operations Z) ≡ 2
-  pub all-erases : (Z : Sizes) → tallyOf (operations Z) .erases ≡ 2 * Z .n
-  pub all-writes : (Z : Sizes) → tallyOf (operations Z) .writes ≡ 2 * Z .n * Z .m
-  pub run-steps : (Z : Sizes) (place taken : ℕ) → place + taken ≤ lastPlace Z → tallyOf (operationsFrom Z place taken) .steps ≡ taken
-  pub run-total : (Z : Sizes) (place taken : ℕ)
-      → (let counted = tallyOf (operationsFrom Z place taken) in counted .steps ≡ counted .writes + counted .erases)
+  pub all-erases : (Z : Sizes) → count isErase (operations Z) ≡ 2 * Z .n
+  pub all-writes : (Z : Sizes) → count isWrite (operations Z) ≡ 2 * Z .n * Z .m
 
 -- Pages are written from the lowest up, and are blank before: of two writes to a block with no erase of it between them, the
 -- later is to the higher page.
@@ -127,6 +124,7 @@ pub record Claims : Type 0 where
   pub cases : (byte : ℕ) → CasesHold byte
   pub runs : RunsAddUp
   pub states : StatesReached
+  pub counts : RunsCount
   pub steps : StepsCounted
   pub places : PlacesDiffer
   pub erases : ErasesCounted

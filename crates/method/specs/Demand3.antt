@@ -17,7 +17,7 @@ use Rattle.method.specs.State.{originalsIn, stateOf}
 use Rattle.method.specs.Step.{isErase, erasesBlock}
 use Rattle.method.specs.Runs.{Start}
 use Rattle.method.specs.Cut.{CutInside}
-use Rattle.method.specs.Answers.{runRows, runAnswer, mendAnswer, readAnswer}
+use Rattle.method.specs.Answers.{runRows, runAnswer, mendAnswer, readGives, readAnswer}
 use Rattle.method.specs.Events.{Call, run, mend, read, CutPoint, uncut, between, inside, Event, History, sizesGiven, numberOf}
 use Rattle.method.specs.Events.{stepsOf, chipAfter, starting, after, moments}
 
@@ -60,7 +60,7 @@ pub record Stays (R : Request) (chip : Chip) (k : ℕ) (page : List ℕ) : Type 
   pub whole : (i : ℕ) → i < length (readSlots (move R) (chip .marks) k) → isWhole (chip .marks) (getD (readSlots (move R) (chip .marks) k) i 0) ≡ true
   pub total : sum (pageAt (R .sizes .p) chip) (readSlots (move R) (chip .marks) k) ≡ page
   pub read-gives : (work : List ℕ) → length work ≡ workLength (R .sizes)
-      → readAnswer R chip work k ≡ record { number = 0; count = length (readSlots (move R) (chip .marks) k); work = page }
+      → readAnswer R chip work k ≡ readGives (length (readSlots (move R) (chip .marks) k)) page
 
 -- what holds at every moment; the pages of `chip₀`, the store at rest, are the originals
 pub record Keeps (R : Request) (chip₀ : Chip) (h : History) : Type 0 where
@@ -92,4 +92,4 @@ pub record Demand3 : Type 0 where
   pub same-slots : (R : Request) (marks : List ℕ) (k : ℕ)
       → (slots : List ℕ)
       × ((chip : Chip) → chip .marks ≡ marks → (work : List ℕ) → readAnswer R chip work k .number ≡ 0
-      → readAnswer R chip work k ≡ record { number = 0; count = length slots; work = sum (pageAt (R .sizes .p) chip) slots })
+      → readAnswer R chip work k ≡ readGives (length slots) (sum (pageAt (R .sizes .p) chip) slots))

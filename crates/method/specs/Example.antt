@@ -67,5 +67,8 @@ pub record BoundsMet : Type 0 where
   pub erases : count isErase (alone .begun) ≡ 2 * three .sizes .n
   pub block-erases : count (erasesBlock 1) (alone .begun) ≡ 2
   pub steps : length (alone .begun) ≡ lastPlace (three .sizes)
+  -- the bytes that a whole move programs: 2 × n × m × P
+  pub bytes : runAnswer three threeAtRest (junk 1) 0 (lastPlace (three .sizes)) .tally .bytes
+      ≡ 2 * three .sizes .n * three .sizes .m * three .sizes .p
   -- with a budget of one step less the finish is not reached
   pub budget : runAnswer three threeAtRest (junk 1) 0 (lastPlace (three .sizes) - 1) .finished ≡ 0

@@ -9,6 +9,7 @@ pub mod Cut
 pub mod Mend
 pub mod Answers
 pub mod Runs
+pub mod Counts
 pub mod Events
 pub mod Demand3
 pub mod Cases

@@ -1,4 +1,4 @@
--- Rules 4.1 to 4.4 and 7.2: one step, and run as that step repeated.
+-- Rules 4.1 to 4.4 and 7.2: one step, run as that step repeated, and what is counted of it.
 use mathlib.Core.Bool.{Bool, true, false}
 use mathlib.Core.List.{List, [], _∷_}
 use Prim.Native.Nat.{ℕ, zero, suc, _+_}
@@ -7,7 +7,7 @@ use lib.ListN.{take, drop}
 use Rattle.flash.specs.Lists.{concatMap}
 use Rattle.flash.specs.declared.sizes.Sizes.{Sizes}
 use Rattle.flash.specs.Geometry.{slot}
-use Rattle.flash.specs.PageSum.{sum}
+use Rattle.flash.specs.PageSum.{sum, writtenBytes}
 use Rattle.flash.specs.Chip.{Chip, pageAt, eraseBlock, writePage}
 use Rattle.method.specs.declared.tally.Tally.{Tally}
 use Rattle.method.specs.Move.{Move}
@@ -55,7 +55,12 @@ module _ (M : Move) where
   steps zero place run = run
   steps (suc count) place run = steps count (suc place) (step place run)
 
--- the step is an erase, or an erase of this block
+-- the step is a write, an erase, or an erase of this block
+unfoldable pub isWrite : Operation → Bool
+isWrite (write pass block page) = true
+isWrite (erase block) = false
+isWrite done = false
+
 unfoldable pub isErase : Operation → Bool
 isErase (write pass block page) = false
 isErase (erase block) = true
@@ -66,29 +71,33 @@ erasesBlock block (write pass b page) = false
 erasesBlock block (erase b) = eqb b block
 erasesBlock block done = false
 
--- what is counted of the operations done: of each operation, and of a list of them
-abbrev pub nothingDone : Tally
-nothingDone = record { steps = 0; writes = 0; erases = 0 }
-
-abbrev pub oneWrite : Tally → Tally
-oneWrite t = record { steps = t .steps + 1; writes = t .writes + 1; erases = t .erases }
-
-abbrev pub oneErase : Tally → Tally
-oneErase t = record { steps = t .steps + 1; writes = t .writes; erases = t .erases + 1 }
-
-unfoldable pub tallied : Operation → Tally → Tally
-tallied (write pass block page) t = oneWrite t
-tallied (erase block) t = oneErase t
-tallied done t = t
-
-unfoldable pub tallyOf : List Operation → Tally
-tallyOf [] = nothingDone
-tallyOf (op ∷ ops) = tallied op (tallyOf ops)
-
--- two tallies together
-abbrev pub added : Tally → Tally → Tally
-added one two = record { steps = one .steps + two .steps; writes = one .writes + two .writes; erases = one .erases + two .erases }
-
 -- the operations of `count` steps from a place on
 unfoldable pub operationsFrom : Sizes → (place count : ℕ) → List Operation
 operationsFrom Z place count = take count (drop place (operations Z))
+
+-- ---- what is counted
+abbrev pub nothingDone : Tally
+nothingDone = record { steps = 0; writes = 0; erases = 0; bytes = 0 }
+
+-- One step more. Of a write the bytes that it programs are counted too: its page is in the work page after it.
+unfoldable pub tallied : Operation → (work : List ℕ) → Tally → Tally
+tallied (write pass block page) work t =
+    record { steps = t .steps + 1; writes = t .writes + 1; erases = t .erases; bytes = t .bytes + writtenBytes work }
+tallied (erase block) work t = record { steps = t .steps + 1; writes = t .writes; erases = t .erases + 1; bytes = t .bytes }
+tallied done work t = t
+
+-- of as many steps as `count` says, each from the next place
+unfoldable pub tallyOf : Move → (count place : ℕ) → Running → Tally
+tallyOf M zero place run = nothingDone
+tallyOf M (suc count) place run =
+    let after = step M place run in
+    tallied (operationAt (M .sizes) place) (after .work) (tallyOf M count (suc place) after)
+
+-- two tallies together
+abbrev pub added : Tally → Tally → Tally
+added one two = record {
+  steps = one .steps + two .steps;
+  writes = one .writes + two .writes;
+  erases = one .erases + two .erases;
+  bytes = one .bytes + two .bytes;
+}

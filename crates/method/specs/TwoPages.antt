@@ -130,7 +130,7 @@ module _ (byte : ℕ) where
     pub first-call : map (λ h. h .chip) (take 3 all-moments) ≡ map (stateOf (move two) (1 ∷ 2 ∷ 4 ∷ 8 ∷ [])) (range 0 3)
     pub last-run : map (λ h. h .chip) (take 7 (drop 21 all-moments)) ≡ map (stateOf (move two) (1 ∷ 2 ∷ 4 ∷ 8 ∷ [])) (range 6 7)
     -- a read while page 1 of block 1 is torn: it sums n pages, which is the bound
-    pub read-torn : readAnswer two upperTorn (junk 1) 1 ≡ record { number = 0; count = two .sizes .n; work = 2 ∷ [] }
+    pub read-torn : readAnswer two upperTorn (junk 1) 1 ≡ record { number = 0; count = two .sizes .n; bytes = 1; work = 2 ∷ [] }
 
   pub record TwoPagesHold : Type 0 where
     pub start : Start two twoAtRest

@@ -1,7 +1,8 @@
-// What a run counts of its steps.
+// What a run counts of its steps. `bytes` are those of the pages written that are not erased.
 
 pub struct Tally {
     pub steps: u32,
     pub writes: u32,
     pub erases: u32,
+    pub bytes: u32,
 }

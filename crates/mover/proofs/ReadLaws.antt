@@ -4,6 +4,7 @@ use Rattle.flash.proofs.Kit.{le-leb, lt-leb}
 use Rattle.flash.specs.Tables.{refusal}
 use Rattle.flash.proofs.Tables.{refusal-nil}
 use Rattle.flash.specs.Geometry.{originalCount, slotCount}
+use Rattle.flash.specs.PageSum.{writtenBytes}
 use Rattle.flash.specs.Chip.{Chip}
 use Rattle.split.specs.Request.{Request}
 use Rattle.method.specs.Move.{Move, AcceptedMove, move}
@@ -28,7 +29,7 @@ use Rattle.mover.proofs.RefusalLaws.{row-first, by-move, past-move}
 module _ (R : Request) (chip : Chip) (work : List ℕ) (k : ℕ) where
   -- what a refused read returns; it leaves the work page
   abbrev Refused : ℕ → ReadResult → Type 0
-  Refused x r = r ≡ record { number = x; count = 0 } → readAs r work ≡ readAnswer R chip work k
+  Refused x r = r ≡ record { number = x; count = 0; bytes = 0 } → readAs r work ≡ readAnswer R chip work k
 
   refused-answer : (x : ℕ) (r : ReadResult) → x ≢ 0 → refusal (readRows R chip work k) ≡ x → Refused x r
   unfolding readAnswer
@@ -51,11 +52,11 @@ module _ (R : Request) (chip : Chip) (work : List ℕ) (k : ℕ) where
     pub refused-7 : (r : ReadResult) → fitsNone (reading (R .sizes) (chip .marks)) ≡ false → originalCount (R .sizes) ≤ k → Refused 7 r
     refused-7 r f g = refused-answer 7 r (λ z. absurd (omega arith)) (by-rest ∙ rw (f, le-leb _ _ g))
 
-    pub rebuilt : (count : ℕ) (after : List ℕ) → fitsNone (reading (R .sizes) (chip .marks)) ≡ false → k < originalCount (R .sizes)
-        → count ≡ length (readSlots (move R) (chip .marks) k) → after ≡ readPage (move R) chip k
-        → readAs (record { number = 0; count = count }) after ≡ readAnswer R chip work k
+    pub rebuilt : (count bytes : ℕ) (after : List ℕ) → fitsNone (reading (R .sizes) (chip .marks)) ≡ false → k < originalCount (R .sizes)
+        → count ≡ length (readSlots (move R) (chip .marks) k) → after ≡ readPage (move R) chip k → bytes ≡ writtenBytes after
+        → readAs (record { number = 0; count = count; bytes = bytes }) after ≡ readAnswer R chip work k
     unfolding readAnswer
-    rebuilt count after f g h i = rw (by-rest, f, lt-leb _ _ g, h, i)
+    rebuilt count bytes after f g h i j = rw (by-rest, f, lt-leb _ _ g, h, j, i)
 
 -- ---- what the marks tell
 module _ (M : Move) (marks : List ℕ) (told : MarksRead) (answer : answerOf (M .sizes) told ≡ marksAnswer (reading (M .sizes) marks)) where

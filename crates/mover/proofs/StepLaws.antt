@@ -4,7 +4,7 @@ use Rattle.flash.proofs.Kit.{getD, set, take, drop}
 use Rattle.flash.specs.Lists.{part, setPart}
 use Rattle.flash.specs.declared.sizes.Sizes.{Sizes}
 use Rattle.flash.specs.Geometry.{slot, numberAt}
-use Rattle.flash.specs.PageSum.{sum}
+use Rattle.flash.specs.PageSum.{sum, writtenBytes}
 use Rattle.flash.specs.Chip.{Chip, pageAt, writePage}
 use Rattle.flash.proofs.Comparisons.{lt-cases}
 use Rattle.split.specs.Split.{setOf}
@@ -37,6 +37,11 @@ module _ (M : Move) (pass : Pass) (block page : ℕ) (store marks : List ℕ) wh
   unfolding perform writtenPage pageAt writePage
   wrote slots store′ count mark e S f = rw (e, S .sums (λ t. part P t store), f)
 
+  pub wrote-bytes : (slots : List ℕ) (count bytes : ℕ) → bytes ≡ writtenBytes (sum (λ t. part P t store) (take count slots))
+      → SumsAs (take count slots) (writeSlots M pass block page marks) → bytes ≡ writtenBytes (perform M (write pass block page) (runningOf store marks []) .work)
+  unfolding perform writtenPage pageAt
+  wrote-bytes slots count bytes e S = rw (← S .sums (λ t. part P t store)) e
+
 -- the set of the page that goes to a page of a block
 pub set-sent : (M : Move) → AcceptedMove M → (other : List ℕ) → ByDestination (M .list) (M .sets) other → (b page : ℕ) → 1 ≤ b → b ≤ M .sizes .n → page < M .sizes .m
     → (getD other (numberAt (M .sizes .m) b page) 0 ≡ setOf (M .sets) (sentTo M (numberAt (M .sizes .m) b page)))
@@ -59,10 +64,10 @@ row-is table set = (let e : set * rowLength + rowLength - set * rowLength ≡ ro
 
 -- ---- the step at a place
 pub stepped : (M : Move) (at : ℕ) (op : Operation) → operationAt (M .sizes) at ≡ op
-    → (run : Running) (after : Chip) (tally next : Tally) → after ≡ perform M op run .chip → next ≡ tallied op tally
-    → {Room : Type 0} → Room → (after ≡ step M at run .chip) × ((next ≡ tallied (operationAt (M .sizes) at) tally) × Room)
+    → (run : Running) (after : Chip) (tally next : Tally) → after ≡ perform M op run .chip → next ≡ tallied op (perform M op run .work) tally
+    → {Room : Type 0} → Room → ((after ≡ step M at run .chip) × (next ≡ tallied (operationAt (M .sizes) at) (step M at run .work) tally)) × Room
 unfolding step
-stepped M at op is run after tally next e f room = rw is (e, (f, room))
+stepped M at op is run after tally next e f room = rw is ((e, f), room)
 
 -- ---- what is known where a page is written: the pass, and what the other blocks are full of
 told-by : (t : Bool) → (isBackward (passOf t) ≡ t) × (letterAbove (passOf t) ≡ cond t 2 0)

@@ -16,4 +16,4 @@ ranAs ran store marks work = record {
 }
 
 abbrev pub readAs : ReadResult → (work : List ℕ) → ReadAnswer
-readAs r work = record { number = r .number; count = r .count; work = work }
+readAs r work = record { number = r .number; count = r .count; bytes = r .bytes; work = work }

@@ -14,16 +14,21 @@ use walk::rows::TABLE;
 use walk::walk::SLOTS;
 use walk::walk::read_slots;
 
-// What a read returns: the refusal number, and how many stored pages were summed, 0 with a refusal.
+// What a read returns: the refusal number, how many stored pages were summed, and how many bytes of the sum are not erased; 0 with a refusal.
 pub struct ReadResult {
     pub number: u32,
     pub count: u32,
+    pub bytes: u32,
 }
 
 fn refused(number: u32) -> ReadResult
-    ensures { λ r. ⌜ r ≡ record { number = number; count = 0 } ⌝ }
+    ensures { λ r. ⌜ r ≡ record { number = number; count = 0; bytes = 0 } ⌝ }
 {
-    ReadResult { number, count: 0 }
+    ReadResult {
+        number,
+        count: 0,
+        bytes: 0,
+    }
 }
 
 // Read: checks in the table's order, then the sum. A refused read changes nothing that is lent.
@@ -56,7 +61,11 @@ pub fn read(
     }
     let mut slots = [0usize; SLOTS];
     let count = read_slots(sizes, list, sets, moment, k, &mut slots);
-    sum_to_page(store, sizes.p, &slots, count, work);
+    let bytes = sum_to_page(store, sizes.p, &slots, count, work) as u32;
     let count = count as u32;
-    ReadResult { number: 0, count }
+    ReadResult {
+        number: 0,
+        count,
+        bytes,
+    }
 }

@@ -44,6 +44,7 @@ fn nothing_done() -> Tally
         steps: 0,
         writes: 0,
         erases: 0,
+        bytes: 0,
     }
 }
 

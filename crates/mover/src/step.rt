@@ -157,11 +157,11 @@ pub fn step(
     requires { ⌜ PassTables (moveOf sizes (now list) (now sets)) few (place .backward) (now pages) (now other) ⌝ }
     requires { ⌜ (reciprocal ≡ reciprocalOf (sizes .m)) × (place ≡ placeOf sizes (place .at)) × (now marks ≡ marksOf sizes (place .at))
         × (length (now slots) ≡ slotsLength) × (length (now store) ≡ storeLength sizes) × (length (now marks) ≡ marksLength sizes)
-        × ((tally .steps ≤ 8320) × (tally .writes ≤ 8320) × (tally .erases ≤ 8320)) ⌝ }
-    ensures { λ _. ⌜ record { store = now (store .exit); marks = now (marks .exit) }
-        ≡ (method.step (moveOf sizes (now (list .entry)) (now (sets .entry))) (place .at)
-        (runningOf (now (store .entry)) (now (marks .entry)) [])) .chip ⌝ }
-    ensures { λ r. ⌜ (r ≡ tallied (operationAt sizes (place .at)) tally) × (length (now (slots .exit)) ≡ slotsLength) ⌝ }
+        × ((tally .steps ≤ 8320) × (tally .writes ≤ 8320) × (tally .erases ≤ 8320) × (tally .bytes ≤ 8320 * 4096)) ⌝ }
+    ensures { λ r. ⌜ (let after = method.step (moveOf sizes (now (list .entry)) (now (sets .entry))) (place .at)
+        (runningOf (now (store .entry)) (now (marks .entry)) []) in
+        (record { store = now (store .exit); marks = now (marks .exit) } ≡ after .chip) × (r ≡ tallied (operationAt sizes (place .at)) (after .work) tally)) ⌝ }
+    ensures { λ _. ⌜ length (now (slots .exit)) ≡ slotsLength ⌝ }
 {
     match place.operation(sizes) {
         Op::Write {
@@ -184,10 +184,11 @@ pub fn step(
                 slots,
             );
             let slot = block * sizes.m + page;
-            sum_to_slot(store, sizes.p, slots, count, slot);
+            let written = sum_to_slot(store, sizes.p, slots, count, slot);
             marks[slot] = mark;
             tally.steps += 1;
             tally.writes += 1;
+            tally.bytes += written as u32;
             tally
         }
         Op::Erase { block } => {

@@ -1,15 +1,16 @@
 -- The listing step by step: what is shown after one step more.
 use Rattle.flash.proofs.Kit.{_≡_, refl, sym, ap, _∙_, subst, List, _++_, append-assoc, append-nil, ℕ, zero, suc, _+_, _*_, _≤_, zero-add, suc-add}
 use Rattle.flash.proofs.Kit.{add-zero, arith, take, take-length}
+use Rattle.flash.specs.Lists.{count}
+use Rattle.flash.proofs.Searches.{count-append}
 use Rattle.split.specs.Request.{Request}
-use Rattle.method.specs.declared.tally.Tally.{Tally}
 use Rattle.method.specs.Move.{Move, move}
 use Rattle.method.specs.Place.{operations, operationAt, lastPlace}
-use Rattle.method.specs.Step.{runningOf, Running, step, steps, tallyOf, operationsFrom}
+use Rattle.method.specs.Step.{runningOf, Running, step, steps, isWrite, isErase, operationsFrom}
 use Rattle.method.specs.Claims.{StepsCounted}
 use Rattle.method.proofs.places.StepsCounted.{steps-counted}
 use Rattle.method.proofs.states.StepsAddUp.{steps-add}
-use Rattle.method.proofs.places.Tallies.{tally-split, few-tallied}
+use Rattle.method.proofs.places.Tallies.{operationsFrom-split, writes-and-erases}
 use Rattle.method.proofs.basics.AcceptedCalls.{run-taken, taken-run}
 use Rattle.method.proofs.states.RunsAddUp.{still-taken}
 use Rattle.listing.specs.Area.{Written}
@@ -25,8 +26,8 @@ pub record Shows (M : Move) (start : Running) (place at writes erases : ℕ) (be
   pub left : runningOf store marks work ≡ steps M place 0 start
   pub lines-are : Written (stepLines M place 0 start) before out at
   pub at-high : at ≤ mostLine * place
-  pub writes-is : writes ≡ tallyOf (operationsFrom (M .sizes) 0 place) .writes
-  pub erases-is : erases ≡ tallyOf (operationsFrom (M .sizes) 0 place) .erases
+  pub writes-is : writes ≡ count isWrite (operationsFrom (M .sizes) 0 place)
+  pub erases-is : erases ≡ count isErase (operationsFrom (M .sizes) 0 place)
 
 -- the lines of some steps, and then of more
 lines-add : (M : Move) (a b place : ℕ) (run : Running) → stepLines M (a + b) place run ≡ stepLines M a place run ++ stepLines M b (place + a) (steps M a place run)
@@ -65,12 +66,12 @@ module _ (M : Move) (start : Running) where
   pub few-counted : (place at writes erases : ℕ) (before out store marks work : List ℕ) → M .sizes .n ≤ 8 → M .sizes .m ≤ 8 → place ≤ lastPlace (M .sizes)
       → Shows M start place at writes erases before out store marks work → (writes ≤ 144) × (erases ≤ 144)
   few-counted place at writes erases before out store marks work few-blocks few-pages h S =
-      let few = few-tallied (M .sizes) place 0 (omega arith) in
+      let few = writes-and-erases (M .sizes) place 0 (omega arith) in
       let last = few-steps (M .sizes) few-blocks few-pages in
       (omega (arith, S .writes-is), omega (arith, S .erases-is))
 
   pub shows-none : (out : List ℕ) → Shows M start 0 0 0 0 out out (start .chip .store) (start .chip .marks) (start .work)
-  unfolding steps stepLines tallyOf operationsFrom
+  unfolding steps stepLines count operationsFrom
   shows-none out = record { left = refl; lines-are = (refl, refl); at-high = omega arith; writes-is = refl; erases-is = refl }
 
   pub shows-more : (place at writes erases : ℕ) (before out store marks work out′ store′ marks′ work′ : List ℕ) (shown : Shown)
@@ -78,14 +79,14 @@ module _ (M : Move) (start : Running) where
       → Shows M start (place + 1) (shown .at) (writes + shown .writes) (erases + shown .erases) before out′ store′ marks′ work′
   shows-more place at writes erases before out store marks work out′ store′ marks′ work′ shown S T =
       let after = T .left ∙ ap (step M place) (S .left) in
-      let counts = rw (zero-add place) at (tally-split (M .sizes) 0 place 1) in
+      let done = rw (zero-add place) at (operationsFrom-split (M .sizes) 0 place 1) in
       let lines : stepLines M place 0 start ++ stepLine place (operationAt (M .sizes) place) work′ ≡ stepLines M (place + 1) 0 start = sym (line-more place ∙ rw (← after)) in
       record {
         left = after ∙ sym (step-more place);
         lines-are = subst (λ (lines : List ℕ). Written lines before out′ (shown .at)) lines (over-printed (stepLines M place 0 start) before (S .lines-are .0) (S .lines-are .1) (T .printed));
         at-high = omega (arith, T .printed .next-is, T .short, S .at-high);
-        writes-is = omega (arith, ap (λ (t : Tally). t .writes) counts, S .writes-is, T .writes-is);
-        erases-is = omega (arith, ap (λ (t : Tally). t .erases) counts, S .erases-is, T .erases-is);
+        writes-is = rw (done, count-append) (omega (arith, S .writes-is, T .writes-is));
+        erases-is = rw (done, count-append) (omega (arith, S .erases-is, T .erases-is));
       }
 
   -- all steps, and the end line

@@ -1,10 +1,12 @@
 -- One step more: what it leaves, counts and prints.
 use Rattle.flash.proofs.Kit.{_≡_, ap, _∙_, List, ℕ, _≤_, _<_, arith, length}
+use Rattle.flash.specs.Lists.{count}
 use Rattle.split.specs.Request.{Request}
 use Rattle.method.specs.Move.{Move, move}
 use Rattle.method.specs.Place.{operationAt, lastPlace}
-use Rattle.method.specs.Step.{runningOf, Running, step, steps, tallyOf, operationsFrom}
+use Rattle.method.specs.Step.{runningOf, Running, step, steps, isWrite, isErase, operationsFrom}
 use Rattle.method.specs.Answers.{runCarriedOut, stepsTaken, RunAnswer, runAnswer}
+use Rattle.method.proofs.places.Tallies.{tally-counts}
 use Rattle.method.proofs.basics.AcceptedCalls.{run-taken}
 use Rattle.method.proofs.states.RunsAddUp.{run-answer, still-taken}
 use Rattle.mover.specs.declared.run.RunResult.{RunResult}
@@ -16,8 +18,8 @@ use Rattle.steplist.proofs.LengthLaws.{line-short}
 -- what one step of a run that is not refused leaves and counts
 pub record OneStep (M : Move) (run : Running) (place : ℕ) (ran : RunResult) (store marks work : List ℕ) : Type 0 where
   pub left : runningOf store marks work ≡ step M place run
-  pub writes-is : ran .tally .writes ≡ tallyOf (operationsFrom (M .sizes) place 1) .writes
-  pub erases-is : ran .tally .erases ≡ tallyOf (operationsFrom (M .sizes) place 1) .erases
+  pub writes-is : ran .tally .writes ≡ count isWrite (operationsFrom (M .sizes) place 1)
+  pub erases-is : ran .tally .erases ≡ count isErase (operationsFrom (M .sizes) place 1)
   pub short : length (stepLine place (operationAt (M .sizes) place) work) ≤ 149
 
 module _ (R : Request) (run : Running) (place : ℕ) (L : Listable R run place) (h : place < lastPlace (R .sizes)) where
@@ -32,9 +34,10 @@ module _ (R : Request) (run : Running) (place : ℕ) (L : Listable R run place) 
       let B = A ∙ e in
       let after = still-taken R (run .chip) (run .work) place 1 (omega arith) (run-taken R (run .chip) (run .work) place (L .taken)) in
       let size : length work ≡ R .sizes .p = ap (λ (a : RunAnswer). length (a .work)) B ∙ after .lent .work-length in
+      let counts = tally-counts (move R) 1 place run (omega arith) in
       record {
         left = ap {B = Running} (λ (a : RunAnswer). record { chip = a .chip; work = a .work }) B;
-        writes-is = ap (λ (a : RunAnswer). a .tally .writes) B;
-        erases-is = ap (λ (a : RunAnswer). a .tally .erases) B;
+        writes-is = ap (λ (a : RunAnswer). a .tally .writes) B ∙ counts .0;
+        erases-is = ap (λ (a : RunAnswer). a .tally .erases) B ∙ counts .1;
         short = line-short (R .sizes) place work (L .few-blocks) (L .few-pages) (omega (arith, L .short-pages)) h;
       }

@@ -4,6 +4,7 @@ use mathlib.Core.Bool.{cond}
 use mathlib.Core.List.{List, [], _++_}
 use Prim.Native.Nat.{ℕ, zero, suc, _≤_}
 use lib.ListN.{length, take, replicate}
+use Rattle.flash.specs.Lists.{count}
 use Rattle.flash.specs.declared.sizes.Sizes.{Sizes}
 use Rattle.flash.specs.Geometry.{originalCount}
 use Rattle.split.specs.OneToOne.{badList}
@@ -11,7 +12,7 @@ use Rattle.split.specs.Rule.{splitByRule}
 use Rattle.method.specs.Move.{Move}
 use Rattle.method.specs.Place.{Operation, write, erase, done, operations, operationAt, lastPlace}
 use Rattle.method.specs.State.{atRest}
-use Rattle.method.specs.Step.{Running, step, tallyOf}
+use Rattle.method.specs.Step.{Running, step, isWrite, isErase}
 use Rattle.listing.specs.Input.{Input, unreadable, refused, request, inputOf, withinLimit}
 use Rattle.listing.specs.Lines.{writeLine, eraseLine, endLine, refusedLine, unreadableLine}
 
@@ -31,8 +32,7 @@ stepLines M (suc count) place run =
 -- the lines of all steps, and the end line
 unfoldable pub moveLines : Move → Running → List ℕ
 moveLines M start =
-    let counts = tallyOf (operations (M .sizes)) in
-    stepLines M (lastPlace (M .sizes)) 0 start ++ endLine (counts .writes) (counts .erases)
+    stepLines M (lastPlace (M .sizes)) 0 start ++ endLine (count isWrite (operations (M .sizes))) (count isErase (operations (M .sizes)))
 
 -- rule 9.6: the move of a store at rest, by the split that the split call makes
 unfoldable pub listed : Sizes → (list bytes : List ℕ) → List ℕ

@@ -23,6 +23,8 @@ pub fn check(tally: &mut Tally) {
     tally.check("P9", torn_erase());
     tally.check("P10", recovery_after_finish());
     tally.check("P11", no_budget());
+    tally.check("written bytes", bytes_counted());
+    tally.check("the most bytes", most_bytes());
     tally.check("bytes that no move has left", nonsense_bytes());
 }
 
@@ -72,6 +74,7 @@ fn smallest_move() -> Outcome {
         writes: 2,
         erases: 2,
         finished: 1,
+        written_bytes: 2,
         ..Numbers::default()
     };
     same("the answer", scene.run(0, u32::MAX).numbers, due)
@@ -153,6 +156,40 @@ fn recovery_after_finish() -> Outcome {
     }
     same("a second move", scene.run(0, 12).numbers.returned, 5)?;
     same("the end", scene.run(12, 12).numbers.finished, 1)
+}
+
+/// Two pages trade places, one half 255 and one 255 throughout: their sum has no
+/// 255, so that the four pages written count 2, 0, 1 and 0.
+fn bytes_counted() -> Outcome {
+    let sizes = Sizes {
+        page_bytes: 2,
+        ..sizes(2, 1)
+    };
+    let mut scene = Scene::at_rest(sizes, vec![1, 0], vec![255, 3, 255, 255]);
+    for (original, due) in [(0, 1), (1, 0)] {
+        let read = answer(&scene.read_request(original)).numbers;
+        same("read", (read.count, read.written_bytes), (1, due))?;
+    }
+    let at_once = scene.clone().run(0, u32::MAX).numbers;
+    same("the whole move", at_once.written_bytes, 3)?;
+    let steps: Vec<u32> = (0..8)
+        .map(|place| scene.run(place, 1).numbers.written_bytes)
+        .collect();
+    same("step by step", &steps[..], &[2, 0, 0, 0, 1, 0, 0, 0])?;
+    let refused = scene.run(7, 1).numbers;
+    same("refused", (refused.returned, refused.written_bytes), (5, 0))
+}
+
+/// 2 x n x m x P, met by pages of zeros.
+fn most_bytes() -> Outcome {
+    let sizes = Sizes {
+        page_bytes: 4096,
+        ..sizes(64, 64)
+    };
+    let list = (0..64 * 64).map(|k| (k * 5 + 64) % (64 * 64)).collect();
+    let mut scene = Scene::at_rest(sizes, list, vec![0; 64 * 64 * 4096]);
+    let whole = scene.run(0, u32::MAX).numbers;
+    same("the total", whole.written_bytes, 33_554_432)
 }
 
 /// Pages are summed by the rules even if block 0 does not hold c(1).

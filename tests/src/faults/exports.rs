@@ -148,6 +148,7 @@ unsafe extern "C" fn run<R: Rules, M: Manners>(
     writes: *mut u32,
     erases: *mut u32,
     finished: *mut u32,
+    written_bytes: *mut u32,
 ) -> u32 {
     let (list, sets) = (raw(list, list_len), raw(sets, sets_len));
     let loan = [
@@ -167,6 +168,7 @@ unsafe extern "C" fn run<R: Rules, M: Manners>(
         (writes, numbers.writes),
         (erases, numbers.erases),
         (finished, numbers.finished),
+        (written_bytes, numbers.written_bytes),
     ];
     set::<M>(numbers.returned, &outs);
     numbers.returned
@@ -217,6 +219,7 @@ unsafe extern "C" fn read<R: Rules, M: Manners>(
     work_len: u64,
     original: u32,
     count: *mut u32,
+    written_bytes: *mut u32,
 ) -> u32 {
     let (list, sets) = (raw(list, list_len), raw(sets, sets_len));
     let loan = [
@@ -229,6 +232,10 @@ unsafe extern "C" fn read<R: Rules, M: Manners>(
     let mut request = request_of(Call::Read, [n, m, page_bytes, s], &loan);
     request.original = original;
     let numbers = serve::<R, M>(request, &loan, &[Part::Work]).numbers;
-    set::<M>(numbers.returned, &[(count, numbers.count)]);
+    let outs = [
+        (count, numbers.count),
+        (written_bytes, numbers.written_bytes),
+    ];
+    set::<M>(numbers.returned, &outs);
     numbers.returned
 }

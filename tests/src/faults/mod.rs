@@ -1,5 +1,6 @@
 //! Movers with one fault each, to see that the comparison reports it.
 
+mod counting;
 pub mod exports;
 pub mod hex;
 pub mod lists;
@@ -34,6 +35,7 @@ pub fn all_faults() -> Vec<Fault> {
         running::faults(),
         reading::faults(),
         recovery::faults(),
+        counting::faults(),
         manners::faults(),
     ];
     topics.into_iter().flatten().collect()

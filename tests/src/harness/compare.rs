@@ -7,7 +7,7 @@ use super::shrink::shrink;
 use crate::checks::tally::{ensure, Tally};
 use crate::random::{rounds_from_environment, Random};
 use crate::simulator::calls::answer;
-use crate::simulator::request::{Answer, Request, ALL_PARTS, CALLS};
+use crate::simulator::request::{Answer, Call, Numbers, Request, ALL_PARTS, CALLS};
 use std::fmt;
 
 /// A request on which the mover and the simulator differ.
@@ -37,6 +37,8 @@ impl fmt::Display for Difference {
 pub struct Comparer<'a> {
     calls: &'a Calls,
     compared: [u64; 4],
+    /// Runs and reads that counted none, some and all bytes of their pages.
+    counted: [u64; 3],
     /// The events of lists: calls, cut ones among them, and cuts between calls.
     pub events: u64,
     pub cuts: u64,
@@ -53,6 +55,7 @@ impl<'a> Comparer<'a> {
         Comparer {
             calls,
             compared: [0; 4],
+            counted: [0; 3],
             events: 0,
             cuts: 0,
             rounds: rounds_from_environment(),
@@ -77,7 +80,22 @@ impl<'a> Comparer<'a> {
             return Err(Box::new(shrink(self.calls, request.clone(), what)));
         }
         self.compared[request.call as usize] += 1;
+        self.note_count(request, &due.numbers);
         Ok(due)
+    }
+
+    fn note_count(&mut self, request: &Request, numbers: &Numbers) {
+        let pages = match request.call {
+            Call::Run => numbers.writes,
+            Call::Read if numbers.returned == 0 => 1,
+            _ => 0,
+        };
+        match numbers.written_bytes {
+            _ if pages == 0 => {}
+            0 => self.counted[0] += 1,
+            count if count < pages * request.sizes.page_bytes => self.counted[1] += 1,
+            _ => self.counted[2] += 1,
+        }
     }
 
     fn all_compared(&self) -> u64 {
@@ -88,6 +106,8 @@ impl<'a> Comparer<'a> {
         for (call, count) in CALLS.iter().zip(self.compared) {
             println!("{call:?}: {count} calls compared");
         }
+        let [none, some, all] = self.counted;
+        println!("written bytes: none of the pages {none} times, some {some}, all {all}");
         println!("rounds: {}", self.rounds);
         println!("events: {}, {} of them cut", self.events, self.cuts);
     }
@@ -120,6 +140,9 @@ pub fn difference(given: Result<Answer, String>, due: &Answer) -> Option<String>
 /// What the gate asks of the lists of events.
 const LEAST_EVENTS: u64 = 100_000;
 
+/// And of the runs and reads that count none, some or all bytes.
+const LEAST_COUNTED: u64 = 1000;
+
 /// Each family has its own random numbers from the seed.
 fn random_of(seed: u64, family: usize) -> Random {
     Random::new(seed.wrapping_mul(1000).wrapping_add(family as u64))
@@ -143,6 +166,13 @@ pub fn check_mover(tally: &mut Tally, name: &str, calls: &Calls, seed: u64) {
         &format!("{name}, events"),
         ensure(comparer.events >= LEAST_EVENTS, || {
             format!("{} are fewer than {LEAST_EVENTS}", comparer.events)
+        }),
+    );
+    let counted = comparer.counted;
+    tally.check(
+        &format!("{name}, counts of every kind"),
+        ensure(counted.iter().all(|&times| times >= LEAST_COUNTED), || {
+            format!("one of {counted:?} is below {LEAST_COUNTED}")
         }),
     );
 }

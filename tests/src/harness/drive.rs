@@ -57,18 +57,19 @@ fn collect(call: Call, returned: u32, loan: Loan, outs: Outs) -> Result<Answer, 
     match call {
         Call::Split => {}
         Call::Run => {
-            let [place, steps, writes, erases, finished] = outs;
+            let [place, steps, writes, erases, finished, written_bytes] = outs;
             numbers = Numbers {
                 place,
                 steps,
                 writes,
                 erases,
                 finished,
+                written_bytes,
                 ..numbers
             };
         }
         Call::Mend => [numbers.place, numbers.erases] = [outs[0], outs[1]],
-        Call::Read => numbers.count = outs[0],
+        Call::Read => [numbers.count, numbers.written_bytes] = [outs[0], outs[1]],
     }
     let parts = loan.take()?;
     Ok(Answer { numbers, parts })
@@ -91,7 +92,7 @@ fn drive_split(calls: &Calls, request: &Request, loan: &mut Loan) -> u32 {
     }
 }
 
-fn drive_run(calls: &Calls, request: &Request, loan: &mut Loan, outs: [*mut u32; 5]) -> u32 {
+fn drive_run(calls: &Calls, request: &Request, loan: &mut Loan, outs: [*mut u32; 6]) -> u32 {
     let sizes = &request.sizes;
     // All parts are live buffers of the lengths given.
     unsafe {
@@ -117,11 +118,12 @@ fn drive_run(calls: &Calls, request: &Request, loan: &mut Loan, outs: [*mut u32;
             outs[2],
             outs[3],
             outs[4],
+            outs[5],
         )
     }
 }
 
-fn drive_mend(calls: &Calls, request: &Request, loan: &mut Loan, outs: [*mut u32; 5]) -> u32 {
+fn drive_mend(calls: &Calls, request: &Request, loan: &mut Loan, outs: [*mut u32; 6]) -> u32 {
     let sizes = &request.sizes;
     // All parts are live buffers of the lengths given.
     unsafe {
@@ -140,7 +142,7 @@ fn drive_mend(calls: &Calls, request: &Request, loan: &mut Loan, outs: [*mut u32
     }
 }
 
-fn drive_read(calls: &Calls, request: &Request, loan: &mut Loan, outs: [*mut u32; 5]) -> u32 {
+fn drive_read(calls: &Calls, request: &Request, loan: &mut Loan, outs: [*mut u32; 6]) -> u32 {
     let sizes = &request.sizes;
     // All parts are live buffers of the lengths given.
     unsafe {
@@ -161,6 +163,7 @@ fn drive_read(calls: &Calls, request: &Request, loan: &mut Loan, outs: [*mut u32
             loan.work.length(),
             request.original,
             outs[0],
+            outs[1],
         )
     }
 }

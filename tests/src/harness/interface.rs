@@ -44,6 +44,7 @@ calls! {
         writes: *mut u32,
         erases: *mut u32,
         finished: *mut u32,
+        written_bytes: *mut u32,
     );
     MendCall, mover_mend(
         n: u32,
@@ -74,6 +75,7 @@ calls! {
         work_len: u64,
         original: u32,
         count: *mut u32,
+        written_bytes: *mut u32,
     );
     OperationCall, mover_operation(
         n: u32,

@@ -76,6 +76,7 @@ fn run<R: Rules>(request: &Request, answer: &mut Answer) {
         writes: progress.writes,
         erases: progress.erases,
         finished: (place == all) as u32,
+        written_bytes: progress.written_bytes,
         ..Numbers::default()
     };
 }
@@ -96,6 +97,8 @@ fn mend<R: Rules>(request: &Request, answer: &mut Answer) {
 fn read<R: Rules>(request: &Request, answer: &mut Answer) {
     let flash = flash_of(request);
     let slots = slots_to_sum::<R>(&move_of(request), &flash, request.original as usize);
-    put(&mut answer.parts.work, &flash.sum(&slots));
+    let page = flash.sum(&slots);
+    put(&mut answer.parts.work, &page);
     answer.numbers.count = slots.len() as u32;
+    answer.numbers.written_bytes = R::written_bytes(&page);
 }

@@ -90,6 +90,7 @@ pub struct Numbers {
     pub erases: u32,
     pub finished: u32,
     pub count: u32,
+    pub written_bytes: u32,
 }
 
 #[derive(Clone, Debug, PartialEq)]

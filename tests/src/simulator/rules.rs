@@ -52,6 +52,11 @@ pub trait Rules {
         page
     }
 
+    /// How many bytes of a page load the power stage when it is programmed.
+    fn written_bytes(page: &[u8]) -> u32 {
+        page.iter().filter(|&&byte| byte != 255).count() as u32
+    }
+
     /// Read's second rule: is the page rebuilt against the direction of moves?
     fn goes_back(flash: &Flash, top: usize) -> bool {
         let sizes = &flash.sizes;

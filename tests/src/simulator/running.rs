@@ -52,6 +52,7 @@ fn coded_page<R: Rules>(moves: &Move, flash: &Flash, set: usize, i: usize) -> Ve
 pub struct Progress {
     pub writes: u32,
     pub erases: u32,
+    pub written_bytes: u32,
     pub last_page: Option<Vec<u8>>,
 }
 
@@ -59,6 +60,7 @@ pub fn take_steps<R: Rules>(moves: &Move, flash: &mut Flash, place: u32, count: 
     let mut progress = Progress {
         writes: 0,
         erases: 0,
+        written_bytes: 0,
         last_page: None,
     };
     let steps = all_steps(&moves.sizes).into_iter();
@@ -66,6 +68,7 @@ pub fn take_steps<R: Rules>(moves: &Move, flash: &mut Flash, place: u32, count: 
         match take_step::<R>(moves, flash, step) {
             Some(page) => {
                 progress.writes += 1;
+                progress.written_bytes += R::written_bytes(&page);
                 progress.last_page = Some(page);
             }
             None => progress.erases += 1,

@@ -15,7 +15,7 @@ use Rattle.method.specs.Step.{operationsFrom}
 use Rattle.method.specs.State.{originalsIn}
 use Rattle.method.specs.Mend.{Reading, reading}
 use Rattle.method.specs.Read.{readSlots, readPage}
-use Rattle.method.specs.Answers.{RunAnswer, runRows, runCarriedOut, stepsTaken, runRefused, runAnswer, mendRows, mended, mendAnswer, readRows, readAnswer}
+use Rattle.method.specs.Answers.{RunAnswer, runRows, runCarriedOut, stepsTaken, runRefused, runAnswer, mendRows, mended, mendAnswer, readRows, readGives, readAnswer}
 use Rattle.method.specs.Runs.{Start}
 use Rattle.method.specs.Events.{Call, run, mend, read, CutPoint, Event, History, numberOf, mendSteps, stepsOf, chipAfter, chipReturned, returnsFinished, starting, during, after, stepsFinished, moments}
 use Rattle.method.specs.Demand3.{CutObeys, Allowed, AllAllowed, Keeps, AtEach, Demand3}
@@ -147,7 +147,7 @@ module _ (R : Request) (chip₀ : Chip) (S : Start R chip₀) where
 
 -- ---- equal marks
 read-answer : (R : Request) (chip : Chip) (work : List ℕ) (k : ℕ) → readAnswer R chip work k .number ≡ 0
-    → readAnswer R chip work k ≡ record { number = 0; count = length (readSlots (move R) (chip .marks) k); work = readPage (move R) chip k }
+    → readAnswer R chip work k ≡ readGives (length (readSlots (move R) (chip .marks) k)) (readPage (move R) chip k)
 unfolding readAnswer
 read-answer R chip work k e = ⊎-elim
     (λ (q : eqb (refusal (readRows R chip work k)) 0 ≡ true). rw q)
@@ -155,7 +155,7 @@ read-answer R chip work k e = ⊎-elim
     (bool-cases (eqb (refusal (readRows R chip work k)) 0))
 
 by-marks : (R : Request) (marks : List ℕ) (k : ℕ) (chip : Chip) → chip .marks ≡ marks → (work : List ℕ) → readAnswer R chip work k .number ≡ 0
-    → readAnswer R chip work k ≡ record { number = 0; count = length (readSlots (move R) marks k); work = sum (pageAt (R .sizes .p) chip) (readSlots (move R) marks k) }
+    → readAnswer R chip work k ≡ readGives (length (readSlots (move R) marks k)) (sum (pageAt (R .sizes .p) chip) (readSlots (move R) marks k))
 unfolding readPage
 by-marks R marks k chip same work e = rw (← same) (read-answer R chip work k e)
 

@@ -13,7 +13,7 @@ use Rattle.flash.proofs.Searches.{count-append}
 use Rattle.split.specs.Request.{Request}
 use Rattle.method.specs.Move.{Move, move, AcceptedMove}
 use Rattle.method.specs.Place.{Operation, write, erase, done, operations, operationAt, lastPlace, filled}
-use Rattle.method.specs.Step.{Running, steps, isErase, tallied, tallyOf, operationsFrom}
+use Rattle.method.specs.Step.{Running, steps, isErase, operationsFrom}
 use Rattle.method.specs.Cut.{CutInside}
 use Rattle.method.specs.Answers.{RunAnswer, runRows, runCarriedOut, stepsTaken, runRefused, runAnswer}
 use Rattle.method.specs.Events.{Call, run, CutPoint, uncut, between, inside, History, numberOf, stepsOf, chipAfter, chipReturned, returnsFinished, isMend, during, returned, cutShort, afterCall, stepsFinished, sizesGiven}
@@ -23,7 +23,7 @@ use Rattle.method.proofs.basics.AcceptedCalls.{StandsAt, RunTaken, run-
 use Rattle.method.proofs.basics.MoveShape.{Holding}
 use Rattle.method.proofs.places.StepsCounted.{steps-counted}
 use Rattle.method.proofs.places.PlacesDiffer.{places-differ}
-use Rattle.method.proofs.places.Tallies.{erases-tallied}
+use Rattle.method.proofs.places.Tallies.{erases-in}
 use Rattle.method.proofs.states.StepsKeepPages.{steps-hold}
 use Rattle.method.proofs.states.RunsAddUp.{run-answer, still-taken}
 use Rattle.method.proofs.places.Turns.{turn, turn-last, turn-writes, turn-erases, turn-resumes, resumesAt, resumes-there, resumes-last}
@@ -33,14 +33,6 @@ use Rattle.method.proofs.recovery.MarksFade.{cut-fades, holding-fades}
 use Rattle.method.proofs.recovery.CutsLeave.{AfterCut, in-write, in-erase, torn-erase, after-cut}
 use Rattle.method.proofs.demand.KeptByHistories.{Bounded, within, once-more, Fresh, Kept}
 use Rattle.method.proofs.demand.CallsWithoutSteps.{EventKept}
-
--- the two ways to count erases
-counts-agree : (ops : List Operation) → count isErase ops ≡ tallyOf ops .erases
-unfolding count isErase tallyOf tallied
-counts-agree [] = refl
-counts-agree (write pass b q ∷ ops) = counts-agree ops
-counts-agree (erase b ∷ ops) = omega (arith, counts-agree ops)
-counts-agree (done ∷ ops) = counts-agree ops
 
 -- the number that run returns is that of its table
 pub run-number : (R : Request) (chip : Chip) (work : List ℕ) (place budget : ℕ) → runAnswer R chip work place budget .number ≡ 0 → refusal (runRows R chip work place) ≡ 0
@@ -112,7 +104,7 @@ module _ (R : Request) (A : AcceptedMove (move R)) (originals : List ℕ) (full 
 
   erases-to : (i : ℕ) → i ≤ total → count isErase (h .begun ++ operationsFrom Z place i) ≤ turn Z (place + i) + h .mends
   erases-to i l =
-      omega (arith, few, count-append isErase (h .begun) (operationsFrom Z place i), counts-agree (operationsFrom Z place i), erases-tallied Z i place (omega (arith, total-in)))
+      omega (arith, few, count-append isErase (h .begun) (operationsFrom Z place i), erases-in Z i place (omega (arith, total-in)))
 
   -- once the finish was reported the move is over, and no step is left
   over : h .finished ≡ true → place ≡ lastPlace Z

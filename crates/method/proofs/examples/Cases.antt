@@ -23,6 +23,7 @@ cases-hold byte = record {
   number-4 = (refl, refl);
   number-6 = (refl, refl);
   number-7 = refl;
+  bytes = (refl, refl, refl, refl);
   program = refl;
   program-end = refl;
   figure-2 = refl;

@@ -8,11 +8,11 @@ use Rattle.flash.proofs.Searches.{count-append, count-none}
 use Rattle.flash.proofs.Ranges.{none-is, one-counted}
 use Rattle.flash.proofs.Bounds.{in-range}
 use Rattle.method.specs.Place.{Pass, forward, backward, write, erase, writes, forwardTurn, backwardTurn, operations, lastPlace}
-use Rattle.method.specs.Step.{erasesBlock, tallyOf, operationsFrom}
+use Rattle.method.specs.Step.{isWrite, isErase, erasesBlock, operationsFrom}
 use Rattle.method.specs.Claims.{StepsCounted, ErasesCounted}
 use Rattle.method.proofs.basics.Indexes.{Order, less, same, more, order}
 use Rattle.method.proofs.places.StepsCounted.{steps-counted}
-use Rattle.method.proofs.places.Tallies.{tally-total, steps-tallied, erases-tallied}
+use Rattle.method.proofs.places.Tallies.{writes-and-erases, erases-in}
 
 -- lists of which each has one that passes, or none
 count-concatMap : {A B : Type 0} (test : B → Bool) (f : A → List B) (one : A → Bool)
@@ -104,16 +104,16 @@ module _ (Z : Sizes) where
   unfolding operationsFrom StepsCounted
   all-steps = take-all (lastPlace Z) (operations Z) (omega (arith, steps-counted Z))
 
-  all-erases : tallyOf (operations Z) .erases ≡ 2 * n
+  pub all-erases : count isErase (operations Z) ≡ 2 * n
   unfolding lastPlace
   all-erases =
       let turns : (0 + 2 * n * (m + 1)) / (m + 1) ≡ 2 * n = ap (λ (p : ℕ). p / (m + 1)) (omega arith) ∙ mul-div-cancel (2 * n) (omega arith) in
-      let found = erases-tallied Z (lastPlace Z) 0 (omega arith) in
+      let found = erases-in Z (lastPlace Z) 0 (omega arith) in
       omega (arith, rw all-steps at found, zero-div (m + 1))
 
-  all-writes : tallyOf (operations Z) .writes ≡ 2 * n * m
+  pub all-writes : count isWrite (operations Z) ≡ 2 * n * m
   unfolding lastPlace
-  all-writes = omega (arith, rw all-steps at (steps-tallied Z (lastPlace Z) 0 (omega arith)), tally-total (operations Z), all-erases)
+  all-writes = omega (arith, rw all-steps at (writes-and-erases Z (lastPlace Z) 0 (omega arith)), all-erases)
 
 pub erases-counted : ErasesCounted
 erases-counted = record {
@@ -122,6 +122,4 @@ erases-counted = record {
   between = λ Z b h l. both-passes Z b ∙ rw (forward-once Z b h (omega arith), lt-ltb b (Z .n) l) (omega arith);
   all-erases = all-erases;
   all-writes = all-writes;
-  run-steps = λ Z place taken h. steps-tallied Z taken place h;
-  run-total = λ Z place taken. tally-total (operationsFrom Z place taken);
 }

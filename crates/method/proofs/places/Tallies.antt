@@ -1,107 +1,142 @@
--- What is counted of the steps: over a list in two parts, over the steps from one place to another.
-use Rattle.flash.proofs.Kit.{_≡_, refl, ap, _∙_, ⊎-elim, List, [], _∷_, _++_, ℕ, zero, suc, _+_, _/_, _≤_, _<_, add-zero, arith, take, drop}
-use Rattle.flash.proofs.Kit.{drop-cons, take-add, drop-drop}
+-- What is counted of the steps: of a list of operations, and of a run, whole, in two parts and step by step.
+use Rattle.flash.proofs.Kit.{_≡_, refl, sym, ap, ap₂, _∙_, ⊎-elim, List, [], _∷_, _++_, ℕ, zero, suc, _+_, _/_, _≤_, _<_, zero-add, suc-add, add-suc}
+use Rattle.flash.proofs.Kit.{add-zero, arith, take, drop, drop-cons, take-add, drop-drop}
+use Rattle.flash.specs.Lists.{count}
 use Rattle.flash.specs.declared.sizes.Sizes.{Sizes}
 use Rattle.method.specs.declared.tally.Tally.{Tally}
+use Rattle.method.specs.Move.{Move}
 use Rattle.method.specs.Place.{Operation, write, erase, done, operations, lastPlace, operationAt, filled}
-use Rattle.method.specs.Step.{nothingDone, tallied, tallyOf, added, operationsFrom}
+use Rattle.method.specs.Step.{Running, step, steps, isWrite, isErase, operationsFrom, nothingDone, tallied, tallyOf, added}
 use Rattle.method.specs.Claims.{StepsCounted}
 use Rattle.method.proofs.places.StepsAtPlaces.{page-cases, operation-writes, operation-erases}
 use Rattle.method.proofs.places.StepsCounted.{steps-counted}
 use Rattle.method.proofs.places.Turns.{turn-writes, turn-erases}
+use Rattle.method.proofs.states.StepsAddUp.{steps-add}
 
-same-tally : {s t : Tally} → s .steps ≡ t .steps → s .writes ≡ t .writes → s .erases ≡ t .erases → s ≡ t
-same-tally a b c = λ i. record { steps = a i; writes = b i; erases = c i }
-
--- one operation first, or as part of the first of two lists
-tallied-added : (op : Operation) (s t : Tally) → tallied op (added s t) ≡ added (tallied op s) t
-unfolding tallied
-tallied-added (write pass b q) s t = same-tally (omega arith) (omega arith) refl
-tallied-added (erase b) s t = same-tally (omega arith) refl (omega arith)
-tallied-added done s t = refl
-
-pub tally-append : (xs ys : List Operation) → tallyOf (xs ++ ys) ≡ added (tallyOf xs) (tallyOf ys)
-unfolding tallyOf
-tally-append [] ys = same-tally (omega arith) (omega arith) (omega arith)
-tally-append (op ∷ xs) ys = ap (tallied op) (tally-append xs ys) ∙ tallied-added op (tallyOf xs) (tallyOf ys)
-
--- one operation more, at the end
-pub tally-more : (ops : List Operation) (op : Operation) → tallyOf (ops ++ (op ∷ [])) ≡ tallied op (tallyOf ops)
-unfolding tallyOf tallied
-tally-more ops op = tally-append ops (op ∷ []) ∙ last op
-  where
-    last : (op : Operation) → added (tallyOf ops) (tallied op nothingDone) ≡ tallied op (tallyOf ops)
-    last (write pass b q) = same-tally refl refl (omega arith)
-    last (erase b) = same-tally refl (omega arith) refl
-    last done = same-tally (omega arith) (omega arith) (omega arith)
-
--- rule 4.3: a step is a write or an erase
-pub tally-total : (xs : List Operation) → tallyOf xs .steps ≡ tallyOf xs .writes + tallyOf xs .erases
-unfolding tallyOf tallied
-tally-total [] = omega arith
-tally-total (write pass b q ∷ xs) = omega (arith, tally-total xs)
-tally-total (erase b ∷ xs) = omega (arith, tally-total xs)
-tally-total (done ∷ xs) = tally-total xs
-
+-- ---- the steps from a place on
 module _ (Z : Sizes) where
   open Sizes Z using (m)
 
-  -- the steps from a place on: first some, then the others from the place reached
+  -- first some, then the others from the place reached
   pub operationsFrom-split : (place a b : ℕ) → operationsFrom Z place (a + b) ≡ operationsFrom Z place a ++ operationsFrom Z (place + a) b
   unfolding operationsFrom
   operationsFrom-split place a b =
       take-add a b (drop place (operations Z))
       ∙ ap (λ (l : List Operation). take a (drop place (operations Z)) ++ take b l) (drop-drop a place (operations Z))
 
-  pub tally-split : (place a b : ℕ)
-      → tallyOf (operationsFrom Z place (a + b)) ≡ added (tallyOf (operationsFrom Z place a)) (tallyOf (operationsFrom Z (place + a) b))
-  tally-split place a b = ap tallyOf (operationsFrom-split place a b) ∙ tally-append (operationsFrom Z place a) (operationsFrom Z (place + a) b)
-
   pub operationsFrom-suc : (place count : ℕ) → place < lastPlace Z → operationsFrom Z place (suc count) ≡ operationAt Z place ∷ operationsFrom Z (suc place) count
   unfolding operationsFrom operationAt StepsCounted
   operationsFrom-suc place count h = ap (take (suc count)) (drop-cons (operations Z) place done (rw (steps-counted Z) h))
 
-  -- one step more
-  pub tally-next : (place i : ℕ) → place + i < lastPlace Z
-      → tallyOf (operationsFrom Z place (i + 1)) ≡ tallied (operationAt Z (place + i)) (tallyOf (operationsFrom Z place i))
-  unfolding operationsFrom
-  tally-next place i h =
-      ap tallyOf (operationsFrom-split place i 1 ∙ ap (λ (l : List Operation). operationsFrom Z place i ++ l) (operationsFrom-suc (place + i) 0 h))
-      ∙ tally-more (operationsFrom Z place i) (operationAt Z (place + i))
-
-  -- a step counts as one; it is an erase where it ends a turn
-  step-tallied : (place : ℕ) (t : Tally) → place < lastPlace Z
-      → (tallied (operationAt Z place) t .steps ≡ t .steps + 1)
-      × (tallied (operationAt Z place) t .erases + place / (m + 1) ≡ t .erases + suc place / (m + 1))
-  unfolding tallied
-  step-tallied place t h = ⊎-elim
-      (λ (k : filled Z place < m). (let e = turn-writes Z place k in rw (operation-writes Z place h k) (refl, omega arith)))
-      (λ (k : filled Z place ≡ m). (let e = turn-erases Z place k in rw (operation-erases Z place h k) (refl, omega arith)))
+  -- a step is a write, or an erase where it ends a turn
+  first-counted : (place : ℕ) (ops : List Operation) → place < lastPlace Z
+      → (count isWrite (operationAt Z place ∷ ops) + count isErase (operationAt Z place ∷ ops) ≡ suc (count isWrite ops + count isErase ops))
+      × (count isErase (operationAt Z place ∷ ops) + place / (m + 1) ≡ count isErase ops + suc place / (m + 1))
+  unfolding count isWrite isErase
+  first-counted place ops h = ⊎-elim
+      (λ (k : filled Z place < m). (let e = turn-writes Z place k in rw (operation-writes Z place h k) (omega arith, omega arith)))
+      (λ (k : filled Z place ≡ m). (let e = turn-erases Z place k in rw (operation-erases Z place h k) (omega arith, omega arith)))
       (page-cases Z place)
 
-  -- As many steps are counted as are taken, and an erase for each turn that they end.
-  pub steps-tallied : (count place : ℕ) → place + count ≤ lastPlace Z → tallyOf (operationsFrom Z place count) .steps ≡ count
-  unfolding tallyOf operationsFrom
-  steps-tallied zero place h = refl
-  steps-tallied (suc count) place h =
-      ap (λ (l : List Operation). tallyOf l .steps) (operationsFrom-suc place count (omega arith))
-      ∙ step-tallied place (tallyOf (operationsFrom Z (suc place) count)) (omega arith) .0
-      ∙ omega (arith, steps-tallied count (suc place) (omega arith))
+  -- rule 4.3: a step is a write or an erase
+  pub writes-and-erases : (taken place : ℕ) → place + taken ≤ lastPlace Z
+      → count isWrite (operationsFrom Z place taken) + count isErase (operationsFrom Z place taken) ≡ taken
+  unfolding count operationsFrom
+  writes-and-erases zero place h = refl
+  writes-and-erases (suc taken) place h =
+      ap (λ (l : List Operation). count isWrite l + count isErase l) (operationsFrom-suc place taken (omega arith))
+      ∙ first-counted place (operationsFrom Z (suc place) taken) (omega arith) .0 ∙ ap suc (writes-and-erases taken (suc place) (omega arith))
 
-  -- no count is above the steps taken
-  pub few-tallied : (count place : ℕ) → place + count ≤ lastPlace Z
-      → (let t = tallyOf (operationsFrom Z place count) in (t .steps ≤ count) × (t .writes ≤ count) × (t .erases ≤ count))
-  few-tallied count place h =
-      let steps = steps-tallied count place h in
-      let total = tally-total (operationsFrom Z place count) in
-      (omega arith, omega arith, omega arith)
-
-  pub erases-tallied : (count place : ℕ) → place + count ≤ lastPlace Z → tallyOf (operationsFrom Z place count) .erases + place / (m + 1) ≡ (place + count) / (m + 1)
-  unfolding tallyOf operationsFrom
-  erases-tallied zero place h = omega (arith, ap (λ (p : ℕ). p / (m + 1)) (add-zero place))
-  erases-tallied (suc count) place h =
-      let at : suc place + count ≡ place + suc count = omega arith in
-      ap (λ (l : List Operation). tallyOf l .erases + place / (m + 1)) (operationsFrom-suc place count (omega arith))
-      ∙ step-tallied place (tallyOf (operationsFrom Z (suc place) count)) (omega arith) .1
-      ∙ erases-tallied count (suc place) (omega arith)
+  -- an erase for each turn that the steps end
+  pub erases-in : (taken place : ℕ) → place + taken ≤ lastPlace Z → count isErase (operationsFrom Z place taken) + place / (m + 1) ≡ (place + taken) / (m + 1)
+  unfolding count operationsFrom
+  erases-in zero place h = omega (arith, ap (λ (p : ℕ). p / (m + 1)) (add-zero place))
+  erases-in (suc taken) place h =
+      let at : suc place + taken ≡ place + suc taken = omega arith in
+      ap (λ (l : List Operation). count isErase l + place / (m + 1)) (operationsFrom-suc place taken (omega arith))
+      ∙ first-counted place (operationsFrom Z (suc place) taken) (omega arith) .1
+      ∙ erases-in taken (suc place) (omega arith)
       ∙ ap (λ (p : ℕ). p / (m + 1)) at
+
+-- ---- the tally of a run
+same-tally : {s t : Tally} → s .steps ≡ t .steps → s .writes ≡ t .writes → s .erases ≡ t .erases → s .bytes ≡ t .bytes → s ≡ t
+same-tally a b c d = λ i. record { steps = a i; writes = b i; erases = c i; bytes = d i }
+
+-- one step first, or as part of the first of two runs
+tallied-added : (op : Operation) (work : List ℕ) (s t : Tally) → tallied op work (added s t) ≡ added (tallied op work s) t
+unfolding tallied
+tallied-added (write pass b q) work s t = same-tally (omega arith) (omega arith) refl (omega arith)
+tallied-added (erase b) work s t = same-tally (omega arith) refl (omega arith) refl
+tallied-added done work s t = refl
+
+-- one step last
+tallied-last : (op : Operation) (work : List ℕ) (t : Tally) → added t (tallied op work nothingDone) ≡ tallied op work t
+unfolding tallied
+tallied-last (write pass b q) work t = same-tally refl refl (omega arith) (omega arith)
+tallied-last (erase b) work t = same-tally refl (omega arith) refl (omega arith)
+tallied-last done work t = same-tally (omega arith) (omega arith) (omega arith) (omega arith)
+
+module _ (M : Move) where
+  abbrev Z : Sizes
+  Z = M .sizes
+
+  -- some steps, and then more
+  pub tally-split : (a b place : ℕ) (run : Running)
+      → tallyOf M (a + b) place run ≡ added (tallyOf M a place run) (tallyOf M b (place + a) (steps M a place run))
+  unfolding tallyOf steps
+  tally-split zero b place run =
+      ap₂ (λ (x y : ℕ). tallyOf M x y run) (zero-add b) (sym (add-zero place)) ∙ same-tally (omega arith) (omega arith) (omega arith) (omega arith)
+  tally-split (suc a) b place run =
+      let next : Running = step M place run in
+      let done = tallied (operationAt Z place) (next .work) in
+      ap (λ (x : ℕ). tallyOf M x place run) (suc-add a b) ∙ ap done (tally-split a b (suc place) next)
+      ∙ tallied-added (operationAt Z place) (next .work) _ _
+      ∙ ap (λ (x : ℕ). added (done (tallyOf M a (suc place) next)) (tallyOf M b x (steps M a (suc place) next))) (suc-add place a ∙ sym (add-suc place a))
+
+  -- one step more
+  pub tally-next : (i place : ℕ) (run : Running)
+      → tallyOf M (i + 1) place run ≡ tallied (operationAt Z (place + i)) (steps M (i + 1) place run .work) (tallyOf M i place run)
+  unfolding tallyOf steps
+  tally-next i place run =
+      tally-split i 1 place run ∙ tallied-last (operationAt Z (place + i)) (step M (place + i) (steps M i place run) .work) (tallyOf M i place run)
+      ∙ ap (λ (r : Running). tallied (operationAt Z (place + i)) (r .work) (tallyOf M i place run)) (sym (steps-add M i 1 place run))
+
+  -- its writes and erases are those of the operations
+  counted-first : (op : Operation) (work : List ℕ) (t : Tally) (ops : List Operation) → t .writes ≡ count isWrite ops → t .erases ≡ count isErase ops
+      → (tallied op work t .writes ≡ count isWrite (op ∷ ops)) × (tallied op work t .erases ≡ count isErase (op ∷ ops))
+  unfolding tallied count isWrite isErase
+  counted-first (write pass b q) work t ops e f = (omega arith, f)
+  counted-first (erase b) work t ops e f = (e, omega arith)
+  counted-first done work t ops e f = (e, f)
+
+  pub tally-counts : (taken place : ℕ) (run : Running) → place + taken ≤ lastPlace Z
+      → (tallyOf M taken place run .writes ≡ count isWrite (operationsFrom Z place taken))
+      × (tallyOf M taken place run .erases ≡ count isErase (operationsFrom Z place taken))
+  unfolding tallyOf count operationsFrom
+  tally-counts zero place run h = (refl, refl)
+  tally-counts (suc taken) place run h =
+      let next : Running = step M place run in
+      let rest = tally-counts taken (suc place) next (omega arith) in
+      rw (operationsFrom-suc Z place taken (omega arith)) (counted-first (operationAt Z place) (next .work) _ (operationsFrom Z (suc place) taken) (rest .0) (rest .1))
+
+  stepped-first : (place : ℕ) (work : List ℕ) (t : Tally) → place < lastPlace Z → tallied (operationAt Z place) work t .steps ≡ suc (t .steps)
+  unfolding tallied
+  stepped-first place work t h = ⊎-elim
+      (λ (k : filled Z place < Z .m). rw (operation-writes Z place h k) (omega arith))
+      (λ (k : filled Z place ≡ Z .m). rw (operation-erases Z place h k) (omega arith))
+      (page-cases Z place)
+
+  -- as many steps are counted as are taken
+  pub steps-tallied : (taken place : ℕ) (run : Running) → place + taken ≤ lastPlace Z → tallyOf M taken place run .steps ≡ taken
+  unfolding tallyOf
+  steps-tallied zero place run h = refl
+  steps-tallied (suc taken) place run h =
+      stepped-first place _ _ (omega arith) ∙ ap suc (steps-tallied taken (suc place) (step M place run) (omega arith))
+
+  -- no count of steps is above the steps taken
+  pub few-tallied : (taken place : ℕ) (run : Running) → place + taken ≤ lastPlace Z
+      → (let t = tallyOf M taken place run in (t .steps ≤ taken) × (t .writes ≤ taken) × (t .erases ≤ taken))
+  few-tallied taken place run h =
+      let counts = tally-counts taken place run h in
+      let total = writes-and-erases Z taken place h in
+      (omega (arith, steps-tallied taken place run h), omega arith, omega arith)

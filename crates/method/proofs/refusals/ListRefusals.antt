@@ -5,7 +5,7 @@ use Rattle.flash.specs.Geometry.{inRange, listLength}
 use Rattle.flash.specs.Chip.{Chip}
 use Rattle.flash.proofs.Bools.{bool-cases}
 use Rattle.split.specs.Request.{Request}
-use Rattle.method.specs.Answers.{badParts, moveRows, runRows, runRefused, runAnswer, readRows, readAnswer}
+use Rattle.method.specs.Answers.{badParts, moveRows, runRows, runRefused, runAnswer, readRows, readRefused, readAnswer}
 
 not-zero : (ranged : Bool) → eqb (cond ranged 2 1) 0 ≡ false
 not-zero true = refl
@@ -24,6 +24,6 @@ module _ (R : Request) (chip : Chip) (work : List ℕ) (other : inRange (R .size
   unfolding runAnswer runRows
   run-refuses-list place budget = rw (list-refused _, not-zero (inRange (R .sizes)))
 
-  pub read-refuses-list : (k : ℕ) → readAnswer R chip work k ≡ record { number = cond (inRange (R .sizes)) 2 1; count = 0; work = work }
+  pub read-refuses-list : (k : ℕ) → readAnswer R chip work k ≡ readRefused (cond (inRange (R .sizes)) 2 1) work
   unfolding readAnswer readRows
   read-refuses-list k = rw (list-refused _, not-zero (inRange (R .sizes)))

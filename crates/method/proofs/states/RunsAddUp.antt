@@ -35,7 +35,7 @@ pub run-answer : (R : Request) (chip : Chip) (work : List ℕ) (place budget : �
 unfolding runAnswer
 run-answer R chip work place budget e = rw e
 
-taken-in : (Z : Sizes) (place budget : ℕ) → place ≤ lastPlace Z → place + stepsTaken Z place budget ≤ lastPlace Z
+pub taken-in : (Z : Sizes) (place budget : ℕ) → place ≤ lastPlace Z → place + stepsTaken Z place budget ≤ lastPlace Z
 unfolding stepsTaken
 taken-in Z place budget h = omega arith
 
@@ -51,7 +51,7 @@ answers-join : (M : Move) (chip : Chip) (work : List ℕ) (place a b : ℕ)
 unfolding runCarriedOut joined
 answers-join M chip work place a b =
     let start : Running = record { chip = chip; work = work } in
-    let c = tally-split (M .sizes) place a b in
+    let c = tally-split M a b place start in
     let p : place + (a + b) ≡ place + a + b = omega arith in
     let f = ap {B = ℕ} (λ (x : ℕ). cond (eqb x (lastPlace (M .sizes))) 1 0) p in
     let s = steps-add M a b place start in
@@ -152,7 +152,7 @@ module _ (R : Request) (chip : Chip) (S : Start R chip) where
   start-page k = sym (rest-page (move R) start-accepted chip (S .store-length) (S .marks-length) (S .at-rest) k)
 
   module _ (work : List ℕ) (work-length : length work ≡ workLength W) where
-    start-taken : RunTaken R chip work 0
+    pub start-taken : RunTaken R chip work 0
     start-taken = record {
       accepted = start-accepted;
       lent = record { store-length = S .store-length; marks-length = S .marks-length; work-length = work-length };
@@ -177,7 +177,7 @@ module _ (R : Request) (chip : Chip) (S : Start R chip) where
           steps-hold (move R) start-accepted (originalsIn W chip) start-full t 0 (record { chip = chip; work = work }) (omega arith)
           (record { lent = start-taken .lent; stands = start-stands }) start-holds
 
-      after-steps : (runAnswer R chip work 0 t .number ≡ 0) × (runAnswer R chip work 0 t .place ≡ t) × (runAnswer R chip work 0 t .chip ≡ stateOf (move R) (originalsIn W chip) t)
+      pub after-steps : (runAnswer R chip work 0 t .number ≡ 0) × (runAnswer R chip work 0 t .place ≡ t) × (runAnswer R chip work 0 t .chip ≡ stateOf (move R) (originalsIn W chip) t)
       unfolding runCarriedOut
       after-steps =
           let zero-first : 0 + t ≡ t = zero-add t in (

@@ -3,11 +3,12 @@ use mathlib.Core.Path.{_≡_}
 use mathlib.Core.List.{List}
 use Prim.Native.Nat.{ℕ, _≤_}
 use lib.ListN.{length}
+use Rattle.flash.specs.Lists.{count}
 use Rattle.flash.specs.Tables.{refusal}
 use Rattle.split.specs.Request.{Request}
 use Rattle.method.specs.Move.{Move}
 use Rattle.method.specs.Place.{operationAt, lastPlace}
-use Rattle.method.specs.Step.{Running, runningOf, step, steps, tallyOf, operationsFrom}
+use Rattle.method.specs.Step.{Running, runningOf, step, steps, isWrite, isErase, operationsFrom}
 use Rattle.method.specs.Answers.{runRows}
 use Rattle.listing.specs.Lines.{Printed}
 use Rattle.steplist.specs.declared.listed.Shown.{Shown}
@@ -37,5 +38,5 @@ pub record Stepped (M : Move) (place : ℕ) (run : Running) (before : List ℕ) 
   pub left : runningOf store marks work ≡ step M place run
   pub printed : Printed (stepLine place (operationAt (M .sizes) place) work) before at out (shown .at)
   pub short : length (stepLine place (operationAt (M .sizes) place) work) ≤ mostLine
-  pub writes-is : shown .writes ≡ tallyOf (operationsFrom (M .sizes) place 1) .writes
-  pub erases-is : shown .erases ≡ tallyOf (operationsFrom (M .sizes) place 1) .erases
+  pub writes-is : shown .writes ≡ count isWrite (operationsFrom (M .sizes) place 1)
+  pub erases-is : shown .erases ≡ count isErase (operationsFrom (M .sizes) place 1)

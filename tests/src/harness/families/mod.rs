@@ -11,6 +11,7 @@ mod refusals;
 mod small_moves;
 mod torn;
 mod walk;
+mod written_bytes;
 
 use super::compare::{Comparer, Difference};
 use crate::random::Random;
@@ -35,7 +36,7 @@ const EVENTS: Family = Family {
 /// The families that look at demand 3 over whole lists.
 pub static LISTS: [Family; 2] = [EVERY_CUT, EVENTS];
 
-pub static FAMILIES: [Family; 12] = [
+pub static FAMILIES: [Family; 13] = [
     Family {
         name: "refusals, one and two at once",
         cases: refusals::cases,
@@ -59,6 +60,10 @@ pub static FAMILIES: [Family; 12] = [
     Family {
         name: "splits made by another rule",
         cases: other_splits::cases,
+    },
+    Family {
+        name: "written bytes counted",
+        cases: written_bytes::cases,
     },
     EVERY_CUT,
     EVENTS,

@@ -62,6 +62,7 @@ fn nonsense_bytes(scene: &mut Scene, place: usize, random: &mut Random) {
         let mark = scene.flash.marks[slot];
         let bytes = match mark {
             UNWRITTEN => vec![255; scene.sizes.bytes()],
+            _ if random.one_in(4) => vec![255; scene.sizes.bytes()],
             _ => random.bytes(scene.sizes.bytes()),
         };
         scene.flash.put_page(slot, mark, &bytes);

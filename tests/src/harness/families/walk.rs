@@ -17,9 +17,40 @@ pub fn sizes(n: usize, m: usize, page_bytes: usize, s: usize) -> Sizes {
     }
 }
 
+/// One scene in four has pages of every kind, the others have any bytes.
 pub fn scene_with(sizes: Sizes, list: Vec<u16>, random: &mut Random) -> Scene {
+    if random.one_in(4) {
+        let originals = pages(sizes, random);
+        return Scene::at_rest(sizes, list, originals);
+    }
+    any_bytes(sizes, list, random)
+}
+
+pub fn any_bytes(sizes: Sizes, list: Vec<u16>, random: &mut Random) -> Scene {
     let originals = random.bytes(sizes.originals() * sizes.bytes());
     Scene::at_rest(sizes, list, originals)
+}
+
+/// Originals with any bytes, with 255s among them, with nothing but 255s or
+/// zeros, or the one before turned over, so that their sum is 255s.
+pub fn pages(sizes: Sizes, random: &mut Random) -> Vec<u8> {
+    let mut originals = vec![];
+    let mut page = vec![0; sizes.bytes()];
+    for _ in 0..sizes.originals() {
+        let any = random.bytes(sizes.bytes());
+        page = match random.below(5) {
+            0 => any,
+            1 => any
+                .into_iter()
+                .map(|byte| if random.one_in(2) { 255 } else { byte })
+                .collect(),
+            2 => vec![255; sizes.bytes()],
+            3 => vec![0; sizes.bytes()],
+            _ => page.iter().map(|byte| !byte).collect(),
+        };
+        originals.extend(&page);
+    }
+    originals
 }
 
 pub fn random_scene(sizes: Sizes, random: &mut Random) -> Scene {

@@ -5,6 +5,7 @@ use Rattle.flash.specs.Lists.{part}
 use Rattle.flash.specs.PageSum.{sum}
 use Rattle.flash.proofs.PassLaws.{pass-more}
 use Rattle.flash.proofs.SlotLaws.{rest-each}
+use Rattle.flash.proofs.Written.{written-most}
 use Rattle.flash.proofs.slots.sum_to_page.Statement.{statement}
 use Rattle.flash.proofs.slots.sum_to_page.Tie as tie
 
@@ -40,14 +41,15 @@ loop-again c =
 
 returns : tie.Need-returns Inv-loop μ-loop
 returns c =
-    let l = c .before .loop in
-    let a = c .before .before .before .before .before .args in
+    let l = c .before .before .before .loop in
+    let a = c .before .before .before .before .before .before .before .args in
     let all = take-all (l .i) (take (a .count) (a .slots .now)) (omega (arith, length-take-le (a .count) (a .slots .now) (omega arith))) in
-    rw (lt-ltb 0 (l .i) (omega arith), all) at (l .inv .0)
+    let counted = c .count-written .ensures in
+    (rw (lt-ltb 0 (l .i) (omega arith), all) at (l .inv .0), counted, omega (arith, counted, written-most (l .page)))
 
 pub sum-to-page-spec : {M : Type 1} → statement M
 sum-to-page-spec =
     tie.close
     (tie.spec Inv-loop μ-loop loop-holds
     (λ c. search needs) (λ c. search needs) (λ c. search needs) (λ c. search needs) sum-from-requires
-    (λ c. search needs) (λ c. search needs) loop-again (λ c. search needs) returns)
+    (λ c. search needs) (λ c. search needs) loop-again (λ c. search needs) (λ c. search needs) returns)

@@ -2,10 +2,11 @@
 use Rattle.flash.proofs.Kit.{_≡_, _≢_, refl, sym, ap, _∙_, cond, [], _+_, _-_, _*_, _≤_, arith, ltb, length, take, drop, length-take}
 use Rattle.flash.proofs.Kit.{length-drop, length-take-le, take-all, lt-ltb, needs}
 use Rattle.flash.specs.Lists.{part, setPart}
-use Rattle.flash.specs.PageSum.{sum}
+use Rattle.flash.specs.PageSum.{sum, writtenBytes}
 use Rattle.flash.proofs.Parts.{length-part, part-setPart}
 use Rattle.flash.proofs.PassLaws.{passed, length-passed, pass-more}
-use Rattle.flash.proofs.SlotLaws.{rest-each, setPart-self, setPart-twice, passed-kept}
+use Rattle.flash.proofs.SlotLaws.{rest-each, setPart-self, setPart-twice, passed-kept, counted}
+use Rattle.flash.proofs.Written.{written-most}
 use Rattle.flash.proofs.slots.sum_to_slot.Statement.{statement}
 use Rattle.flash.proofs.slots.sum_to_slot.Tie as tie
 
@@ -61,15 +62,22 @@ loop-again c =
 
 returns : tie.Need-returns Inv-loop μ-loop
 returns c =
-    let l = c .before .loop in
-    let a = c .before .before .before .before .args in
+    let l = c .before .before .before .before .loop in
+    let a = c .before .before .before .before .before .before .before .args in
     let all = take-all (l .i) (take (a .count) (a .slots .now)) (omega (arith, length-take-le (a .count) (a .slots .now) (omega arith))) in
     let summed = rw (lt-ltb 0 (l .i) (omega arith), all) at (l .inv .0) in
-    l .inv .1 ∙ ap (setPart (a .p) (a .to) (a .store .now)) summed
+    let page = c .count-written .ensures ∙ counted (a .p) (a .to) (l .store) in
+    let most = written-most (part (a .p) (a .to) (l .store)) in (
+      l .inv .1 ∙ ap (setPart (a .p) (a .to) (a .store .now)) summed,
+      page ∙ ap writtenBytes summed,
+      omega (arith, page, most, length-part (a .p) (a .to) (l .store) (omega arith)),
+    )
 
 pub sum-to-slot-spec : {M : Type 1} → statement M
 sum-to-slot-spec =
     tie.close
     (tie.spec Inv-loop μ-loop loop-holds
     (λ c. search needs) (λ c. search needs) (λ c. search needs) (λ c. search needs) sum-within-requires
-    (λ c. search needs) (λ c. search needs) loop-again (λ c. search needs) returns)
+    (λ c. search needs) (λ c. search needs) loop-again
+    (λ c. search needs) (λ c. search needs) (λ c. search needs) (λ c. search needs) (λ c. search needs) (λ c. search needs) (λ c. search needs)
+    returns)

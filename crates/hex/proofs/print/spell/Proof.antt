@@ -1,8 +1,7 @@
 -- `spell` gives the digits of each byte of an area, and their sum.
 use Rattle.flash.proofs.Kit.{_≡_, refl, _∙_, append-nil, _*_, _-_, _≤_, _<_, arith, length, getD, take, length-set, drop-of-length-le, take-all}
 use Rattle.flash.proofs.Kit.{needs}
-use Rattle.flash.specs.Lists.{concatMap}
-use Rattle.hex.specs.Records.{total}
+use Rattle.flash.specs.Lists.{concatMap, total}
 use Rattle.hex.proofs.Prints.{spelled, spelled-more, total-more}
 use Rattle.hex.proofs.print.spell.Statement.{statement}
 use Rattle.hex.proofs.print.spell.Tie as tie

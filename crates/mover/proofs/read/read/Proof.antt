@@ -144,6 +144,11 @@ sum-to-page-requires c κs =
       (λ j h. rw (L .store-length) (slot-in-store (s .args .sizes) _ (inside j h))),
     )
 
+cast-bytes : tie.Need-cast-bytes
+cast-bytes c =
+    let f = c .before .before .before .before .before .before .before .before .before .before .before in
+    omega (arith, c .before .before .sum-to-page .ensures .2, accepted f .0 .ranges .p-high)
+
 cast-count : tie.Need-cast-count
 cast-count c = omega (arith, gathered (c .before .before .before .before .before) .few)
 
@@ -158,8 +163,8 @@ returns-4 c =
     let f = e .before .before .before .before in
     let s = start f in
     let G = gathered r in
-    rebuilt (asked s) (chip s) (s .args .work .now) (s .args .k) (none f) _ _ (readable (e .before .before) .fits-one) (within e) (count-is _ _ _ _ G)
-    (c .before .before .sum-to-page .ensures ∙ ap (sum (λ t. part (s .args .sizes .p) t (s .args .store .now))) (G .slots-are))
+    rebuilt (asked s) (chip s) (s .args .work .now) (s .args .k) (none f) _ _ _ (readable (e .before .before) .fits-one) (within e) (count-is _ _ _ _ G)
+    (c .before .before .sum-to-page .ensures .0 ∙ ap (sum (λ t. part (s .args .sizes .p) t (s .args .store .now))) (G .slots-are)) (c .before .before .sum-to-page .ensures .1)
 
 pub read-spec : {M : Type 1} → statement M
 read-spec =
@@ -186,6 +191,7 @@ read-spec =
     read-slots-requires
     slice-aggregate-sum-to-page
     sum-to-page-requires
+    cast-bytes
     cast-count
     same-length-4
     returns-4)

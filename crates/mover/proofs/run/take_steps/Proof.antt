@@ -6,7 +6,7 @@ use Rattle.flash.proofs.Bools.{never-both}
 use Rattle.method.specs.declared.tally.Tally.{Tally}
 use Rattle.method.specs.Move.{Move, moveOf}
 use Rattle.method.specs.Place.{lastPlace}
-use Rattle.method.specs.Step.{Running, runningOf, steps, tallyOf, operationsFrom}
+use Rattle.method.specs.Step.{Running, runningOf, steps, tallyOf}
 use Rattle.method.proofs.basics.AcceptedCalls.{stands-at}
 use Rattle.method.proofs.places.Tallies.{few-tallied}
 use Rattle.method.proofs.states.StepsLeadOn.{Stood}
@@ -21,7 +21,7 @@ use Rattle.mover.proofs.run.take_steps.Tie as tie
 abbrev Inv-loop : tie.InvT-loop
 Inv-loop sizes list sets store₀ marks₀ work place budget few pages other₀ tally₀ slots₀ last taken reciprocal at₀ held₀ i₀ store marks other tally slots at held i =
     _≡_ {A = Chip} (record { store = store; marks = marks }) (steps (moveOf sizes list sets) i place (runningOf store₀ marks₀ work) .chip)
-    × (tally ≡ tallyOf (operationsFrom sizes place i)) × (at ≡ placeOf sizes (place + i)) × (i ≤ taken) × OtherTable (moveOf sizes list sets) held other
+    × (tally ≡ tallyOf (moveOf sizes list sets) i place (runningOf store₀ marks₀ work)) × (at ≡ placeOf sizes (place + i)) × (i ≤ taken) × OtherTable (moveOf sizes list sets) held other
     × (length slots ≡ slotsLength)
 
 abbrev μ-loop : tie.MeasureT-loop
@@ -64,7 +64,7 @@ loop-holds c =
     let start = c .before .before .before .before .before .before .before .before .before .before .before in
     let first : start .args .place ≡ start .args .place + 0 = omega arith in (
       none-taken _ _ _,
-      c .before .before .before .before .nothing-done .ensures ∙ none-counted _ _,
+      c .before .before .before .before .nothing-done .ensures ∙ none-counted _ _ _,
       c .new .ensures ∙ ap (placeOf (start .args .sizes)) first,
       omega arith,
       record { sources-tell = λ e. absurd (never-both refl e); sets-tell = λ e. start .pre .3 },
@@ -99,7 +99,7 @@ step-requires c κs =
     let S = standing loop in
     let lent = S .lent in
     let in-move = inside (c .before .before .before .before .before .before .before .before) in
-    let few = counts-fit (moved s) (s .pre .0) (s .args .place) (l .i) (l .tally) (omega arith) (l .inv .1) in
+    let few = counts-fit (moved s) (s .pre .0) (from s) (s .args .place) (s .pre .1) (s .pre .2) (l .i) (l .tally) (omega arith) (l .inv .1) in
     let at = number-is _ _ _ (l .inv .2) in (
       record {
         accepted = s .pre .0;
@@ -131,12 +131,12 @@ loop-again c =
     let at : l .at .at ≡ s .args .place + l .i = number-is _ _ _ (l .inv .2) in
     let on : l .at .at + 1 ≡ s .args .place + (l .i + 1) = omega arith in (
       one-taken (moved s) (s .args .place) (l .i) (from s) _ _ (l .inv .0)
-          (rw at at (step .step .ensures .0)),
-      one-counted (moved s) (s .args .place) (l .i) _ _ (inside inner .0) (l .inv .1) (rw at at (step .step .ensures .1 .0)),
+          (rw at at (step .step .ensures .0 .0)),
+      one-counted (moved s) (s .args .place) (l .i) (from s) _ _ _ (l .inv .0) (l .inv .1) (rw at at (step .step .ensures .0 .1)),
       c .next .ensures ∙ ap (placeOf (s .args .sizes)) on,
       omega arith,
       step .before .before .before .before .before .before .fill-other .ensures,
-      step .step .ensures .1 .1,
+      step .step .ensures .1,
     )
 
 -- where it ends: the place reached is in the move
@@ -147,7 +147,7 @@ sub-keep-last-page : tie.Need-sub-keep-last-page Inv-loop μ-loop
 sub-keep-last-page c =
     let l = c .before .before .before .before in
     let s = start l in
-    let few = few-tallied (s .args .sizes) (l .loop .i) (s .args .place) (omega (arith, placed (l .before .before .before))) in
+    let few = few-tallied (moved s) (l .loop .i) (s .args .place) (from s) (omega (arith, placed (l .before .before .before))) in
     omega (arith, ap (λ (t : Tally). t .writes) (l .loop .inv .1), c .before .if1 .taken)
 
 keep-last-page-requires : tie.Need-keep-last-page-requires Inv-loop μ-loop

@@ -7,7 +7,7 @@ use Rattle.method.specs.Step.{perform, tallied}
 use Rattle.places.specs.inner.Place.{passOf}
 use Rattle.places.proofs.StepTold.{IsWrite, is-write, IsErase, is-erase, told-done}
 use Rattle.mover.specs.inner.Steps.{PassTables}
-use Rattle.mover.proofs.StepLaws.{wrote, stepped, WriteKnown, write-known}
+use Rattle.mover.proofs.StepLaws.{wrote, wrote-bytes, stepped, WriteKnown, write-known}
 use Rattle.mover.proofs.step.step.Statement.{statement}
 use Rattle.mover.proofs.step.step.Tie as tie
 
@@ -80,6 +80,19 @@ add-tally c = omega (arith, start (c .before .before .before .before .before .be
 add-tally-2 : tie.Need-add-tally-2
 add-tally-2 c = omega (arith, start (c .before .before .before .before .before .before .before .before .before .before .before .before .before .before) .pre .1 .6)
 
+-- the bytes of its page are few
+cast-tally : tie.Need-cast-tally
+cast-tally c =
+    let w = c .before .before .before .before in
+    let s = start (w .before .before .before .before .before .before .before .before .before .before) in
+    omega (arith, w .sum-to-slot .ensures .2, s .pre .0 .accepted .ranges .p-high)
+
+add-tally-3 : tie.Need-add-tally-3
+add-tally-3 c =
+    let w = c .before .before .before .before .before in
+    let s = start (w .before .before .before .before .before .before .before .before .before .before) in
+    omega (arith, w .sum-to-slot .ensures .2, s .pre .0 .accepted .ranges .p-high, s .pre .1 .6)
+
 -- ---- it is this erase
 enum-known-block : tie.Need-enum-known-block
 enum-known-block c = search needs
@@ -95,11 +108,11 @@ erase-block-requires c κs =
     let i = erases b .block-in in
     (rw (s .pre .1 .4) (block-in-store (s .args .sizes) block i), rw (s .pre .1 .5) (block-in-marks (s .args .sizes) block i))
 
-add-tally-3 : tie.Need-add-tally-3
-add-tally-3 c = search needs
-
 add-tally-4 : tie.Need-add-tally-4
 add-tally-4 c = search needs
+
+add-tally-5 : tie.Need-add-tally-5
+add-tally-5 c = search needs
 
 enum-told : tie.Need-enum-told
 enum-told c = search needs
@@ -114,15 +127,19 @@ same-length-2 c = search needs
 returns : tie.Need-returns
 unfolding tallied
 returns c =
-    let w = c .before .before .before .before .before .before .before .before .before in
+    let summed = c .before .before .before .before .before .sum-to-slot .ensures in
+    let w = c .before .before .before .before .before .before .before .before .before .before in
     let b = w .before .before .before in
     let s = start (b .before .before) in
     let a = s .args in
     let v = b .backward .given .0 in
     let W = writes b in
-    stepped (moved s) (a .place .at) (write (passOf (v .0)) (v .1 .0) (v .1 .1 .0)) (W .is) _ _ _ _
-    (wrote (moved s) (passOf (v .0)) (v .1 .0) (v .1 .1 .0) (a .store .now) (a .marks .now) _ _ (w .write-slots .result) (v .1 .1 .1 .0)
-    (c .before .before .before .before .sum-to-slot .ensures) (w .write-slots .ensures .1 (a .marks .now) (known b .moment-is)) (W .mark-is)) refl (w .write-slots .ensures .0 .2)
+    let sums = w .write-slots .ensures .1 (a .marks .now) (known b .moment-is) in
+    let pass = passOf (v .0) in
+    let bytes = wrote-bytes (moved s) pass (v .1 .0) (v .1 .1 .0) (a .store .now) (a .marks .now) _ (w .write-slots .result) _ (summed .1) sums in
+    stepped (moved s) (a .place .at) (write pass (v .1 .0) (v .1 .1 .0)) (W .is) _ _ _ _
+    (wrote (moved s) pass (v .1 .0) (v .1 .1 .0) (a .store .now) (a .marks .now) _ _ (w .write-slots .result) (v .1 .1 .1 .0) (summed .0) sums (W .mark-is))
+    (rw (← bytes)) (w .write-slots .ensures .0 .2)
 
 same-length-3 : tie.Need-same-length-3
 same-length-3 c = search needs
@@ -159,10 +176,12 @@ step-spec =
     slice-write-marks
     add-tally
     add-tally-2
+    cast-tally
+    add-tally-3
     enum-known-block
     erase-block-requires
-    add-tally-3
     add-tally-4
+    add-tally-5
     enum-told
     same-length
     same-length-2
