@@ -2,14 +2,22 @@
 -- the answers of the calls see it.
 use mathlib.Core.List.{List}
 use Prim.Native.Nat.{ℕ}
+use lib.ListN.{replicate}
 use Rattle.flash.specs.declared.sizes.Sizes.{Sizes}
+use Rattle.flash.specs.Geometry.{pinsLength}
 
 pub record Request : Type 0 where
   pub sizes : Sizes
   -- rule 1.13: where each original goes
   pub list : List ℕ
+  -- rule 1.18: which originals have to end where they lay
+  pub pins : List ℕ
   -- rule 1.14: the set of each original; split fills them
   pub sets : List ℕ
 
-abbrev pub requestOf : Sizes → (list sets : List ℕ) → Request
-requestOf sizes list sets = record { sizes = sizes; list = list; sets = sets }
+abbrev pub requestOf : Sizes → (list pins sets : List ℕ) → Request
+requestOf sizes list pins sets = record { sizes = sizes; list = list; pins = pins; sets = sets }
+
+-- with no page pinned
+abbrev pub unpinned : Sizes → (list sets : List ℕ) → Request
+unpinned sizes list sets = requestOf sizes list (replicate (pinsLength sizes) 0) sets
