@@ -24,6 +24,7 @@ use Rattle.method.specs.Answers.{runRows, mendRows, readRows}
 use Rattle.method.specs.Runs.{RunsAddUp, StatesReached}
 use Rattle.method.specs.Counts.{RunsCount}
 use Rattle.method.specs.Demand3.{Demand3}
+use Rattle.method.specs.PinsStay.{PinsStay}
 use Rattle.method.specs.Example.{ExampleHolds, BoundsMet}
 use Rattle.method.specs.TwoPages.{TwoPagesHold}
 use Rattle.method.specs.Cases.{CasesHold}
@@ -135,6 +136,7 @@ pub record Claims : Type 0 where
   pub erases-next : ErasesNext
   pub first : FirstReturned
   pub demand-3 : Demand3
+  pub pins : PinsStay
   pub bounds : BoundsMet
   pub example : ExampleHolds
   pub two-pages : (byte : ℕ) → TwoPagesHold byte
