@@ -1,16 +1,17 @@
 -- The refusals of the split call, row by row.
-use Rattle.flash.proofs.Kit.{_≡_, _≢_, Bool, true, false, not, _||_, List, ℕ, _≤_, arith, eqb, length, eqb-true, eq-eqb, ne-eqb, not-true, not-false}
+use Rattle.flash.proofs.Kit.{_≡_, _≢_, refl, Bool, true, false, not, _||_, List, ℕ, zero, suc, _≤_, arith, eqb, length, getD, replicate, eqb-true, eq-eqb, ne-eqb, not-true, not-false}
 use Rattle.flash.specs.Tables.{firstFit, numberOr0, refusal}
 use Rattle.flash.specs.declared.sizes.Sizes.{Sizes}
 use Rattle.flash.specs.Geometry.{inRange, originalCount}
 use Rattle.split.specs.OneToOne.{badList, isOneToOne}
-use Rattle.split.specs.Pins.{movesPinned}
+use Rattle.split.specs.Pins.{isPinned, movesPinned}
 use Rattle.split.specs.Rule.{splitByRule}
 use Rattle.split.specs.Request.{Request}
 use Rattle.split.specs.Answer.{badRequest, splitRows, splitAnswer}
 use Rattle.split.specs.inner.Rows.{Accepted}
 use Rattle.flash.proofs.Bools.{or-false-left, or-false-right}
 use Rattle.flash.proofs.Bounds.{in-range, product-le}
+use Rattle.flash.proofs.Ranges.{none-is}
 use Rattle.flash.proofs.Tables.{refusal-zero}
 
 pub small : (Z : Sizes) → inRange Z ≡ true → originalCount Z ≤ 4096
@@ -120,3 +121,13 @@ module _ (R : Request) where
       → record { number = number; sets = sets } ≡ splitAnswer R
   unfolding splitAnswer
   answered-refused number e ne = rw (← e, ne-eqb number 0 ne)
+
+-- where no page is pinned, none is sent elsewhere
+pub none-pinned : (count : ℕ) (list : List ℕ) → movesPinned (replicate count 0) list ≡ false
+unfolding movesPinned isPinned
+none-pinned count list = none-is _ 0 (length list) (λ k low high. rw (zeros count k))
+  where
+    zeros : (count k : ℕ) → _≡_ {A = ℕ} (getD (replicate count 0) k 0) 0
+    zeros zero k = refl
+    zeros (suc count) zero = refl
+    zeros (suc count) (suc k) = zeros count k
