@@ -22,16 +22,12 @@ numberOr0 (some number) = number
 unfoldable pub refusal : List (Row ℕ) → ℕ
 refusal rows = numberOr0 (firstFit rows)
 
--- Rule 7.8: the order in which the numbers are looked for.
-unfoldable pub order : List ℕ
-order = 1 ∷ 2 ∷ 3 ∷ 11 ∷ 4 ∷ 5 ∷ 6 ∷ 7 ∷ []
-
 -- how many numbers of a list stand before this one
 unfoldable pub before : (number : ℕ) → List ℕ → ℕ
 before number [] = 0
 before number (x ∷ xs) = cond (eqb x number) 0 (suc (before number xs))
 
--- Rule 7.8: a number of the table that applies, and of those the first in that order; 0 exactly where none does.
-pub record First (rows : List (Row ℕ)) (number : ℕ) : Type 0 where
+-- Rule 7.8: a number of the table that applies, and of those the first in an order; 0 exactly where none does.
+pub record First (order : List ℕ) (rows : List (Row ℕ)) (number : ℕ) : Type 0 where
   pub applies : 1 ≤ number → (row : Row ℕ) × List·Memᴰ row rows × (row .fits ≡ true) × (row .gives ≡ number)
   pub first : (row : Row ℕ) → List·Memᴰ row rows → row .fits ≡ true → (1 ≤ number) × (before number order ≤ before (row .gives) order)

@@ -49,7 +49,11 @@ isElsewhere Z chip place =
     ltb (lastPlace Z) place || not (isSame (chip .marks) (marksOf Z place))
     || any (λ t. eqb (markAt (chip .marks) t) erased && not (isBlank (Z .p) chip t)) (range 0 (slotCount Z))
 
--- the rows that run and read share, in the table's order
+-- rule 7.8: the order in which the calls look for the numbers of the table
+unfoldable pub order : List ℕ
+order = 1 ∷ 2 ∷ 3 ∷ 11 ∷ 4 ∷ 5 ∷ 6 ∷ 7 ∷ []
+
+-- the rows that run and read share
 unfoldable pub moveRows : Request → Chip → (work : List ℕ) → (rest : List (Row ℕ)) → List (Row ℕ)
 moveRows R chip work rest =
     record { fits = not (inRange (R .sizes)); gives = 1 }

@@ -20,7 +20,7 @@ use Rattle.method.specs.Read.{fullOf, goBack, goOn, readSlots}
 use Rattle.method.specs.Place.{Pass, write, erase, done, operations, lastPlace, operationAt, passAt, blank, heldAt, marksOf}
 use Rattle.method.specs.Step.{isWrite, isErase, erasesBlock}
 use Rattle.method.specs.Mend.{Reading, lines, reading}
-use Rattle.method.specs.Answers.{runRows, mendRows, readRows}
+use Rattle.method.specs.Answers.{order, runRows, mendRows, readRows}
 use Rattle.method.specs.Runs.{RunsAddUp, StatesReached}
 use Rattle.method.specs.Counts.{RunsCount}
 use Rattle.method.specs.Demand3.{Demand3}
@@ -116,10 +116,10 @@ ErasesNext =
 
 -- rule 7.8: every call gives the first number that applies, in the one order of all calls
 pub record FirstReturned : Type 0 where
-  pub by-split : (R : Request) → First (splitRows R) (refusal (splitRows R))
-  pub by-run : (R : Request) (chip : Chip) (work : List ℕ) (place : ℕ) → First (runRows R chip work place) (refusal (runRows R chip work place))
-  pub by-mend : (Z : Sizes) (chip : Chip) → First (mendRows Z chip) (refusal (mendRows Z chip))
-  pub by-read : (R : Request) (chip : Chip) (work : List ℕ) (k : ℕ) → First (readRows R chip work k) (refusal (readRows R chip work k))
+  pub by-split : (R : Request) → First order (splitRows R) (refusal (splitRows R))
+  pub by-run : (R : Request) (chip : Chip) (work : List ℕ) (place : ℕ) → First order (runRows R chip work place) (refusal (runRows R chip work place))
+  pub by-mend : (Z : Sizes) (chip : Chip) → First order (mendRows Z chip) (refusal (mendRows Z chip))
+  pub by-read : (R : Request) (chip : Chip) (work : List ℕ) (k : ℕ) → First order (readRows R chip work k) (refusal (readRows R chip work k))
 
 pub record Claims : Type 0 where
   pub cases : (byte : ℕ) → CasesHold byte
