@@ -14,8 +14,7 @@ use Rattle.flash.specs.Chip.{Chip, erased, markAt, isBlank, eraseBlock}
 use Rattle.split.specs.OneToOne.{badList}
 use Rattle.split.specs.Split.{isSplit}
 use Rattle.split.specs.Pins.{movesPinned}
-use Rattle.split.specs.Request.{Request}
-use Rattle.split.specs.Answer.{badRequest}
+use Rattle.split.specs.Request.{Request, badRequest}
 use Rattle.method.specs.declared.tally.Tally.{Tally}
 use Rattle.method.specs.Move.{Move, move}
 use Rattle.method.specs.Place.{lastPlace, marksOf}

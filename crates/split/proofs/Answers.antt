@@ -6,8 +6,8 @@ use Rattle.flash.specs.Geometry.{inRange, originalCount}
 use Rattle.split.specs.OneToOne.{badList, isOneToOne}
 use Rattle.split.specs.Pins.{isPinned, movesPinned}
 use Rattle.split.specs.Rule.{splitByRule}
-use Rattle.split.specs.Request.{Request}
-use Rattle.split.specs.Answer.{badRequest, splitRows, splitAnswer}
+use Rattle.split.specs.Request.{Request, badRequest}
+use Rattle.split.specs.Answer.{splitRows, splitAnswer}
 use Rattle.split.specs.inner.Rows.{Accepted}
 use Rattle.flash.proofs.Bools.{or-false-left, or-false-right}
 use Rattle.flash.proofs.Bounds.{in-range, product-le}

@@ -1,21 +1,14 @@
 -- The split call: its refusals and its whole answer.
-use mathlib.Core.Bool.{Bool, cond, _||_, not}
+use mathlib.Core.Bool.{cond, not}
 use mathlib.Core.List.{List, [], _∷_}
 use Prim.Native.Nat.{ℕ}
 use lib.Dec.{eqb}
-use lib.ListN.{length}
 use Rattle.flash.specs.Tables.{Row, refusal}
-use Rattle.flash.specs.Geometry.{inRange, originalCount, listLength, pinsLength, setsLength}
+use Rattle.flash.specs.Geometry.{inRange, originalCount}
 use Rattle.split.specs.OneToOne.{badList}
 use Rattle.split.specs.Pins.{movesPinned}
 use Rattle.split.specs.Rule.{splitByRule}
-use Rattle.split.specs.Request.{Request}
-
--- number 2, of split; run and read are lent more
-unfoldable pub badRequest : Request → Bool
-badRequest R =
-    not (eqb (length (R .list)) (listLength (R .sizes))) || not (eqb (length (R .pins)) (pinsLength (R .sizes)))
-    || not (eqb (length (R .sets)) (setsLength (R .sizes)))
+use Rattle.split.specs.Request.{Request, badRequest}
 
 -- rule 7.9: the rows of the table that the split call gives, in its order
 unfoldable pub splitRows : Request → List (Row ℕ)

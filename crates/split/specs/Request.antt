@@ -1,10 +1,12 @@
 -- What split, run and read are asked to do: the sizes, and the lent parts that say where each page goes. Only the rows of the table and
 -- the answers of the calls see it.
+use mathlib.Core.Bool.{Bool, _||_, not}
 use mathlib.Core.List.{List}
 use Prim.Native.Nat.{ℕ}
-use lib.ListN.{replicate}
+use lib.Dec.{eqb}
+use lib.ListN.{length, replicate}
 use Rattle.flash.specs.declared.sizes.Sizes.{Sizes}
-use Rattle.flash.specs.Geometry.{pinsLength}
+use Rattle.flash.specs.Geometry.{listLength, pinsLength, setsLength}
 
 pub record Request : Type 0 where
   pub sizes : Sizes
@@ -21,3 +23,9 @@ requestOf sizes list pins sets = record { sizes = sizes; list = list; pins = pin
 -- with no page pinned
 abbrev pub unpinned : Sizes → (list sets : List ℕ) → Request
 unpinned sizes list sets = requestOf sizes list (replicate (pinsLength sizes) 0) sets
+
+-- number 2, of split; run and read are lent more
+unfoldable pub badRequest : Request → Bool
+badRequest R =
+    not (eqb (length (R .list)) (listLength (R .sizes))) || not (eqb (length (R .pins)) (pinsLength (R .sizes)))
+    || not (eqb (length (R .sets)) (setsLength (R .sizes)))

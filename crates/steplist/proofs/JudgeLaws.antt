@@ -8,8 +8,8 @@ use Rattle.flash.proofs.Bools.{bool-cases}
 use Rattle.flash.proofs.Tables.{refusal-skip, refusal-nil}
 use Rattle.flash.proofs.Bounds.{range-in}
 use Rattle.split.specs.OneToOne.{badList}
-use Rattle.split.specs.Request.{unpinned}
-use Rattle.split.specs.Answer.{badRequest, splitRows, SplitAnswer, splitAnswer}
+use Rattle.split.specs.Request.{unpinned, badRequest}
+use Rattle.split.specs.Answer.{splitRows, SplitAnswer, splitAnswer}
 use Rattle.split.proofs.Answers.{passed, none-pinned}
 use Rattle.listing.specs.Lines.{refusedLine}
 use Rattle.listing.specs.Input.{isAllowed, request}

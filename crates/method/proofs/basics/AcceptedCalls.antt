@@ -13,8 +13,7 @@ use Rattle.flash.proofs.Ranges.{none-in, none-is}
 use Rattle.flash.proofs.Same.{same-eq, eq-same}
 use Rattle.split.specs.OneToOne.{isOneToOne}
 use Rattle.split.specs.Pins.{movesPinned}
-use Rattle.split.specs.Request.{Request}
-use Rattle.split.specs.Answer.{badRequest}
+use Rattle.split.specs.Request.{Request, badRequest}
 use Rattle.split.proofs.Answers.{lengths-are}
 use Rattle.method.specs.Move.{move, AcceptedMove, Lent}
 use Rattle.method.specs.Place.{lastPlace, marksOf}

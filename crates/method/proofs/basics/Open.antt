@@ -8,7 +8,8 @@ use Rattle.split.specs.OneToOne.{metTwice, badList, isOneToOne}
 use Rattle.split.specs.Split.{sourceBlock, destBlock, setOf, pagesFrom, pagesTo, isSplit}
 use Rattle.split.specs.Pins.{isPinned, movesPinned}
 use Rattle.split.specs.Rule.{otherEnd, swapped, blockAt, isPageOf, isUsed, lowestUnused, pagesMet, exchange, giveNext, setsGiven, splitByRule}
-use Rattle.split.specs.Answer.{badRequest, splitRows, splitAnswer}
+use Rattle.split.specs.Answer.{splitRows, splitAnswer}
+use Rattle.split.specs.Request.{badRequest}
 use Rattle.method.specs.Cycle.{highest, D, dest, pred, cycle, top, isTop, coded, sentTo}
 use Rattle.method.specs.Place.{markOf, writes, forwardTurn, backwardTurn, operations, lastPlace, operationAt, passAt, filling, filled, written, above, heldAt, heldMark, marksOf}
 use Rattle.method.specs.Read.{fullOf, codedSlot, plainSlot, finalSlot, goBack, goOn, readSlots, readPage}

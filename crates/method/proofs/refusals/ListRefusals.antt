@@ -4,8 +4,7 @@ use Rattle.flash.specs.Tables.{Row, refusal, firstFit, numberOr0}
 use Rattle.flash.specs.Geometry.{inRange, listLength}
 use Rattle.flash.specs.Chip.{Chip}
 use Rattle.flash.proofs.Bools.{bool-cases}
-use Rattle.split.specs.Request.{Request}
-use Rattle.split.specs.Answer.{badRequest}
+use Rattle.split.specs.Request.{Request, badRequest}
 use Rattle.method.specs.Answers.{badParts, moveRows, runRows, runRefused, runAnswer, readRows, readRefused, readAnswer}
 
 not-zero : (ranged : Bool) → eqb (cond ranged 2 1) 0 ≡ false

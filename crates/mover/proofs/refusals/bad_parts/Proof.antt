@@ -1,6 +1,6 @@
 -- A lent part is found to be of another length just where number 2 is due.
 use Rattle.flash.proofs.Kit.{needs}
-use Rattle.split.specs.Answer.{badRequest}
+use Rattle.split.specs.Request.{badRequest}
 use Rattle.method.specs.Answers.{badChip, badParts}
 use Rattle.mover.proofs.refusals.bad_parts.Statement.{statement}
 use Rattle.mover.proofs.refusals.bad_parts.Tie as tie

@@ -3,8 +3,7 @@ use Rattle.flash.proofs.Kit.{_≡_, sym, _∙_, true, false, arith, not-true, n
 use Rattle.flash.specs.Geometry.{inRange, originalCount}
 use Rattle.flash.proofs.Bounds.{in-range}
 use Rattle.split.specs.OneToOne.{isOneToOne}
-use Rattle.split.specs.Request.{Request, requestOf}
-use Rattle.split.specs.Answer.{badRequest}
+use Rattle.split.specs.Request.{Request, requestOf, badRequest}
 use Rattle.split.proofs.Answers.{small, gives-1, gives-2, gives-3, gives-11, gives-0, lengths-are}
 use Rattle.split.proofs.call.refusal.Statement.{statement}
 use Rattle.split.proofs.call.refusal.Tie as tie
