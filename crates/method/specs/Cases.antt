@@ -144,7 +144,7 @@ half = unpinned (record { n = 2; m = 1; p = 2; s = 0 }) (1 ∷ 0 ∷ []) (0 ∷ 
 abbrev pub halfAtRest : Chip
 halfAtRest = chip (255 ∷ 255 ∷ 255 ∷ 3 ∷ 255 ∷ 255 ∷ []) (255 ∷ 0 ∷ 0 ∷ [])
 
--- the first page of the two is pinned, and so is the last, which stays as well
+-- two blocks of two pages, with pins
 abbrev pub twoPinned : (list pins sets : List ℕ) → Request
 twoPinned list pins sets = requestOf (sizes 2 2) list pins sets
 
