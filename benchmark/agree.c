@@ -1,13 +1,14 @@
 /* The two movers do the same work only if they give the same answers, refusals and odd bytes included. */
 #include "agree.h"
 #include "../examples/demo/random.h"
+#include "mover.h"
 
 #include <string.h>
 
-/* One fault, or none: a size, a length, an entry, a set, a mark, a byte. */
+/* One fault, or none: a size, a length, an entry, a pin, a set, a mark, a byte; or all pinned, beside a fault that comes before or after. */
 static void spoil(struct scene *z, uint64_t *random)
 {
-    switch (random_below(random, 24)) {
+    switch (random_below(random, 32)) {
     case 0: z->n = random_below(random, 3) * 40; break;
     case 1: z->m = random_below(random, 3) * 40; break;
     case 2: z->page_bytes = random_below(random, 2) * 5000; break;
@@ -23,6 +24,12 @@ static void spoil(struct scene *z, uint64_t *random)
     case 12: z->marks[random_below(random, (uint32_t)z->marks_len)] = (uint8_t)random_below(random, 5); break;
     case 13: z->store[random_below(random, (uint32_t)z->store_len)] = (uint8_t)random_below(random, 256); break;
     case 14: memset(z->marks + random_below(random, z->n + 1) * z->m, 255, z->m); break;
+    case 15: z->pins_len -= 1; break;
+    case 16: z->pins[random_below(random, (uint32_t)z->pins_len)] = (uint8_t)random_below(random, 256); break;
+    case 17: memset(z->pins, 1, z->pins_len); break;
+    case 18: memset(z->pins, 1, z->pins_len); z->list[0] ^= 1; break;
+    case 19: memset(z->pins, 1, z->pins_len); z->sets[0] = 255; break;
+    case 20: memset(z->pins, 1, z->pins_len); z->marks[0] = 3; break;
     default: break;
     }
 }
@@ -54,11 +61,24 @@ static void mix_erased(struct scene *z, uint64_t *random)
             z->store[i] = 255;
 }
 
+/* Half of the lists keep every page from some number on, and all that stays is pinned, by any byte that is not 0. */
+static void pin_some(struct scene *z, uint64_t *random)
+{
+    uint32_t count = z->n * z->m, first = random_below(random, count + 1);
+    if (random_below(random, 2) == 0)
+        for (uint32_t k = 0; k < count; k++)
+            mover_send(z->list, k, k < first ? first - 1 - k : k);
+    for (uint32_t k = 0; k < count; k++)
+        if (z->list[2 * k] + 256u * z->list[2 * k + 1] == k)
+            z->pins[k] = (uint8_t)(1 + random_below(random, 255));
+}
+
 /* Makes a move that stands somewhere. */
 static void make_standing(struct scene *z, const struct mover *mover, uint32_t place, uint32_t n, uint32_t m, uint64_t *random)
 {
     scene_make(z, n, m, any_length(n * m, random), random_below(random, 8) == 0 ? CYCLE_UP : RANDOM, random);
     mix_erased(z, random);
+    pin_some(z, random);
     z->s = random_below(random, 3);
     memset(z->marks + m, (int)z->s, (size_t)n * m);
     call_split(mover, z);

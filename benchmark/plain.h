@@ -5,10 +5,11 @@
 #include <stdint.h>
 
 uint32_t plain_split(uint32_t n, uint32_t m, uint32_t page_bytes, uint32_t s,
-                     const uint8_t *list, uint64_t list_len, uint8_t *sets, uint64_t sets_len);
+                     const uint8_t *list, uint64_t list_len, const uint8_t *pins, uint64_t pins_len,
+                     uint8_t *sets, uint64_t sets_len);
 
 uint32_t plain_run(uint32_t n, uint32_t m, uint32_t page_bytes, uint32_t s,
-                   const uint8_t *list, uint64_t list_len, const uint8_t *sets, uint64_t sets_len,
+                   const uint8_t *list, uint64_t list_len, const uint8_t *pins, uint64_t pins_len, const uint8_t *sets, uint64_t sets_len,
                    uint8_t *store, uint64_t store_len, uint8_t *marks, uint64_t marks_len, uint8_t *work, uint64_t work_len,
                    uint32_t place, uint32_t budget,
                    uint32_t *place_reached, uint32_t *steps, uint32_t *writes, uint32_t *erases, uint32_t *finished,
@@ -19,7 +20,7 @@ uint32_t plain_mend(uint32_t n, uint32_t m, uint32_t page_bytes, uint32_t s,
                     uint32_t *place, uint32_t *erases);
 
 uint32_t plain_read(uint32_t n, uint32_t m, uint32_t page_bytes, uint32_t s,
-                    const uint8_t *list, uint64_t list_len, const uint8_t *sets, uint64_t sets_len,
+                    const uint8_t *list, uint64_t list_len, const uint8_t *pins, uint64_t pins_len, const uint8_t *sets, uint64_t sets_len,
                     const uint8_t *store, uint64_t store_len, const uint8_t *marks, uint64_t marks_len,
                     uint8_t *work, uint64_t work_len, uint32_t original, uint32_t *count, uint32_t *written_bytes);
 

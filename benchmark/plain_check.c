@@ -1,4 +1,4 @@
-/* By hand: is the list one-to-one, are the sets a split of it, and the sets as tables. */
+/* By hand: is the list one-to-one, does it keep what is pinned, are the sets a split of it, and the sets as tables. */
 #include "plain_inner.h"
 
 /* Numbers below 4,096 may index a table. */
@@ -28,6 +28,17 @@ int plain_one_to_one(const uint8_t *list, uint32_t originals)
     for (size_t k = 0; k < originals; k++)
         met[entry(list, k)] = 1;
     return all_are(met, originals, 1);
+}
+
+/* Most stores have no pins, which memcmp sees soonest. Else a loop of 16 bits without a branch, which vectors take. */
+int plain_moves_pinned(const uint8_t *list, const uint8_t *pins, uint32_t originals)
+{
+    uint16_t moved = 0;
+    if (all_are(pins, originals, 0))
+        return 0;
+    for (uint32_t k = 0; k < originals; k++)
+        moved |= (uint16_t)((uint16_t)(entry(list, k) ^ k) & (pins[k] == 0 ? 0 : 0xFFFF));
+    return moved != 0;
 }
 
 /* The sets of a row of pages, as bits; two words, so that one need not wait for the other. */
@@ -68,20 +79,25 @@ static int carries(const struct sizes *z, const uint8_t *list, const uint8_t *se
     return lacking == 0;
 }
 
-uint32_t plain_refusal(const struct sizes *z, const uint8_t *list, uint64_t list_len, const uint8_t *sets, uint64_t sets_len,
-                       uint64_t store_len, uint64_t marks_len, uint64_t work_len, uint8_t *set_of)
+uint32_t plain_refusal(const struct sizes *z, const uint8_t *list, uint64_t list_len, const uint8_t *pins, uint64_t pins_len,
+                       const uint8_t *sets, uint64_t sets_len, uint64_t store_len, uint64_t marks_len, uint64_t work_len,
+                       uint8_t *set_of)
 {
     uint32_t originals, slots;
+    int good;
     if (!sizes_fit(z))
         return 1;
     originals = z->n * z->m;
     slots = originals + z->m;
-    if (list_len != 2 * originals || sets_len != originals || store_len != (uint64_t)slots * z->p || marks_len != slots
-        || work_len != z->p)
+    if (list_len != 2 * originals || pins_len != originals || sets_len != originals || store_len != (uint64_t)slots * z->p
+        || marks_len != slots || work_len != z->p)
         return 2;
-    if (carries(z, list, sets, set_of))
-        return 0;
-    return plain_one_to_one(list, originals) ? 4 : 3;
+    good = carries(z, list, sets, set_of);
+    if (!good && !plain_one_to_one(list, originals))
+        return 3;
+    if (plain_moves_pinned(list, pins, originals))
+        return 11;
+    return good ? 0 : 4;
 }
 
 void plain_row(struct row *row, const struct sizes *z, const uint8_t *list, const uint8_t *sets, uint32_t set)

@@ -59,10 +59,13 @@ struct row {
     uint8_t page[BLOCKS], to[BLOCKS], from[BLOCKS];
 };
 
-/* plain_check.c: lists, sets, and the refusals 1 to 4 of run and read. set_of gets the set of the original that goes to each number. */
+/* plain_check.c: lists, pins, sets, and the refusals 1, 2, 3, 11 and 4 of run and read. set_of gets the set of the original that goes to
+ * each number. */
 int plain_one_to_one(const uint8_t *list, uint32_t originals);
-uint32_t plain_refusal(const struct sizes *z, const uint8_t *list, uint64_t list_len, const uint8_t *sets, uint64_t sets_len,
-                       uint64_t store_len, uint64_t marks_len, uint64_t work_len, uint8_t *set_of);
+int plain_moves_pinned(const uint8_t *list, const uint8_t *pins, uint32_t originals);
+uint32_t plain_refusal(const struct sizes *z, const uint8_t *list, uint64_t list_len, const uint8_t *pins, uint64_t pins_len,
+                       const uint8_t *sets, uint64_t sets_len, uint64_t store_len, uint64_t marks_len, uint64_t work_len,
+                       uint8_t *set_of);
 void plain_row(struct row *row, const struct sizes *z, const uint8_t *list, const uint8_t *sets, uint32_t set);
 void plain_rows(struct row *rows, const struct sizes *z, const uint8_t *list, const uint8_t *sets);
 

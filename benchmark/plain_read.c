@@ -89,7 +89,7 @@ static uint32_t gather(struct reading *r, const struct moment *at, uint32_t v)
 }
 
 uint32_t plain_read(uint32_t n, uint32_t m, uint32_t page_bytes, uint32_t s,
-                    const uint8_t *list, uint64_t list_len, const uint8_t *sets, uint64_t sets_len,
+                    const uint8_t *list, uint64_t list_len, const uint8_t *pins, uint64_t pins_len, const uint8_t *sets, uint64_t sets_len,
                     const uint8_t *store, uint64_t store_len, const uint8_t *marks, uint64_t marks_len,
                     uint8_t *work, uint64_t work_len, uint32_t original, uint32_t *count, uint32_t *written_bytes)
 {
@@ -97,7 +97,7 @@ uint32_t plain_read(uint32_t n, uint32_t m, uint32_t page_bytes, uint32_t s,
     struct moment at;
     struct reading r;
     uint8_t set_of[ORIGINALS];
-    uint32_t number = plain_refusal(&z, list, list_len, sets, sets_len, store_len, marks_len, work_len, set_of);
+    uint32_t number = plain_refusal(&z, list, list_len, pins, pins_len, sets, sets_len, store_len, marks_len, work_len, set_of);
     *count = *written_bytes = 0;
     if (number != 0)
         return number;

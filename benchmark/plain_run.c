@@ -112,7 +112,7 @@ static uint32_t take_steps(struct running *r, uint32_t steps)
 }
 
 uint32_t plain_run(uint32_t n, uint32_t m, uint32_t page_bytes, uint32_t s,
-                   const uint8_t *list, uint64_t list_len, const uint8_t *sets, uint64_t sets_len,
+                   const uint8_t *list, uint64_t list_len, const uint8_t *pins, uint64_t pins_len, const uint8_t *sets, uint64_t sets_len,
                    uint8_t *store, uint64_t store_len, uint8_t *marks, uint64_t marks_len, uint8_t *work, uint64_t work_len,
                    uint32_t place, uint32_t budget,
                    uint32_t *place_reached, uint32_t *steps, uint32_t *writes, uint32_t *erases, uint32_t *finished,
@@ -122,7 +122,7 @@ uint32_t plain_run(uint32_t n, uint32_t m, uint32_t page_bytes, uint32_t s,
     uint32_t end, taken, number;
     *place_reached = *steps = *writes = *erases = *finished = *written_bytes = 0;
     r.z = (struct sizes){n, m, page_bytes, s};
-    number = plain_refusal(&r.z, list, list_len, sets, sets_len, store_len, marks_len, work_len, r.set_of);
+    number = plain_refusal(&r.z, list, list_len, pins, pins_len, sets, sets_len, store_len, marks_len, work_len, r.set_of);
     if (number != 0)
         return number;
     end = 2 * n * (m + 1);

@@ -69,15 +69,18 @@ static void colour(size_t n, size_t m, const uint8_t *list, uint8_t *sets)
 }
 
 uint32_t plain_split(uint32_t n, uint32_t m, uint32_t page_bytes, uint32_t s,
-                     const uint8_t *list, uint64_t list_len, uint8_t *sets, uint64_t sets_len)
+                     const uint8_t *list, uint64_t list_len, const uint8_t *pins, uint64_t pins_len,
+                     uint8_t *sets, uint64_t sets_len)
 {
     struct sizes z = {n, m, page_bytes, s};
     if (!sizes_fit(&z))
         return 1;
-    if (list_len != 2 * n * m || sets_len != n * m)
+    if (list_len != 2 * n * m || pins_len != n * m || sets_len != n * m)
         return 2;
     if (!plain_one_to_one(list, n * m))
         return 3;
+    if (plain_moves_pinned(list, pins, n * m))
+        return 11;
     colour(n, m, list, sets);
     return 0;
 }

@@ -9,16 +9,17 @@
 struct answer call_split(const struct mover *mover, struct scene *z)
 {
     struct answer answer = {0, {0}};
-    answer.number = mover->split(z->n, z->m, z->page_bytes, z->s, z->list, z->list_len, z->sets, z->sets_len);
+    answer.number = mover->split(z->n, z->m, z->page_bytes, z->s, z->list, z->list_len, z->pins, z->pins_len, z->sets,
+                                z->sets_len);
     return answer;
 }
 
 struct answer call_run(const struct mover *mover, struct scene *z, uint32_t place, uint32_t budget)
 {
     struct answer a;
-    a.number = mover->run(z->n, z->m, z->page_bytes, z->s, z->list, z->list_len, z->sets, z->sets_len, z->store, z->store_len, z->marks,
-                          z->marks_len, z->work, z->work_len, place, budget, &a.out[0], &a.out[1], &a.out[2], &a.out[3], &a.out[4],
-                          &a.out[5]);
+    a.number = mover->run(z->n, z->m, z->page_bytes, z->s, z->list, z->list_len, z->pins, z->pins_len, z->sets, z->sets_len,
+                          z->store, z->store_len, z->marks, z->marks_len, z->work, z->work_len, place, budget, &a.out[0], &a.out[1],
+                          &a.out[2], &a.out[3], &a.out[4], &a.out[5]);
     return a;
 }
 
@@ -32,8 +33,8 @@ struct answer call_mend(const struct mover *mover, struct scene *z)
 struct answer call_read(const struct mover *mover, struct scene *z, uint32_t original)
 {
     struct answer a = {0, {0}};
-    a.number = mover->read(z->n, z->m, z->page_bytes, z->s, z->list, z->list_len, z->sets, z->sets_len, z->store, z->store_len,
-                           z->marks, z->marks_len, z->work, z->work_len, original, &a.out[0], &a.out[1]);
+    a.number = mover->read(z->n, z->m, z->page_bytes, z->s, z->list, z->list_len, z->pins, z->pins_len, z->sets, z->sets_len,
+                           z->store, z->store_len, z->marks, z->marks_len, z->work, z->work_len, original, &a.out[0], &a.out[1]);
     return a;
 }
 
@@ -64,11 +65,13 @@ uint8_t *take(uint64_t bytes)
 static void make_parts(struct scene *z)
 {
     z->list_len = mover_list_bytes(z->n, z->m);
+    z->pins_len = mover_pins_bytes(z->n, z->m);
     z->sets_len = mover_sets_bytes(z->n, z->m);
     z->store_len = mover_store_bytes(z->n, z->m, z->page_bytes);
     z->marks_len = mover_marks_bytes(z->n, z->m);
     z->work_len = z->page_bytes;
     z->list = take(z->list_len);
+    z->pins = take(z->pins_len);
     z->sets = take(z->sets_len);
     z->store = take(z->store_len);
     z->marks = take(z->marks_len);
@@ -108,6 +111,7 @@ void scene_make(struct scene *z, uint32_t n, uint32_t m, uint32_t page_bytes, en
     z->text = NULL;
     make_parts(z);
     make_list(z, order, random);
+    memset(z->pins, 0, z->pins_len);
     memset(z->sets, 0, z->sets_len);
     memset(z->store, 255, z->store_len);
     memset(z->marks, 255, z->marks_len);
@@ -121,6 +125,7 @@ void scene_copy(struct scene *to, const struct scene *from)
     *to = *from;
     make_parts(to);
     memcpy(to->list, from->list, from->list_len);
+    memcpy(to->pins, from->pins, from->pins_len);
     memcpy(to->sets, from->sets, from->sets_len);
     memcpy(to->store, from->store, from->store_len);
     memcpy(to->marks, from->marks, from->marks_len);
@@ -130,6 +135,7 @@ void scene_copy(struct scene *to, const struct scene *from)
 void scene_free(struct scene *z)
 {
     free(z->list);
+    free(z->pins);
     free(z->sets);
     free(z->store);
     free(z->marks);

@@ -1,12 +1,13 @@
-/* The example of include/mover.h, on case P3 of docs/RULES.md: 2 blocks of 2 pages of one byte, pages 1 and 2 trade places. */
+/* The example of include/mover.h, on case P3 of docs/RULES.md: 2 blocks of 2 pages of one byte, pages 1 and 2 trade
+ * places, and pages 0 and 3 are pinned. */
 #include <mover.h>
 #include <string.h>
 
 int main(void)
 {
-    static const uint8_t list[8] = {0, 0, 2, 0, 1, 0, 3, 0}, due[6] = {255, 255, 1, 4, 2, 8};
+    static const uint8_t list[8] = {0, 0, 2, 0, 1, 0, 3, 0}, due[6] = {255, 255, 1, 4, 2, 8}, pins[4] = {1, 0, 0, 1};
     uint8_t sets[4], store[6] = {255, 255, 1, 2, 4, 8}, marks[6] = {255, 255, 0, 0, 0, 0}, work[1];
-    struct mover_move move = {2, 2, 1, 0, list, sets, store, marks, work};
+    struct mover_move move = {2, 2, 1, 0, list, pins, sets, store, marks, work};
     struct mover_state at;
     uint32_t number;
 

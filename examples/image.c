@@ -6,8 +6,8 @@
 
 enum { N = 4, M = 2, P = 16, S = 0, LONGEST = 65536 };
 
-static uint8_t list[2 * N * M], sets[N * M], store[(N + 1) * M * P], marks[(N + 1) * M], work[P], text[LONGEST];
-static const struct mover_move move = {N, M, P, S, list, sets, store, marks, work};
+static uint8_t list[2 * N * M], pins[N * M], sets[N * M], store[(N + 1) * M * P], marks[(N + 1) * M], work[P], text[LONGEST];
+static const struct mover_move move = {N, M, P, S, list, pins, sets, store, marks, work};
 
 static int fail(const char *what, uint32_t number)
 {

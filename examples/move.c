@@ -5,8 +5,9 @@
 
 enum { N = 3, M = 2, P = 8, S = 0 };
 
+static const uint8_t pins[N * M] = {1, 0, 0, 1, 0, 0};                  /* pages 0 and 3 must stay */
 static uint8_t list[2 * N * M], sets[N * M], store[(N + 1) * M * P], marks[(N + 1) * M], work[P];
-static const struct mover_move move = {N, M, P, S, list, sets, store, marks, work};
+static const struct mover_move move = {N, M, P, S, list, pins, sets, store, marks, work};
 
 int main(void)
 {
@@ -18,7 +19,7 @@ int main(void)
     memset(marks + M, S, N * M);                                        /* .. and the data blocks are marked s */
     for (k = 0; k < N * M; k++) {
         memset(store + (M + k) * P, 'a' + (int)k, P);                   /* page k is full of one letter */
-        mover_send(list, k, (k + 3) % (N * M));                         /* and goes three pages on */
+        mover_send(list, k, pins[k] ? k : (k + 3) % (N * M));           /* and stays or goes three pages on */
     }
 
     if (mover_split_move(&move) != MOVER_DONE || mover_run_move(&move, 0, 10, &at) != MOVER_DONE)
@@ -27,9 +28,9 @@ int main(void)
     marks[3 * M + 1] = 255;                                             /* power fails inside the write of step 10 .. */
     memset(store + (3 * M + 1) * P, '?', P);                            /* .. and leaves anything on that page */
 
-    if (mover_read_move(&move, 0, &count, &bytes) != MOVER_DONE)        /* every page can still be read */
+    if (mover_read_move(&move, 1, &count, &bytes) != MOVER_DONE)        /* every page can still be read */
         return 1;
-    printf("page 0 is %.*s, the sum of %u stored pages\n", P, (const char *)work, (unsigned)count);
+    printf("page 1 is %.*s, the sum of %u stored pages\n", P, (const char *)work, (unsigned)count);
 
     if (mover_mend_move(&move, &at) != MOVER_DONE)                      /* power is back: recovery, then the rest */
         return 1;
@@ -38,5 +39,5 @@ int main(void)
         return 1;
     printf("the rest of the move programmed %u bytes that are not 255\n", (unsigned)at.written_bytes);
     printf("%.*s\n", N * M * P, (const char *)store + M * P);
-    return memcmp(store + M * P, "ddddddddeeeeeeeeffffffffaaaaaaaabbbbbbbbcccccccc", N * M * P) != 0;
+    return memcmp(store + M * P, "aaaaaaaaeeeeeeeeffffffffddddddddbbbbbbbbcccccccc", N * M * P) != 0;
 }

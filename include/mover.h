@@ -4,13 +4,14 @@
  * own, by a list. It is a row of 2 * n * (m + 1) steps; a step writes one page or erases one block. Power may fail at any moment:
  * recovery brings the move to a place from which it goes on, and every original page can be read all the time.
  *
- * Besides the flash, these must outlast a power cut until the move is finished: the list, n, m, page_bytes and s; the sets too,
- * unless mover_split makes them again from the same list. A page's mark must be programmed last, or together with the page: a
+ * Besides the flash, these must outlast a power cut until the move is finished: the list, the pins, n, m, page_bytes and s; the sets
+ * too, unless mover_split makes them again from the same list. A page's mark must be programmed last, or together with the page: a
  * page whose write was cut must show mark 255. What else a cut may leave: pages of a block that was being erased, each as it was,
  * or with mark 255 and any bytes.
  *
  * Every call is total: it takes any numbers and any lengths, tests them, and either carries out the request and returns 0, or
- * returns the first refusal number that fits. No call allocates, prints or keeps anything.
+ * returns the first refusal number that fits: they are looked for in the order in which the call's comment names them. No call
+ * allocates, prints or keeps anything.
  *
  * Numbers in
  *   n            data blocks, 1 to 64; they are blocks 1 to n, and the spare is block 0
@@ -24,6 +25,8 @@
  *
  * Lent parts: a pointer and a length in bytes, which must be exact. NULL goes with length 0.
  *   list         2 * n * m bytes: entry k, two bytes, low byte first, is the page number 0 to n * m - 1 where original k goes
+ *   pins         n * m bytes: where byte k is not 0, original k is pinned: it must end at its old address, and a list that sends it
+ *                elsewhere is refused. Without pins: n * m zeros. The same through the whole move
  *   sets         n * m bytes: the set of each original, 0 to m - 1, as mover_split fills them; the same through the whole move
  *   store        (n + 1) * m * page_bytes bytes: the pages, block after block, the spare first
  *   marks        (n + 1) * m bytes, one a page in the same order: 0, 1 or 2 where a page is written, 255 where none is
@@ -32,10 +35,10 @@
  *
  * Before a move the pages of blocks 1 to n have mark s, and those of block 0 have mark 255 and bytes 255 throughout.
  *
- * WHAT MUST SURVIVE A POWER CUT: the list (or how to make it again), the sizes and s, outside the blocks that move, and a note of your own
- * that a move is pending. The sets can be made again by mover_split. At start-up, if a move is pending: mover_split, mover_mend, mover_run;
- * after the finish the note is cleared and s moves on. A wrong s, list or split is not noticed, and gives nonsense. Without a pending move
- * mover_mend is not called: it would erase the blank spare.
+ * WHAT MUST SURVIVE A POWER CUT: list and pins (or how to make them again), the sizes and s, outside the blocks that move, and a note of
+ * your own that a move is pending. The sets can be made again by mover_split. At start-up, if a move is pending: mover_split, mover_mend,
+ * mover_run; after the finish the note is cleared and s moves on. A wrong s, list or split is not noticed, and gives nonsense. Without a
+ * pending move mover_mend is not called: it would erase the blank spare.
  *
  * On a chip a mark must not be a bare byte, which may read as another letter after a cut: keep a code word and a checksum, and give 255 for
  * whatever is not exact (docs/CHIPS.md).
@@ -67,7 +70,8 @@ enum mover_refusal {
     MOVER_BAD_ORIGINAL = 7,  /* original number at or above n * m */
     MOVER_BAD_RECORD = 8,    /* a HEX record of another form or type, or with a wrong checksum */
     MOVER_BAD_ADDRESS = 9,   /* a HEX data byte outside the image, or a record that runs over a 64 KiB span */
-    MOVER_BAD_TEXT = 10      /* a HEX data byte given twice, no end record, or anything after it */
+    MOVER_BAD_TEXT = 10,     /* a HEX data byte given twice, no end record, or anything after it */
+    MOVER_BAD_PINS = 11      /* the list sends a pinned page elsewhere; this comes between 3 and 4 */
 };
 
 /* What the step at a place does. */
@@ -79,9 +83,10 @@ enum mover_kind {
 
 /* Splits the list into m sets, in each of which every data block sends one page and gets one, and fills `sets`. What was in `sets`
  * does not matter. The same list always gives the same sets, so after a power cut they can be made again from the list.
- * Returns 0, or 1, 2 or 3. */
+ * Returns 0, or 1, 2, 3 or 11. */
 uint32_t mover_split(uint32_t n, uint32_t m, uint32_t page_bytes, uint32_t s,
-                     const uint8_t *list, uint64_t list_len, uint8_t *sets, uint64_t sets_len);
+                     const uint8_t *list, uint64_t list_len, const uint8_t *pins, uint64_t pins_len,
+                     uint8_t *sets, uint64_t sets_len);
 
 /* Takes steps of the move from `place` on: `budget` of them, or up to the last one if that is sooner. A budget of 0 only tests.
  *   *place_reached  the place after the last step taken, where the next run goes on
@@ -89,10 +94,11 @@ uint32_t mover_split(uint32_t n, uint32_t m, uint32_t page_bytes, uint32_t s,
  *   *finished       1 if the place reached is 2 * n * (m + 1), else 0
  *   *written_bytes  how many bytes of the pages written, all together, are not 255: the load of programming them. 0 to *writes * page_bytes,
  *                   and never above 2 * n * m * page_bytes, which is at most 33554432
- * Changes `store`, `marks` and `work`; `work` is left with the last page written, or as it was if none was.
- * Returns 0, or 1, 2, 3, 4 or 5. */
+ * Changes `store`, `marks` and `work`; `work` is left with the last page written, or as it was if none was. A pinned page travels
+ * like any other and lies at its old address again only from when it is written there in the second pass.
+ * Returns 0, or 1, 2, 3, 11, 4 or 5. */
 uint32_t mover_run(uint32_t n, uint32_t m, uint32_t page_bytes, uint32_t s,
-                   const uint8_t *list, uint64_t list_len, const uint8_t *sets, uint64_t sets_len,
+                   const uint8_t *list, uint64_t list_len, const uint8_t *pins, uint64_t pins_len, const uint8_t *sets, uint64_t sets_len,
                    uint8_t *store, uint64_t store_len, uint8_t *marks, uint64_t marks_len, uint8_t *work, uint64_t work_len,
                    uint32_t place, uint32_t budget,
                    uint32_t *place_reached, uint32_t *steps, uint32_t *writes, uint32_t *erases, uint32_t *finished,
@@ -119,9 +125,9 @@ uint32_t mover_mend(uint32_t n, uint32_t m, uint32_t page_bytes, uint32_t s,
  *   *count          how many stored pages were summed for it, 1 to n
  *   *written_bytes  how many bytes of it are not 255, 0 to page_bytes
  * Changes only `work`.
- * Returns 0, or 1, 2, 3, 4, 6 or 7. */
+ * Returns 0, or 1, 2, 3, 11, 4, 6 or 7. */
 uint32_t mover_read(uint32_t n, uint32_t m, uint32_t page_bytes, uint32_t s,
-                    const uint8_t *list, uint64_t list_len, const uint8_t *sets, uint64_t sets_len,
+                    const uint8_t *list, uint64_t list_len, const uint8_t *pins, uint64_t pins_len, const uint8_t *sets, uint64_t sets_len,
                     const uint8_t *store, uint64_t store_len, const uint8_t *marks, uint64_t marks_len,
                     uint8_t *work, uint64_t work_len, uint32_t original, uint32_t *count, uint32_t *written_bytes);
 
@@ -160,6 +166,11 @@ static inline uint64_t mover_list_bytes(uint32_t n, uint32_t m)
     return 2 * (uint64_t)n * m;
 }
 
+static inline uint64_t mover_pins_bytes(uint32_t n, uint32_t m)
+{
+    return (uint64_t)n * m;
+}
+
 static inline uint64_t mover_sets_bytes(uint32_t n, uint32_t m)
 {
     return (uint64_t)n * m;
@@ -196,8 +207,8 @@ static inline void mover_send(uint8_t *list, uint32_t k, uint32_t number)
     list[2 * (uint64_t)k + 1] = (uint8_t)(number >> 8 & 255);
 }
 
-/* The sizes and lent parts of a move, gathered once. Each part must have the length that the functions above give. With it a
- * move, or the rest of one after a power cut, is
+/* The sizes and lent parts of a move, gathered once. Each part must have the length that the functions above give; the pins, n * m zeros
+ * where no page is pinned, must not be NULL. With it a move, or the rest of one after a power cut, is
  *
  *     number = mover_split_move(&move);
  *     if (number == MOVER_DONE)
@@ -207,7 +218,7 @@ static inline void mover_send(uint8_t *list, uint32_t k, uint32_t number)
  */
 struct mover_move {
     uint32_t n, m, page_bytes, s;
-    const uint8_t *list;
+    const uint8_t *list, *pins;
     uint8_t *sets, *store, *marks, *work;
 };
 
@@ -225,15 +236,15 @@ struct mover_step {
  * are left for the call to refuse. */
 static inline int mover_apart_from(const struct mover_move *move, const uint8_t *text, uint64_t text_len)
 {
-    const uint8_t *const part[6] = {move->list, move->sets, move->store, move->marks, move->work, text};
-    const uint64_t bytes[6] = {mover_list_bytes(move->n, move->m), mover_sets_bytes(move->n, move->m),
-                               mover_store_bytes(move->n, move->m, move->page_bytes), mover_marks_bytes(move->n, move->m),
-                               move->page_bytes, text_len};
+    const uint8_t *const part[7] = {move->list, move->pins, move->sets, move->store, move->marks, move->work, text};
+    const uint64_t bytes[7] = {mover_list_bytes(move->n, move->m), mover_pins_bytes(move->n, move->m),
+                               mover_sets_bytes(move->n, move->m), mover_store_bytes(move->n, move->m, move->page_bytes),
+                               mover_marks_bytes(move->n, move->m), move->page_bytes, text_len};
     int i, j;
     if (move->n - 1 > 63 || move->m - 1 > 63 || move->page_bytes - 1 > 4095)
         return 1;
-    for (i = 0; i < 6; i++)
-        for (j = 0; j < 6; j++)
+    for (i = 0; i < 7; i++)
+        for (j = 0; j < 7; j++)
             if (i != j && part[i] && part[j] && (uintptr_t)part[i] <= (uintptr_t)part[j]
                 && (uintptr_t)part[j] < (uintptr_t)part[i] + bytes[i])
                 return 0;
@@ -248,17 +259,18 @@ static inline int mover_apart(const struct mover_move *move)
 static inline uint32_t mover_split_move(const struct mover_move *move)
 {
     assert(mover_apart(move));
-    return mover_split(move->n, move->m, move->page_bytes, move->s, move->list, mover_list_bytes(move->n, move->m), move->sets,
-                       mover_sets_bytes(move->n, move->m));
+    return mover_split(move->n, move->m, move->page_bytes, move->s, move->list, mover_list_bytes(move->n, move->m), move->pins,
+                       mover_pins_bytes(move->n, move->m), move->sets, mover_sets_bytes(move->n, move->m));
 }
 
 static inline uint32_t mover_run_move(const struct mover_move *move, uint32_t place, uint32_t budget, struct mover_state *state)
 {
     assert(mover_apart(move));
-    return mover_run(move->n, move->m, move->page_bytes, move->s, move->list, mover_list_bytes(move->n, move->m), move->sets,
-                     mover_sets_bytes(move->n, move->m), move->store, mover_store_bytes(move->n, move->m, move->page_bytes),
-                     move->marks, mover_marks_bytes(move->n, move->m), move->work, move->page_bytes, place, budget, &state->place,
-                     &state->steps, &state->writes, &state->erases, &state->finished, &state->written_bytes);
+    return mover_run(move->n, move->m, move->page_bytes, move->s, move->list, mover_list_bytes(move->n, move->m), move->pins,
+                     mover_pins_bytes(move->n, move->m), move->sets, mover_sets_bytes(move->n, move->m), move->store,
+                     mover_store_bytes(move->n, move->m, move->page_bytes), move->marks, mover_marks_bytes(move->n, move->m),
+                     move->work, move->page_bytes, place, budget, &state->place, &state->steps, &state->writes, &state->erases,
+                     &state->finished, &state->written_bytes);
 }
 
 /* As mover_mend: sets place and erases, an erase being a step, and finished if the place is the last; it writes no page. */
@@ -278,9 +290,10 @@ static inline uint32_t mover_mend_move(const struct mover_move *move, struct mov
 static inline uint32_t mover_read_move(const struct mover_move *move, uint32_t original, uint32_t *count, uint32_t *written_bytes)
 {
     assert(mover_apart(move));
-    return mover_read(move->n, move->m, move->page_bytes, move->s, move->list, mover_list_bytes(move->n, move->m), move->sets,
-                      mover_sets_bytes(move->n, move->m), move->store, mover_store_bytes(move->n, move->m, move->page_bytes),
-                      move->marks, mover_marks_bytes(move->n, move->m), move->work, move->page_bytes, original, count, written_bytes);
+    return mover_read(move->n, move->m, move->page_bytes, move->s, move->list, mover_list_bytes(move->n, move->m), move->pins,
+                      mover_pins_bytes(move->n, move->m), move->sets, mover_sets_bytes(move->n, move->m), move->store,
+                      mover_store_bytes(move->n, move->m, move->page_bytes), move->marks, mover_marks_bytes(move->n, move->m),
+                      move->work, move->page_bytes, original, count, written_bytes);
 }
 
 /* As mover_hex_read, into the move's store and marks; the move's s has to be 0 from then on. */

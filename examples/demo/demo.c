@@ -1,7 +1,7 @@
 /* Moves of pages on a flash chip whose power fails again and again.
  *
  * The chip is driven as a real one would be: the library takes one step on an image of the chip in RAM, and the program then does
- * the same on the chip. A power cut takes the image away. What is left is the chip, the list,
+ * the same on the chip. A power cut takes the image away. What is left is the chip, the list, the pins,
  * the sizes and s. */
 #define _POSIX_C_SOURCE 200809L
 
@@ -133,19 +133,32 @@ static enum outcome go_on(struct demo *demo)
     return outcome;
 }
 
-/* The start of a move: random pages at rest on the chip, and a list in random order. */
+/* The start of a move: random pages at rest on the chip, some of them pinned, and a list that has the others in random order. */
+
+static void pin_some(struct demo *demo)
+{
+    uint32_t count = demo->options.blocks * demo->options.pages;
+    memset(demo->pins, 0, count);
+    for (uint32_t i = 0; i <= count / 32; i++)
+        demo->pins[random_below(&demo->random, count)] = (uint8_t)(1 + random_below(&demo->random, 255));
+}
 
 static void shuffle(struct demo *demo)
 {
-    uint32_t count = demo->options.blocks * demo->options.pages;
-    uint32_t order[64 * 64];
+    uint32_t count = demo->options.blocks * demo->options.pages, left = 0;
+    uint32_t moving[64 * 64], order[64 * 64];
     for (uint32_t k = 0; k < count; k++) {
-        uint32_t other = random_below(&demo->random, k + 1);
-        order[k] = order[other];
-        order[other] = k;
+        mover_send(demo->list, k, k);
+        if (demo->pins[k] == 0)
+            moving[left++] = k;
     }
-    for (uint32_t k = 0; k < count; k++)
-        mover_send(demo->list, k, order[k]);
+    for (uint32_t i = 0; i < left; i++) {
+        uint32_t other = random_below(&demo->random, i + 1);
+        order[i] = order[other];
+        order[other] = i;
+    }
+    for (uint32_t i = 0; i < left; i++)
+        mover_send(demo->list, moving[i], moving[order[i]]);
 }
 
 static void fill_chip(struct demo *demo)
@@ -170,22 +183,36 @@ static uint32_t pages_out_of_place(struct demo *demo)
     return bad;
 }
 
+/* The pinned pages are looked for at their old addresses, whatever the list says. */
+static void count_pinned(struct demo *demo)
+{
+    const struct options *o = &demo->options;
+    for (uint32_t k = 0; k < o->blocks * o->pages; k++)
+        if (demo->pins[k] != 0) {
+            const uint8_t *page = demo->move.store + (uint64_t)(o->pages + k) * o->page_bytes;
+            demo->pinned++;
+            demo->pinned_astray += memcmp(page, demo->originals + (uint64_t)k * o->page_bytes, o->page_bytes) != 0;
+        }
+}
+
 /* One move through all its cuts. The data blocks have the letter after next then, which is where the next move starts. */
 static void move_pages(struct demo *demo)
 {
-    uint32_t wrong_before = demo->reads_wrong, bad = 0;
+    uint32_t wrong_before = demo->reads_wrong, astray_before = demo->pinned_astray, bad = 0;
     enum outcome outcome;
+    pin_some(demo);
     shuffle(demo);
     fill_chip(demo);
     while ((outcome = go_on(demo)) == POWER_CUT)
         demo->cuts++;
     if (outcome == DONE) {
         bad = pages_out_of_place(demo);
+        count_pinned(demo);
         demo->moves_ended++;
         demo->moves_with_loss += bad != 0;
         demo->pages_lost += bad;
     }
-    demo->moves_wrong += outcome == WRONG || bad != 0 || demo->reads_wrong != wrong_before;
+    demo->moves_wrong += outcome == WRONG || bad != 0 || demo->pinned_astray != astray_before || demo->reads_wrong != wrong_before;
     demo->move.s = (demo->move.s + 2) % 3;
 }
 
@@ -203,18 +230,21 @@ static int prepare(struct demo *demo)
     move->page_bytes = o->page_bytes;
     move->s = o->letter;
     move->list = demo->list = malloc(mover_list_bytes(o->blocks, o->pages));
+    move->pins = demo->pins = malloc(mover_pins_bytes(o->blocks, o->pages));
     move->sets = malloc(mover_sets_bytes(o->blocks, o->pages));
     move->store = malloc(mover_store_bytes(o->blocks, o->pages, o->page_bytes));
     move->marks = malloc(mover_marks_bytes(o->blocks, o->pages));
     move->work = malloc(o->page_bytes);
     demo->originals = malloc(mover_store_bytes(o->blocks, o->pages, o->page_bytes));
-    return demo->list != NULL && move->sets != NULL && move->store != NULL && move->marks != NULL && move->work != NULL
-        && demo->originals != NULL && chip_make(&demo->chip, o->blocks + 1, o->pages, o->page_bytes, random_next(&demo->random));
+    return demo->list != NULL && demo->pins != NULL && move->sets != NULL && move->store != NULL && move->marks != NULL
+        && move->work != NULL && demo->originals != NULL
+        && chip_make(&demo->chip, o->blocks + 1, o->pages, o->page_bytes, random_next(&demo->random));
 }
 
 static void clear(struct demo *demo)
 {
     free(demo->list);
+    free(demo->pins);
     free(demo->move.sets);
     free(demo->move.store);
     free(demo->move.marks);

@@ -9,8 +9,9 @@
 struct demo {
     struct options options;
     struct chip chip;
-    struct mover_move move;       /* the image of the chip, and the list */
-    uint8_t *list, *originals;    /* the originals are kept to compare with */
+    struct mover_move move;       /* the image of the chip, the list and the pins */
+    uint8_t *list, *pins;
+    uint8_t *originals;           /* kept to compare with */
     uint32_t place, last;
     uint64_t random;
 
@@ -20,6 +21,7 @@ struct demo {
     uint64_t written_bytes;                 /* as run counts them: those of its pages that are not 255 */
     uint32_t pages_read, reads_wrong, most_summed;
     uint32_t pages_lost, moves_with_loss;   /* of moves that ended */
+    uint32_t pinned, pinned_astray;         /* of these too: the pages that must stay, and those of them that did not */
     const char *stopped_by;                 /* what was wrong in the first move that stopped, or NULL */
 
     int live;                     /* progress is shown on a terminal */

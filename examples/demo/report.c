@@ -43,7 +43,8 @@ void print_start(const struct demo *demo)
         printf("  move        ");
     else
         printf("  moves       %" PRIu32 ", each of ", o->moves);
-    printf("%" PRIu32 " page%s in random order, %" PRIu32 " steps, seed %" PRIu64 "\n", pages, s(pages), demo->last, o->seed);
+    printf("%" PRIu32 " page%s in random order but for pinned ones, %" PRIu32 " steps, seed %" PRIu64 "\n", pages, s(pages), demo->last,
+           o->seed);
     if (o->cut_within == 0)
         printf("  power       never fails\n\n");
     else
@@ -124,6 +125,7 @@ static void print_losses(const struct demo *demo)
     uint32_t pages = demo->moves_ended * demo->options.blocks * demo->options.pages;
     printf("  in place    %" PRIu32 " of %" PRIu32 " page%s%s\n", pages - demo->pages_lost, pages, s(pages),
            demo->moves_stopped == 0 ? "" : " of the moves that came to their end");
+    printf("  stayed      %" PRIu32 " of %" PRIu32 " pinned page%s\n", demo->pinned - demo->pinned_astray, demo->pinned, s(demo->pinned));
     if (demo->pages_lost != 0)
         printf("  LOST        %" PRIu32 " page%s in %" PRIu32 " of %" PRIu32 " move%s\n", demo->pages_lost, s(demo->pages_lost),
                demo->moves_with_loss, demo->options.moves, s(demo->options.moves));

@@ -16,9 +16,13 @@ static void check(const char *what, int good)
     }
 }
 
+/* No page of the small stores is pinned. */
+static const uint8_t no_pins[4];
+
 /* The call fills `sets`, or refuses and leaves them; 0xA5 stands behind them and must stay. */
-static void splits(const char *what, uint32_t n, uint32_t m, uint32_t page_bytes, uint32_t s, const uint8_t *list, uint64_t list_len,
-                   uint64_t sets_len, uint32_t number, const uint8_t *expected)
+static void splits_with(const char *what, uint32_t n, uint32_t m, uint32_t page_bytes, uint32_t s, const uint8_t *list,
+                        uint64_t list_len, const uint8_t *pins, uint64_t pins_len, uint64_t sets_len, uint32_t number,
+                        const uint8_t *expected)
 {
     uint8_t sets[16], before[16];
     uint32_t got;
@@ -26,8 +30,14 @@ static void splits(const char *what, uint32_t n, uint32_t m, uint32_t page_bytes
     memcpy(before, sets, sizeof sets);
     if (expected != NULL)
         memcpy(before, expected, (size_t)sets_len);
-    got = mover_split(n, m, page_bytes, s, list, list_len, sets, sets_len);
+    got = mover_split(n, m, page_bytes, s, list, list_len, pins, pins_len, sets, sets_len);
     check(what, got == number && memcmp(sets, before, sizeof sets) == 0);
+}
+
+static void splits(const char *what, uint32_t n, uint32_t m, uint32_t page_bytes, uint32_t s, const uint8_t *list, uint64_t list_len,
+                   uint64_t sets_len, uint32_t number, const uint8_t *expected)
+{
+    splits_with(what, n, m, page_bytes, s, list, list_len, no_pins, n <= 2 ? n * m : 4, sets_len, number, expected);
 }
 
 /* The call recovers a store of 3 blocks of one page of one byte, or refuses and leaves it. */
@@ -57,15 +67,23 @@ struct due {
 };
 
 /* The call turns `before` into `after` and returns the numbers due. */
-static void runs(const char *what, uint32_t n, uint32_t m, const uint8_t *list, const uint8_t *sets, uint32_t place, uint32_t budget,
-                 const struct chip *before, struct due due, const struct chip *after)
+static void runs_with(const char *what, uint32_t n, uint32_t m, const uint8_t *list, const uint8_t *pins, uint64_t pins_len,
+                      const uint8_t *sets, uint32_t place, uint32_t budget, const struct chip *before, struct due due,
+                      const struct chip *after)
 {
     struct chip chip = *before;
     struct due got = {77, 77, 77, 77, 77, 77, 77};
     uint64_t slots = ((uint64_t)n + 1) * m;
-    got.number = mover_run(n, m, 1, 0, list, 2 * (uint64_t)n * m, sets, (uint64_t)n * m, chip.store, slots, chip.marks, slots, chip.work,
-                           1, place, budget, &got.place, &got.steps, &got.writes, &got.erases, &got.finished, &got.written_bytes);
+    got.number = mover_run(n, m, 1, 0, list, 2 * (uint64_t)n * m, pins, pins_len, sets, (uint64_t)n * m, chip.store, slots, chip.marks,
+                           slots, chip.work, 1, place, budget, &got.place, &got.steps, &got.writes, &got.erases, &got.finished,
+                           &got.written_bytes);
     check(what, memcmp(&got, &due, sizeof got) == 0 && memcmp(&chip, after, sizeof chip) == 0);
+}
+
+static void runs(const char *what, uint32_t n, uint32_t m, const uint8_t *list, const uint8_t *sets, uint32_t place, uint32_t budget,
+                 const struct chip *before, struct due due, const struct chip *after)
+{
+    runs_with(what, n, m, list, no_pins, (uint64_t)n * m, sets, place, budget, before, due, after);
 }
 
 static void runs_checked(void)
@@ -137,15 +155,22 @@ static void mends_checked(void)
 }
 
 /* The call puts a page of one byte, which is not 255, in the work page, or refuses and leaves it; the byte behind it must stay. */
-static void reads(const char *what, uint32_t n, uint32_t m, const uint8_t *list, const uint8_t *sets, const uint8_t *store,
-                  const uint8_t *marks, uint64_t work_len, uint32_t original, uint32_t number, uint32_t count, uint8_t page)
+static void reads_with(const char *what, uint32_t n, uint32_t m, const uint8_t *list, const uint8_t *pins, uint64_t pins_len,
+                       const uint8_t *sets, const uint8_t *store, const uint8_t *marks, uint64_t work_len, uint32_t original,
+                       uint32_t number, uint32_t count, uint8_t page)
 {
     uint8_t work[] = {77, 99};
     uint32_t got, got_count = 77, got_bytes = 77;
     uint64_t slots = ((uint64_t)n + 1) * m;
-    got = mover_read(n, m, 1, 0, list, 2 * (uint64_t)n * m, sets, (uint64_t)n * m, store, slots, marks, slots, work, work_len, original,
-                     &got_count, &got_bytes);
+    got = mover_read(n, m, 1, 0, list, 2 * (uint64_t)n * m, pins, pins_len, sets, (uint64_t)n * m, store, slots, marks, slots, work,
+                     work_len, original, &got_count, &got_bytes);
     check(what, got == number && got_count == count && got_bytes == (number == MOVER_DONE) && work[0] == page && work[1] == 99);
+}
+
+static void reads(const char *what, uint32_t n, uint32_t m, const uint8_t *list, const uint8_t *sets, const uint8_t *store,
+                  const uint8_t *marks, uint64_t work_len, uint32_t original, uint32_t number, uint32_t count, uint8_t page)
+{
+    reads_with(what, n, m, list, no_pins, (uint64_t)n * m, sets, store, marks, work_len, original, number, count, page);
 }
 
 static void reads_checked(void)
@@ -172,13 +197,64 @@ static void reads_checked(void)
     reads("n = 0", 0, 2, p1, sets, rest, rest_marks, 1, 0, MOVER_BAD_SIZES, 0, 77);
 }
 
+/* Pages 0 and 3 may be pinned where 1 and 2 trade places. A list that moves a pinned page is 11, whatever else is wrong after 3. */
+static void pins_checked(void)
+{
+    static const uint8_t p1[] = {0, 0, 2, 0, 1, 0, 3, 0}, twice[] = {0, 0, 2, 0, 2, 0, 3, 0}, high[] = {0, 0, 2, 0, 1, 0, 4, 0};
+    static const uint8_t sets[] = {1, 0, 0, 1}, bad_sets[] = {2, 0, 0, 1}, keeping[] = {1, 0, 0, 200}, moving[] = {0, 2, 0, 0};
+    static const uint8_t moving_255[] = {0, 0, 255, 0}, stays[] = {0, 0, 1, 0, 2, 0, 3, 0}, all[] = {1, 2, 128, 255};
+    static const uint8_t stays_sets[] = {0, 1, 0, 1}, odd_marks[] = {3, 255, 0, 0, 0, 0};
+    static const struct chip rest = {{255, 255, 1, 2, 4, 8}, {255, 255, 0, 0, 0, 0}, {77}};
+    static const struct chip end = {{255, 255, 1, 4, 2, 8}, {255, 255, 2, 2, 2, 2}, {4}};
+    static const struct due refused_2 = {2, 0, 0, 0, 0, 0, 0}, refused_3 = {3, 0, 0, 0, 0, 0, 0}, refused_11 = {11, 0, 0, 0, 0, 0, 0};
+
+    splits_with("pinned pages that stay", 2, 2, 1, 0, p1, 8, keeping, 4, 4, MOVER_DONE, sets);
+    splits_with("all pinned, and all stay", 2, 2, 1, 0, stays, 8, all, 4, 4, MOVER_DONE, stays_sets);
+    splits_with("a pinned page that moves", 2, 2, 1, 0, p1, 8, moving, 4, 4, MOVER_BAD_PINS, NULL);
+    splits_with("a pin of 255 on one that moves", 2, 2, 1, 0, p1, 8, moving_255, 4, 4, MOVER_BAD_PINS, NULL);
+    splits_with("3 before 11", 2, 2, 1, 0, twice, 8, moving, 4, 4, MOVER_BAD_LIST, NULL);
+    splits_with("3 before 11, by an entry of n * m", 2, 2, 1, 0, high, 8, keeping, 4, 4, MOVER_BAD_LIST, NULL);
+    splits_with("pins too short", 2, 2, 1, 0, p1, 8, keeping, 3, 4, MOVER_BAD_LENGTH, NULL);
+    splits_with("no pins at all", 2, 2, 1, 0, p1, 8, NULL, 0, 4, MOVER_BAD_LENGTH, NULL);
+    splits_with("pins too long", 2, 1, 1, 0, twice, 4, keeping, 3, 2, MOVER_BAD_LENGTH, NULL);
+    runs_with("run with pins", 2, 2, p1, keeping, 4, sets, 0, 12, &rest, (struct due){0, 12, 12, 8, 4, 1, 8}, &end);
+    runs_with("run, 11", 2, 2, p1, moving, 4, sets, 0, 12, &rest, refused_11, &rest);
+    runs_with("run, 11 before 4", 2, 2, p1, moving, 4, bad_sets, 0, 12, &rest, refused_11, &rest);
+    runs_with("run, 11 before 5", 2, 2, p1, moving, 4, sets, 13, 12, &rest, refused_11, &rest);
+    runs_with("run, 3 before 11", 2, 2, twice, moving, 4, sets, 0, 12, &rest, refused_3, &rest);
+    runs_with("run, pins too short", 2, 2, p1, keeping, 3, sets, 0, 12, &rest, refused_2, &rest);
+    reads_with("read with pins", 2, 2, p1, keeping, 4, sets, rest.store, rest.marks, 1, 3, MOVER_DONE, 1, 8);
+    reads_with("read, 11", 2, 2, p1, moving, 4, sets, rest.store, rest.marks, 1, 3, MOVER_BAD_PINS, 0, 77);
+    reads_with("read, 11 before 4", 2, 2, p1, moving, 4, bad_sets, rest.store, rest.marks, 1, 3, MOVER_BAD_PINS, 0, 77);
+    reads_with("read, 11 before 6", 2, 2, p1, moving, 4, sets, rest.store, odd_marks, 1, 3, MOVER_BAD_PINS, 0, 77);
+    reads_with("read, 11 before 7", 2, 2, p1, moving, 4, sets, rest.store, rest.marks, 1, 4, MOVER_BAD_PINS, 0, 77);
+    reads_with("read, pins too short", 2, 2, p1, keeping, 3, sets, rest.store, rest.marks, 1, 3, MOVER_BAD_LENGTH, 0, 77);
+    check("the length of pins", mover_pins_bytes(64, 64) == 4096 && mover_pins_bytes(2, 3) == 6);
+}
+
+/* In mid-move a pinned page is not at its old address, but at the end it is. */
+static void pins_travel_checked(void)
+{
+    static const uint8_t list[] = {0, 0, 2, 0, 1, 0, 3, 0}, pins[] = {1, 0, 0, 1};
+    uint8_t sets[4], store[] = {255, 255, 1, 2, 4, 8}, marks[] = {255, 255, 0, 0, 0, 0}, work[1];
+    struct mover_move move = {2, 2, 1, 0, list, pins, sets, store, marks, work};
+    struct mover_state at = {77, 77, 77, 77, 77, 77};
+    uint32_t count, bytes;
+    check("the list keeps them", mover_split_move(&move) == MOVER_DONE);
+    check("half of the move", mover_run_move(&move, 0, 5, &at) == MOVER_DONE && store[2] != 1 && store[5] == 8);
+    check("one more erase", mover_run_move(&move, 5, 1, &at) == MOVER_DONE && store[5] == 255);
+    check("both can be read", mover_read_move(&move, 0, &count, &bytes) == MOVER_DONE && work[0] == 1
+                                  && mover_read_move(&move, 3, &count, &bytes) == MOVER_DONE && work[0] == 8);
+    check("the end", mover_run_move(&move, 6, UINT32_MAX, &at) == MOVER_DONE && at.finished && store[2] == 1 && store[5] == 8);
+}
+
 /* Two pages of two bytes trade places, one of them half 255 and the other 255 throughout. Their sum, which is written first, has no 255. */
 static void bytes_checked(void)
 {
     static const uint8_t list[] = {1, 0, 0, 0};
     static const uint32_t due[] = {2, 0, 0, 0, 1, 0, 0, 0};
     uint8_t sets[] = {0, 0}, store[] = {255, 255, 255, 3, 255, 255}, marks[] = {255, 0, 0}, work[2], rest[6], rest_marks[3];
-    struct mover_move move = {2, 1, 2, 0, list, sets, store, marks, work};
+    struct mover_move move = {2, 1, 2, 0, list, no_pins, sets, store, marks, work};
     struct mover_state at = {77, 77, 77, 77, 77, 77};
     uint32_t count = 77, bytes = 77, place;
     memcpy(rest, store, sizeof rest);
@@ -202,8 +278,8 @@ static void bytes_checked(void)
 static void most_bytes_checked(void)
 {
     enum { N = 64, M = 64, P = 4096 };
-    static uint8_t list[2 * N * M], sets[N * M], store[(N + 1) * M * P], marks[(N + 1) * M], work[P];
-    static const struct mover_move move = {N, M, P, 0, list, sets, store, marks, work};
+    static uint8_t list[2 * N * M], pins[N * M], sets[N * M], store[(N + 1) * M * P], marks[(N + 1) * M], work[P];
+    static const struct mover_move move = {N, M, P, 0, list, pins, sets, store, marks, work};
     struct mover_state at;
     uint32_t k;
     memset(store, 255, M * P);
@@ -326,6 +402,8 @@ int main(void)
     runs_checked();
     mends_checked();
     reads_checked();
+    pins_checked();
+    pins_travel_checked();
     bytes_checked();
     most_bytes_checked();
     tells_checked();

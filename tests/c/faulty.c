@@ -4,17 +4,17 @@
 #ifdef FAULTY_READ
 /* A byte of the page is not what it was. */
 uint32_t __real_mover_read(uint32_t n, uint32_t m, uint32_t page_bytes, uint32_t s, const uint8_t *list, uint64_t list_len,
-                           const uint8_t *sets, uint64_t sets_len, const uint8_t *store, uint64_t store_len, const uint8_t *marks,
-                           uint64_t marks_len, uint8_t *work, uint64_t work_len, uint32_t original, uint32_t *count,
-                           uint32_t *written_bytes);
+                           const uint8_t *pins, uint64_t pins_len, const uint8_t *sets, uint64_t sets_len, const uint8_t *store,
+                           uint64_t store_len, const uint8_t *marks, uint64_t marks_len, uint8_t *work, uint64_t work_len,
+                           uint32_t original, uint32_t *count, uint32_t *written_bytes);
 
 uint32_t __wrap_mover_read(uint32_t n, uint32_t m, uint32_t page_bytes, uint32_t s, const uint8_t *list, uint64_t list_len,
-                           const uint8_t *sets, uint64_t sets_len, const uint8_t *store, uint64_t store_len, const uint8_t *marks,
-                           uint64_t marks_len, uint8_t *work, uint64_t work_len, uint32_t original, uint32_t *count,
-                           uint32_t *written_bytes)
+                           const uint8_t *pins, uint64_t pins_len, const uint8_t *sets, uint64_t sets_len, const uint8_t *store,
+                           uint64_t store_len, const uint8_t *marks, uint64_t marks_len, uint8_t *work, uint64_t work_len,
+                           uint32_t original, uint32_t *count, uint32_t *written_bytes)
 {
-    uint32_t number = __real_mover_read(n, m, page_bytes, s, list, list_len, sets, sets_len, store, store_len, marks, marks_len, work,
-                                        work_len, original, count, written_bytes);
+    uint32_t number = __real_mover_read(n, m, page_bytes, s, list, list_len, pins, pins_len, sets, sets_len, store, store_len, marks,
+                                        marks_len, work, work_len, original, count, written_bytes);
     if (*count > 2)
         work[page_bytes - 1] ^= 1;
     return number;

@@ -5,12 +5,12 @@
 #include <string.h>
 
 /* n = 2, m = 2, one byte a page: the parts one after the other, with nothing between, and a HEX text behind them. */
-static uint8_t room[8 + 4 + 6 + 6 + 1 + 32], *const text = room + 25;
-static const unsigned bytes[5] = {8, 4, 6, 6, 1}, start[5] = {0, 8, 12, 18, 24};
+static uint8_t room[8 + 4 + 4 + 6 + 6 + 1 + 32], *const text = room + 29;
+static const unsigned bytes[6] = {8, 4, 4, 6, 6, 1}, start[6] = {0, 8, 12, 16, 22, 28};
 
 static struct mover_move lend(const unsigned *at)
 {
-    struct mover_move move = {2, 2, 1, 0, room + at[0], room + at[1], room + at[2], room + at[3], room + at[4]};
+    struct mover_move move = {2, 2, 1, 0, room + at[0], room + at[1], room + at[2], room + at[3], room + at[4], room + at[5]};
     return move;
 }
 
@@ -18,10 +18,10 @@ static struct mover_move lend(const unsigned *at)
 static int wrong_answers(void)
 {
     struct mover_move move = lend(start);
-    unsigned at[5], i, j;
+    unsigned at[6], i, j;
     int wrong = !mover_apart(&move);
-    for (i = 0; i < 5; i++)
-        for (j = 0; j < 5; j++)
+    for (i = 0; i < 6; i++)
+        for (j = 0; j < 6; j++)
             if (i != j) {
                 memcpy(at, start, sizeof at);
                 at[i] = start[j] + bytes[j] - 1;
@@ -39,7 +39,7 @@ static int wrong_answers(void)
 
 int main(int count, char **words)
 {
-    static const unsigned at[5] = {0, 8, 12, 18, 17};
+    static const unsigned at[6] = {0, 8, 12, 16, 22, 21};
     struct mover_move move = lend(at);
     struct mover_state state;
     uint32_t number, bytes_written;

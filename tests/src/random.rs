@@ -41,6 +41,16 @@ impl Random {
         &choices[self.below(choices.len())]
     }
 
+    /// A permutation that keeps some of its numbers, and moves about as many.
+    pub fn keeping(&mut self, len: usize) -> Vec<u16> {
+        let mut list: Vec<u16> = (0..len as u16).collect();
+        let moved: Vec<usize> = (0..len).filter(|_| self.one_in(2)).collect();
+        for (from, to) in self.permutation(moved.len()).into_iter().enumerate() {
+            list[moved[from]] = moved[to as usize] as u16;
+        }
+        list
+    }
+
     pub fn permutation(&mut self, len: usize) -> Vec<u16> {
         let mut list: Vec<u16> = (0..len as u16).collect();
         for last in (1..len).rev() {

@@ -9,6 +9,7 @@ use crate::simulator::sizes::Sizes;
 pub struct Scene {
     pub sizes: Sizes,
     pub list: Vec<u16>,
+    pub pins: Vec<u8>,
     pub sets: Vec<u8>,
     pub originals: Vec<u8>,
     pub flash: Flash,
@@ -18,11 +19,12 @@ pub struct Scene {
 pub const WORK_BEFORE: u8 = 0xa5;
 
 impl Scene {
-    /// At rest, with the split of the split call.
+    /// At rest, with the split of the split call and nothing pinned.
     pub fn at_rest(sizes: Sizes, list: Vec<u16>, originals: Vec<u8>) -> Scene {
         let mut scene = Scene {
             sizes,
             list,
+            pins: vec![0; sizes.originals()],
             sets: vec![0; sizes.originals()],
             flash: Flash::at_rest(sizes, &originals),
             originals,
@@ -39,6 +41,7 @@ impl Scene {
                 .iter()
                 .flat_map(|entry| entry.to_le_bytes())
                 .collect(),
+            pins: self.pins.clone(),
             sets: self.sets.clone(),
             store: self.flash.store.clone(),
             marks: self.flash.marks.clone(),

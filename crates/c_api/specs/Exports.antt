@@ -14,15 +14,15 @@ use Rattle.c_api.specs.Bytes.{entriesOf, isOdd}
 abbrev pub onBytes : {A : Type 0} → Sizes → (refused : ℕ → A) → (answer : List ℕ → A) → (bytes : List ℕ) → A
 onBytes Z refused answer bytes = cond (isOdd bytes) (refused (cond (inRange Z) 2 1)) (answer (entriesOf bytes))
 
-unfoldable pub splitOfBytes : Sizes → (list sets : List ℕ) → SplitAnswer
-splitOfBytes Z list sets =
-    onBytes Z (λ number. record { number = number; sets = sets }) (λ entries. splitAnswer (requestOf Z entries sets)) list
+unfoldable pub splitOfBytes : Sizes → (list pins sets : List ℕ) → SplitAnswer
+splitOfBytes Z list pins sets =
+    onBytes Z (λ number. record { number = number; sets = sets }) (λ entries. splitAnswer (requestOf Z entries pins sets)) list
 
-unfoldable pub runOfBytes : Sizes → (list sets : List ℕ) → Chip → (work : List ℕ) → (place budget : ℕ) → RunAnswer
-runOfBytes Z list sets chip work place budget =
-    onBytes Z (λ number. runRefused number chip work) (λ entries. runAnswer (requestOf Z entries sets) chip work place budget) list
+unfoldable pub runOfBytes : Sizes → (list pins sets : List ℕ) → Chip → (work : List ℕ) → (place budget : ℕ) → RunAnswer
+runOfBytes Z list pins sets chip work place budget =
+    onBytes Z (λ number. runRefused number chip work) (λ entries. runAnswer (requestOf Z entries pins sets) chip work place budget) list
 
-unfoldable pub readOfBytes : Sizes → (list sets : List ℕ) → Chip → (work : List ℕ) → (original : ℕ) → ReadAnswer
-readOfBytes Z list sets chip work original =
+unfoldable pub readOfBytes : Sizes → (list pins sets : List ℕ) → Chip → (work : List ℕ) → (original : ℕ) → ReadAnswer
+readOfBytes Z list pins sets chip work original =
     onBytes Z (λ number. readRefused number work)
-    (λ entries. readAnswer (requestOf Z entries sets) chip work original) list
+    (λ entries. readAnswer (requestOf Z entries pins sets) chip work original) list

@@ -14,6 +14,7 @@ pub extern "C" fn mover_read(
     p: u32,
     s: u32,
     list: &[u8],
+    pins: &[u8],
     sets: &[u8],
     store: &[u8],
     marks: &[u8],
@@ -23,7 +24,7 @@ pub extern "C" fn mover_read(
     bytes: &mut u32,
 ) -> u32
     ensures { λ r. ⌜ record { number = r; count = now (count .exit); bytes = now (bytes .exit); work = now (work .exit) }
-        ≡ readOfBytes (record { n = n; m = m; p = p; s = s }) (now (list .entry)) (now (sets .entry))
+        ≡ readOfBytes (record { n = n; m = m; p = p; s = s }) (now (list .entry)) (now (pins .entry)) (now (sets .entry))
         (record { store = now (store .entry); marks = now (marks .entry) }) (now (work .entry)) original ⌝ }
 {
     let mut entries = [0u16; MOST_ENTRIES];
@@ -31,6 +32,7 @@ pub extern "C" fn mover_read(
     let rebuilt = read(
         sizes_of(n, m, p, s),
         &entries[..length],
+        pins,
         sets,
         store,
         marks,

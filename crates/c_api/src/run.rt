@@ -14,6 +14,7 @@ pub extern "C" fn mover_run(
     p: u32,
     s: u32,
     list: &[u8],
+    pins: &[u8],
     sets: &[u8],
     store: &mut [u8],
     marks: &mut [u8],
@@ -34,7 +35,7 @@ pub extern "C" fn mover_run(
       finished = now (finished .exit);
       chip = record { store = now (store .exit); marks = now (marks .exit) };
       work = now (work .exit);
-    } ≡ runOfBytes (record { n = n; m = m; p = p; s = s }) (now (list .entry)) (now (sets .entry))
+    } ≡ runOfBytes (record { n = n; m = m; p = p; s = s }) (now (list .entry)) (now (pins .entry)) (now (sets .entry))
         (record { store = now (store .entry); marks = now (marks .entry) }) (now (work .entry)) place budget ⌝ }
 {
     let mut entries = [0u16; MOST_ENTRIES];
@@ -42,6 +43,7 @@ pub extern "C" fn mover_run(
     let ran = run(
         sizes_of(n, m, p, s),
         &entries[..count],
+        pins,
         sets,
         store,
         marks,

@@ -8,11 +8,19 @@ use crate::sizes::sizes_of;
 use split::call::split;
 
 #[no_mangle]
-pub extern "C" fn mover_split(n: u32, m: u32, p: u32, s: u32, list: &[u8], sets: &mut [u8]) -> u32
+pub extern "C" fn mover_split(
+    n: u32,
+    m: u32,
+    p: u32,
+    s: u32,
+    list: &[u8],
+    pins: &[u8],
+    sets: &mut [u8],
+) -> u32
     ensures { λ r. ⌜ record { number = r; sets = now (sets .exit) }
-        ≡ splitOfBytes (record { n = n; m = m; p = p; s = s }) (now (list .entry)) (now (sets .entry)) ⌝ }
+        ≡ splitOfBytes (record { n = n; m = m; p = p; s = s }) (now (list .entry)) (now (pins .entry)) (now (sets .entry)) ⌝ }
 {
     let mut entries = [0u16; MOST_ENTRIES];
     let count = decode(list, &mut entries);
-    split(sizes_of(n, m, p, s), &entries[..count], sets)
+    split(sizes_of(n, m, p, s), &entries[..count], pins, sets)
 }

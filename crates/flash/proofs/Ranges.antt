@@ -1,5 +1,5 @@
 -- Laws of `range`, and of tests, counts and searches over one.
-use Rattle.flash.proofs.Kit.{_≡_, refl, sym, ap, _∙_, _⊎_, inl, inr, ⊎-elim, _≢_, Bool, true, false, ℕ, zero, suc, _+_, _-_, _≤_, _<_}
+use Rattle.flash.proofs.Kit.{_≡_, refl, sym, ap, _∙_, _⊎_, inl, inr, ⊎-elim, _≢_, Bool, true, false, _||_, or-false, or-assoc, ℕ, zero, suc, _+_, _-_, _≤_, _<_}
 use Rattle.flash.proofs.Kit.{not-suc-le-zero, le-of-suc-le-suc, add-zero, suc-add, add-suc, arith, map, length, getD}
 use Rattle.flash.specs.Lists.{range, all, any, count, first, total}
 use Rattle.flash.proofs.Bools.{bool-cases, never-both, fails}
@@ -175,6 +175,14 @@ one-counted test start (suc size) k O =
       others = λ j a b p. O .others j (omega arith) (omega arith) p;
     })))
     (bool-cases (test start))
+
+-- one number more
+pub any-next : (test : ℕ → Bool) (start size : ℕ) → any test (range start (suc size)) ≡ (any test (range start size) || test (start + size))
+unfolding any range
+any-next test start zero = or-false (test start) ∙ ap test (sym (add-zero start))
+any-next test start (suc size) =
+    ap (λ (t : Bool). test start || t) (any-next test (suc start) size ∙ ap (λ (x : ℕ). any test (range (suc start) size) || test x) (suc-add start size ∙ sym (add-suc start size)))
+    ∙ sym (or-assoc (test start) (any test (range (suc start) size)) (test (start + suc size)))
 
 -- what a function gives over a range, added up: one number more, and another function that gives the same
 module _ (f : ℕ → ℕ) where

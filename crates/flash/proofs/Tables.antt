@@ -1,23 +1,23 @@
--- In a table whose numbers rise from 1 on, the first row that fits has the lowest number that applies.
+-- In a table whose numbers stand in the order in which they are looked for, the first row that fits has the first number that applies.
 use Rattle.flash.proofs.Kit.{Bool, true, false, _&&_, true≢false, _≡_, refl, sym, ap, _∙_, subst, ⊎-elim, List, [], _∷_, List·Memᴰ}
-use Rattle.flash.proofs.Kit.{List·Memᴰ·head, List·Memᴰ·tail, List·Memᴰ·not-nil, List·Memᴰ·cases-cons, ℕ, _≤_, _<_, arith, ltb, ltb-true}
+use Rattle.flash.proofs.Kit.{List·Memᴰ·head, List·Memᴰ·tail, List·Memᴰ·not-nil, List·Memᴰ·cases-cons, ℕ, suc, _≤_, _<_, arith, ltb, leb, ltb-true, leb-true}
 use Rattle.flash.proofs.Bools.{bool-cases, both, fails}
-use Rattle.flash.specs.Tables.{Row, firstFit, numberOr0, refusal, Lowest}
+use Rattle.flash.specs.Tables.{Row, firstFit, numberOr0, refusal, before, First}
 
--- the numbers rise, and are above `from`
-abbrev pub rises : (from : ℕ) → List (Row ℕ) → Bool
-rises from [] = true
-rises from (row ∷ rows) = ltb from (row .gives) && rises (row .gives) rows
+-- the numbers are none 0, and each stands in the order behind the one before it, the first behind as many as `from`
+abbrev pub ordered : (order : List ℕ) → (from : ℕ) → List (Row ℕ) → Bool
+ordered order from [] = true
+ordered order from (row ∷ rows) = ltb 0 (row .gives) && (leb from (before (row .gives) order) && ordered order (suc (before (row .gives) order)) rows)
 
--- each number of such a table is above `from`
-above : (rows : List (Row ℕ)) (from : ℕ) → rises from rows ≡ true → (row : Row ℕ) → List·Memᴰ row rows → from < row .gives
-above [] from r row m = absurd (List·Memᴰ·not-nil m)
-above (top ∷ rows) from r row m =
-    let h = both (ltb from (top .gives)) (rises (top .gives) rows) r in
-    let low = ltb-true from (top .gives) (h .0) in
+-- each number of such a table has as many before it
+behind : (order : List ℕ) (rows : List (Row ℕ)) (from : ℕ) → ordered order from rows ≡ true → (row : Row ℕ) → List·Memᴰ row rows → from ≤ before (row .gives) order
+behind order [] from r row m = absurd (List·Memᴰ·not-nil m)
+behind order (top ∷ rows) from r row m =
+    let h = both (leb from (before (top .gives) order)) (ordered order (suc (before (top .gives) order)) rows) (both (ltb 0 (top .gives)) _ r .1) in
+    let low = leb-true from (before (top .gives) order) (h .0) in
     ⊎-elim
-    (λ (e : row ≡ top). subst (λ (x : Row ℕ). from < x .gives) (sym e) low)
-    (λ (t : List·Memᴰ row rows). let up = above rows (top .gives) (h .1) row t in omega arith)
+    (λ (e : row ≡ top). subst (λ (x : Row ℕ). from ≤ before (x .gives) order) (sym e) low)
+    (λ (t : List·Memᴰ row rows). let up = behind order rows (suc (before (top .gives) order)) (h .1) row t in omega arith)
     (List·Memᴰ·cases-cons m)
 
 pub refusal-hit : (row : Row ℕ) (rows : List (Row ℕ)) → row .fits ≡ true → refusal (row ∷ rows) ≡ row .gives
@@ -28,32 +28,32 @@ pub refusal-miss : (row : Row ℕ) (rows : List (Row ℕ)) → row .fits ≡ fal
 unfolding refusal firstFit
 refusal-miss row rows e = rw e
 
-pub lowest-first : (rows : List (Row ℕ)) (from : ℕ) → rises from rows ≡ true → Lowest rows (refusal rows)
+pub first-returned : (order : List ℕ) (rows : List (Row ℕ)) (from : ℕ) → ordered order from rows ≡ true → First order rows (refusal rows)
 unfolding refusal firstFit numberOr0
-lowest-first [] from r = record { applies = λ h. absurd (omega arith); lowest = λ row m e. absurd (List·Memᴰ·not-nil m) }
-lowest-first (top ∷ rows) from r = ⊎-elim hit (miss (lowest-first rows (top .gives) (below .1))) (bool-cases (top .fits))
+first-returned order [] from r = record { applies = λ h. absurd (omega arith); first = λ row m e. absurd (List·Memᴰ·not-nil m) }
+first-returned order (top ∷ rows) from r = ⊎-elim hit (miss (first-returned order rows (suc (before (top .gives) order)) rest)) (bool-cases (top .fits))
   where
-    below : (ltb from (top .gives) ≡ true) × (rises (top .gives) rows ≡ true)
-    below = both (ltb from (top .gives)) (rises (top .gives) rows) r
+    some : 0 < top .gives
+    some = ltb-true 0 (top .gives) (both (ltb 0 (top .gives)) _ r .0)
 
-    low : from < top .gives
-    low = ltb-true from (top .gives) (below .0)
+    rest : ordered order (suc (before (top .gives) order)) rows ≡ true
+    rest = both (leb from (before (top .gives) order)) _ (both (ltb 0 (top .gives)) _ r .1) .1
 
-    hit : top .fits ≡ true → Lowest (top ∷ rows) (refusal (top ∷ rows))
-    hit e = subst (Lowest (top ∷ rows)) (sym (refusal-hit top rows e)) (record {
+    hit : top .fits ≡ true → First order (top ∷ rows) (refusal (top ∷ rows))
+    hit e = subst (First order (top ∷ rows)) (sym (refusal-hit top rows e)) (record {
       applies = λ h. (top, List·Memᴰ·head refl, e, refl);
-      lowest = λ row m f. ⊎-elim
-          (λ (q : row ≡ top). (omega (arith, low), subst (λ (x : Row ℕ). top .gives ≤ x .gives) (sym q) (omega arith)))
-          (λ (t : List·Memᴰ row rows). (omega (arith, low), omega (arith, above rows (top .gives) (below .1) row t)))
+      first = λ row m f. ⊎-elim
+          (λ (q : row ≡ top). (omega (arith, some), subst (λ (x : Row ℕ). before (top .gives) order ≤ before (x .gives) order) (sym q) (omega arith)))
+          (λ (t : List·Memᴰ row rows). (omega (arith, some), omega (arith, behind order rows (suc (before (top .gives) order)) rest row t)))
           (List·Memᴰ·cases-cons m);
     })
 
-    miss : Lowest rows (refusal rows) → top .fits ≡ false → Lowest (top ∷ rows) (refusal (top ∷ rows))
-    miss L e = subst (Lowest (top ∷ rows)) (sym (refusal-miss top rows e)) (record {
+    miss : First order rows (refusal rows) → top .fits ≡ false → First order (top ∷ rows) (refusal (top ∷ rows))
+    miss L e = subst (First order (top ∷ rows)) (sym (refusal-miss top rows e)) (record {
       applies = λ h. (let a = L .applies h in (a .0, List·Memᴰ·tail (a .1), a .2, a .3));
-      lowest = λ row m f. ⊎-elim
+      first = λ row m f. ⊎-elim
           (λ (q : row ≡ top). absurd (true≢false (sym f ∙ ap (λ (x : Row ℕ). x .fits) q ∙ e)))
-          (λ (t : List·Memᴰ row rows). L .lowest row t f)
+          (λ (t : List·Memᴰ row rows). L .first row t f)
           (List·Memᴰ·cases-cons m);
     })
 

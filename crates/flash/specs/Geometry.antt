@@ -66,6 +66,10 @@ listLength Z = originalCount Z
 abbrev pub setsLength : Sizes → ℕ
 setsLength Z = originalCount Z
 
+-- rule 1.18
+abbrev pub pinsLength : Sizes → ℕ
+pinsLength Z = originalCount Z
+
 -- rule 1.15
 abbrev pub workLength : Sizes → ℕ
 workLength Z = Z .p

@@ -4,3 +4,4 @@ pub mod CallsWithoutSteps
 pub mod RunEvents
 pub mod MendEvents
 pub mod EveryEvent
+pub mod PinsKept

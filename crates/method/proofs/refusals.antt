@@ -1,3 +1,3 @@
 -- The numbers that calls return.
-pub mod LowestReturned
+pub mod FirstReturned
 pub mod ListRefusals

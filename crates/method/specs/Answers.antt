@@ -8,12 +8,13 @@ use lib.ListN.{length}
 use Rattle.flash.specs.Lists.{range, any, isSame}
 use Rattle.flash.specs.Tables.{Row, refusal}
 use Rattle.flash.specs.declared.sizes.Sizes.{Sizes}
-use Rattle.flash.specs.Geometry.{inRange, originalCount, slotCount, storeLength, marksLength, listLength, setsLength, workLength}
+use Rattle.flash.specs.Geometry.{inRange, originalCount, slotCount, storeLength, marksLength, workLength}
 use Rattle.flash.specs.PageSum.{writtenBytes}
 use Rattle.flash.specs.Chip.{Chip, erased, markAt, isBlank, eraseBlock}
 use Rattle.split.specs.OneToOne.{badList}
 use Rattle.split.specs.Split.{isSplit}
-use Rattle.split.specs.Request.{Request}
+use Rattle.split.specs.Pins.{movesPinned}
+use Rattle.split.specs.Request.{Request, badRequest}
 use Rattle.method.specs.declared.tally.Tally.{Tally}
 use Rattle.method.specs.Move.{Move, move}
 use Rattle.method.specs.Place.{lastPlace, marksOf}
@@ -27,8 +28,7 @@ badChip Z chip = not (eqb (length (chip .store)) (storeLength Z)) || not (eqb (l
 
 unfoldable pub badParts : Request → Chip → (work : List ℕ) → Bool
 badParts R chip work =
-    not (eqb (length (R .list)) (listLength (R .sizes))) || not (eqb (length (R .sets)) (setsLength (R .sizes)))
-    || badChip (R .sizes) chip || not (eqb (length work) (workLength (R .sizes)))
+    badRequest R || badChip (R .sizes) chip || not (eqb (length work) (workLength (R .sizes)))
 
 -- what reading the marks answers, by its cases: the number of the table, and what the marks tell
 pub record MarksAnswer : Type 0 where
@@ -48,12 +48,17 @@ isElsewhere Z chip place =
     ltb (lastPlace Z) place || not (isSame (chip .marks) (marksOf Z place))
     || any (λ t. eqb (markAt (chip .marks) t) erased && not (isBlank (Z .p) chip t)) (range 0 (slotCount Z))
 
--- the rows that run and read share, in the table's order
+-- rule 7.8: the order in which the calls look for the numbers of the table
+unfoldable pub order : List ℕ
+order = 1 ∷ 2 ∷ 3 ∷ 11 ∷ 4 ∷ 5 ∷ 6 ∷ 7 ∷ []
+
+-- the rows that run and read share
 unfoldable pub moveRows : Request → Chip → (work : List ℕ) → (rest : List (Row ℕ)) → List (Row ℕ)
 moveRows R chip work rest =
     record { fits = not (inRange (R .sizes)); gives = 1 }
     ∷ record { fits = badParts R chip work; gives = 2 }
     ∷ record { fits = badList (originalCount (R .sizes)) (R .list); gives = 3 }
+    ∷ record { fits = movesPinned (R .pins) (R .list); gives = 11 }
     ∷ record { fits = not (isSplit (R .sizes .n) (R .sizes .m) (R .list) (R .sets)); gives = 4 }
     ∷ rest
 

@@ -9,7 +9,7 @@ use Rattle.flash.specs.Lists.{range}
 use Rattle.flash.specs.declared.sizes.Sizes.{Sizes}
 use Rattle.flash.specs.Chip.{Chip}
 use Rattle.split.specs.OneToOne.{isOneToOne}
-use Rattle.split.specs.Request.{Request, requestOf}
+use Rattle.split.specs.Request.{Request, requestOf, unpinned}
 use Rattle.split.specs.Answer.{splitAnswer}
 use Rattle.method.specs.declared.tally.Tally.{Tally}
 use Rattle.method.specs.Move.{Move, move}
@@ -85,7 +85,7 @@ refusedRun number lent work = record { number = number; place = 0; tally = count
 
 -- the move of P1 to P3
 abbrev pub two : Request
-two = record { sizes = sizes 2 2; list = 0 ∷ 2 ∷ 1 ∷ 3 ∷ []; sets = 1 ∷ 0 ∷ 0 ∷ 1 ∷ [] }
+two = unpinned (sizes 2 2) (0 ∷ 2 ∷ 1 ∷ 3 ∷ []) (1 ∷ 0 ∷ 0 ∷ 1 ∷ [])
 
 abbrev pub twoAtRest : Chip
 twoAtRest = atRest (sizes 2 2) (1 ∷ 2 ∷ 4 ∷ 8 ∷ [])
@@ -98,7 +98,7 @@ twoFinished = chip (255 ∷ 255 ∷ 1 ∷ 4 ∷ 2 ∷ 8 ∷ []) (255 ∷ 255 ∷
 
 -- one page a block
 abbrev small : (n : ℕ) → (list : List ℕ) → Request
-small n list = record { sizes = sizes n 1; list = list; sets = replicate n 0 }
+small n list = unpinned (sizes n 1) list (replicate n 0)
 
 abbrev resting : (n : ℕ) → Chip
 resting n = chip (255 ∷ range 1 n) (255 ∷ replicate n 0)
@@ -106,7 +106,7 @@ resting n = chip (255 ∷ range 1 n) (255 ∷ replicate n 0)
 -- the calls that are given a list refuse this one
 abbrev ListRefused : (number n : ℕ) → (list : List ℕ) → Type 0
 ListRefused number n list =
-    (splitAnswer (requestOf (sizes n 1) list (junk n)) ≡ record { number = number; sets = junk n })
+    (splitAnswer (unpinned (sizes n 1) list (junk n)) ≡ record { number = number; sets = junk n })
     × (runAnswer (small n list) (resting n) (junk 1) 0 9 ≡ refusedRun number (resting n) (junk 1))
     × (readAnswer (small n list) (resting n) (junk 1) 0 ≡ record { number = number; count = 0; bytes = 0; work = junk 1 })
 
@@ -132,17 +132,21 @@ threeTorn byte = chip (5 ∷ 3 ∷ byte ∷ 4 ∷ []) (1 ∷ 1 ∷ 255 ∷ 0 ∷
 
 -- with a set byte that is none of its sets, and with two blocks unfinished
 abbrev threeBadly : Request
-threeBadly = requestOf (three .sizes) (three .list) (0 ∷ 1 ∷ 0 ∷ [])
+threeBadly = unpinned (three .sizes) (three .list) (0 ∷ 1 ∷ 0 ∷ [])
 
 abbrev threeUnfit : Chip
 threeUnfit = chip (255 ∷ 1 ∷ 2 ∷ 4 ∷ []) (255 ∷ 0 ∷ 255 ∷ 0 ∷ [])
 
 -- two blocks change places, two bytes a page: the first page is half as an erase leaves it, the second is nothing else
 abbrev pub half : Request
-half = record { sizes = record { n = 2; m = 1; p = 2; s = 0 }; list = 1 ∷ 0 ∷ []; sets = 0 ∷ 0 ∷ [] }
+half = unpinned (record { n = 2; m = 1; p = 2; s = 0 }) (1 ∷ 0 ∷ []) (0 ∷ 0 ∷ [])
 
 abbrev pub halfAtRest : Chip
 halfAtRest = chip (255 ∷ 255 ∷ 255 ∷ 3 ∷ 255 ∷ 255 ∷ []) (255 ∷ 0 ∷ 0 ∷ [])
+
+-- two blocks of two pages, with pins
+abbrev pub twoPinned : (list pins sets : List ℕ) → Request
+twoPinned list pins sets = requestOf (sizes 2 2) list pins sets
 
 -- The paper's example 3: α = (3, 6, 8, 1, 2, 5, 4, 7). Each original is one bit, so that a byte shows what it sums.
 abbrev eight : Request
@@ -164,8 +168,8 @@ eightFinal = (4 ∷ []) ∷ (5 ∷ []) ∷ (1 ∷ []) ∷ (7 ∷ []) ∷ (6 ∷ 
 -- `byte` is what a cut leaves on the page of P9: any
 pub record CasesHold (byte : ℕ) : Type 0 where
   -- page 2 forces the exchange
-  pub p1 : splitAnswer (requestOf (sizes 2 2) (0 ∷ 2 ∷ 1 ∷ 3 ∷ []) (junk 4)) ≡ record { number = 0; sets = 1 ∷ 0 ∷ 0 ∷ 1 ∷ [] }
-  pub p2 : splitAnswer (requestOf (sizes 2 2) (0 ∷ 3 ∷ 2 ∷ 1 ∷ []) (junk 4)) ≡ record { number = 0; sets = 0 ∷ 1 ∷ 0 ∷ 1 ∷ [] }
+  pub p1 : splitAnswer (unpinned (sizes 2 2) (0 ∷ 2 ∷ 1 ∷ 3 ∷ []) (junk 4)) ≡ record { number = 0; sets = 1 ∷ 0 ∷ 0 ∷ 1 ∷ [] }
+  pub p2 : splitAnswer (unpinned (sizes 2 2) (0 ∷ 3 ∷ 2 ∷ 1 ∷ []) (junk 4)) ≡ record { number = 0; sets = 0 ∷ 1 ∷ 0 ∷ 1 ∷ [] }
   -- the forward pass, then the backward pass
   pub p3 : (runAnswer two twoAtRest (junk 1) 0 6 ≡ ran 6 (counts 6 4 2 4) 0 twoHalfway (8 ∷ []))
       × (runAnswer two twoHalfway (junk 1) 6 6 ≡ ran 12 (counts 6 4 2 4) 1 twoFinished (4 ∷ []))
@@ -174,7 +178,7 @@ pub record CasesHold (byte : ℕ) : Type 0 where
   pub p6 : ListRefused 1 0 [] × MendRefused 1 0
   pub p7 : ListRefused 1 65 (range 0 65) × MendRefused 1 65
       × (isOneToOne 64 (range 0 64) ≡ true)
-      × (splitAnswer (requestOf (sizes 64 1) (range 0 64) (junk 64)) ≡ record { number = 0; sets = replicate 64 0 })
+      × (splitAnswer (unpinned (sizes 64 1) (range 0 64) (junk 64)) ≡ record { number = 0; sets = replicate 64 0 })
       × (runAnswer (small 64 (range 0 64)) (resting 64) (junk 1) 0 0 ≡ ran 0 (counts 0 0 0 0) 0 (resting 64) (junk 1))
       × (mendAnswer (sizes 64 1) (resting 64) ≡ record { number = 0; place = 0; erases = 1; chip = resting 64 })
       × (readAnswer (small 64 (range 0 64)) (resting 64) (junk 1) 63 ≡ record { number = 0; count = 1; bytes = 1; work = 64 ∷ [] })
@@ -190,7 +194,7 @@ pub record CasesHold (byte : ℕ) : Type 0 where
   pub p10 : mendAnswer (three .sizes) threeFinished ≡ record { number = 0; place = 12; erases = 1; chip = threeFinished }
   pub p11 : runAnswer three threeAtRest (junk 1) 0 0 ≡ ran 0 (counts 0 0 0 0) 0 threeAtRest (junk 1)
   -- the numbers that no P gives: a part one byte short
-  pub number-2 : (splitAnswer (requestOf (sizes 2 1) (0 ∷ 1 ∷ []) (junk 1)) ≡ record { number = 2; sets = junk 1 })
+  pub number-2 : (splitAnswer (unpinned (sizes 2 1) (0 ∷ 1 ∷ []) (junk 1)) ≡ record { number = 2; sets = junk 1 })
       × (runAnswer three threeAtRest [] 0 9 ≡ refusedRun 2 threeAtRest [])
       × (mendAnswer (sizes 3 1) (resting 2) ≡ record { number = 2; place = 0; erases = 0; chip = resting 2 })
       × (readAnswer three threeAtRest [] 0 ≡ record { number = 2; count = 0; bytes = 0; work = [] })
@@ -209,6 +213,14 @@ pub record CasesHold (byte : ℕ) : Type 0 where
       ≡ ran 8 (counts 8 4 4 3) 1 (chip (255 ∷ 255 ∷ 255 ∷ 255 ∷ 255 ∷ 3 ∷ []) (255 ∷ 2 ∷ 2 ∷ [])) (255 ∷ 255 ∷ []))
       × (readAnswer half halfAtRest (junk 2) 0 ≡ record { number = 0; count = 1; bytes = 1; work = 255 ∷ 3 ∷ [] })
       × (readAnswer half halfAtRest (junk 2) 1 ≡ record { number = 0; count = 1; bytes = 0; work = 255 ∷ 255 ∷ [] })
+  -- number 11: a pinned page that is sent elsewhere, whatever its byte, behind 3 and before 4; one that stays is no ground
+  pub pins : (splitAnswer (twoPinned (0 ∷ 2 ∷ 1 ∷ 3 ∷ []) (1 ∷ 0 ∷ 0 ∷ 200 ∷ []) (junk 4)) ≡ record { number = 0; sets = 1 ∷ 0 ∷ 0 ∷ 1 ∷ [] })
+      × (splitAnswer (twoPinned (0 ∷ 2 ∷ 1 ∷ 3 ∷ []) (0 ∷ 2 ∷ 0 ∷ 0 ∷ []) (junk 4)) ≡ record { number = 11; sets = junk 4 })
+      × (splitAnswer (twoPinned (0 ∷ 2 ∷ 2 ∷ 3 ∷ []) (0 ∷ 2 ∷ 0 ∷ 0 ∷ []) (junk 4)) ≡ record { number = 3; sets = junk 4 })
+      × (splitAnswer (twoPinned (0 ∷ 2 ∷ 2 ∷ 3 ∷ []) (0 ∷ 2 ∷ 0 ∷ []) (junk 4)) ≡ record { number = 2; sets = junk 4 })
+      × (runAnswer (twoPinned (0 ∷ 2 ∷ 1 ∷ 3 ∷ []) (0 ∷ 0 ∷ 1 ∷ 0 ∷ []) (junk 4)) twoAtRest (junk 1) 0 9 ≡ refusedRun 11 twoAtRest (junk 1))
+      × (readAnswer (twoPinned (0 ∷ 2 ∷ 1 ∷ 3 ∷ []) (0 ∷ 0 ∷ 1 ∷ 0 ∷ []) (junk 4)) twoAtRest (junk 1) 9
+      ≡ record { number = 11; count = 0; bytes = 0; work = junk 1 })
   -- the program's case, with its end line
   pub program : listing (move three) 12 0 (record { chip = threeAtRest; work = [] })
       ≡ W 0 0 0 (5 ∷ []) ∷ E 1 1 ∷ W 2 1 0 (3 ∷ []) ∷ E 3 2 ∷ W 4 2 0 (4 ∷ []) ∷ E 5 3

@@ -7,7 +7,7 @@ use mathlib.Core.Option.{some}
 use Prim.Native.Nat.{ℕ, _+_, _-_, _*_, _/_, _≤_, _<_}
 use lib.ListN.{length, getD}
 use Rattle.flash.specs.Lists.{range, any, count}
-use Rattle.flash.specs.Tables.{Row, Lowest, refusal}
+use Rattle.flash.specs.Tables.{Row, First, refusal}
 use Rattle.flash.specs.declared.sizes.Sizes.{Sizes}
 use Rattle.flash.specs.Geometry.{inRange, blockOf, originalCount, slotCount}
 use Rattle.flash.specs.Chip.{Chip, isWhole, isUnfinished}
@@ -20,10 +20,11 @@ use Rattle.method.specs.Read.{fullOf, goBack, goOn, readSlots}
 use Rattle.method.specs.Place.{Pass, write, erase, done, operations, lastPlace, operationAt, passAt, blank, heldAt, marksOf}
 use Rattle.method.specs.Step.{isWrite, isErase, erasesBlock}
 use Rattle.method.specs.Mend.{Reading, lines, reading}
-use Rattle.method.specs.Answers.{runRows, mendRows, readRows}
+use Rattle.method.specs.Answers.{order, runRows, mendRows, readRows}
 use Rattle.method.specs.Runs.{RunsAddUp, StatesReached}
 use Rattle.method.specs.Counts.{RunsCount}
 use Rattle.method.specs.Demand3.{Demand3}
+use Rattle.method.specs.PinsStay.{PinsStay}
 use Rattle.method.specs.Example.{ExampleHolds, BoundsMet}
 use Rattle.method.specs.TwoPages.{TwoPagesHold}
 use Rattle.method.specs.Cases.{CasesHold}
@@ -113,12 +114,12 @@ ErasesNext =
     (Z : Sizes) → inRange Z ≡ true → (marks : List ℕ) (place block : ℕ)
     → reading Z marks ≡ some (record { place = place; toErase = some block }) → WrittenNext Z place block
 
--- rule 7.8: the first row that applies has the lowest number
-pub record LowestReturned : Type 0 where
-  pub by-split : (R : Request) → Lowest (splitRows R) (refusal (splitRows R))
-  pub by-run : (R : Request) (chip : Chip) (work : List ℕ) (place : ℕ) → Lowest (runRows R chip work place) (refusal (runRows R chip work place))
-  pub by-mend : (Z : Sizes) (chip : Chip) → Lowest (mendRows Z chip) (refusal (mendRows Z chip))
-  pub by-read : (R : Request) (chip : Chip) (work : List ℕ) (k : ℕ) → Lowest (readRows R chip work k) (refusal (readRows R chip work k))
+-- rule 7.8: every call gives the first number that applies, in the one order of all calls
+pub record FirstReturned : Type 0 where
+  pub by-split : (R : Request) → First order (splitRows R) (refusal (splitRows R))
+  pub by-run : (R : Request) (chip : Chip) (work : List ℕ) (place : ℕ) → First order (runRows R chip work place) (refusal (runRows R chip work place))
+  pub by-mend : (Z : Sizes) (chip : Chip) → First order (mendRows Z chip) (refusal (mendRows Z chip))
+  pub by-read : (R : Request) (chip : Chip) (work : List ℕ) (k : ℕ) → First order (readRows R chip work k) (refusal (readRows R chip work k))
 
 pub record Claims : Type 0 where
   pub cases : (byte : ℕ) → CasesHold byte
@@ -133,8 +134,9 @@ pub record Claims : Type 0 where
   pub walks : WalksEnd
   pub lines : LinesAgree
   pub erases-next : ErasesNext
-  pub lowest : LowestReturned
+  pub first : FirstReturned
   pub demand-3 : Demand3
+  pub pins : PinsStay
   pub bounds : BoundsMet
   pub example : ExampleHolds
   pub two-pages : (byte : ℕ) → TwoPagesHold byte

@@ -12,6 +12,7 @@ pub mod Runs
 pub mod Counts
 pub mod Events
 pub mod Demand3
+pub mod PinsStay
 pub mod Cases
 pub mod Example
 pub mod TwoPages

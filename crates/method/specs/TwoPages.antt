@@ -7,7 +7,7 @@ use Prim.Native.Nat.{ℕ}
 use lib.ListN.{length, take, drop}
 use Rattle.flash.specs.Lists.{range, count}
 use Rattle.flash.specs.Chip.{Chip}
-use Rattle.split.specs.Request.{Request, requestOf}
+use Rattle.split.specs.Request.{Request, unpinned}
 use Rattle.method.specs.Move.{move}
 use Rattle.method.specs.State.{stateOf}
 use Rattle.method.specs.Step.{isErase}
@@ -20,7 +20,7 @@ use Rattle.method.specs.Example.{whole, cutInside}
 
 -- the same request for a chip of three blocks
 abbrev otherSizes : Request
-otherSizes = requestOf (record { n = 3; m = 2; p = 1; s = 0 }) (two .list) (two .sets)
+otherSizes = unpinned (record { n = 3; m = 2; p = 1; s = 0 }) (two .list) (two .sets)
 
 -- before page 0 of block 1 is written, and before block 2 is erased
 abbrev at3 : Chip

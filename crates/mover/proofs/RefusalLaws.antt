@@ -1,11 +1,13 @@
--- Rows 1 to 4 of the table, and what a move is given that they do not refuse.
-use Rattle.flash.proofs.Kit.{_≡_, refl, _∙_, _≢_, Bool, true, false, cond, not, List, [], _∷_, ℕ, arith, eqb, length, ne-eqb}
+-- Rows 1, 2, 3, 11 and 4 of the table, and what a move is given that they do not refuse.
+use Rattle.flash.proofs.Kit.{_≡_, refl, _∙_, _≢_, Bool, true, false, cond, _&&_, not, List, [], _∷_, ℕ, arith, eqb, length, ne-eqb}
 use Rattle.flash.specs.Tables.{Row, firstFit, numberOr0, refusal}
+use Rattle.flash.specs.declared.sizes.Sizes.{Sizes}
 use Rattle.flash.specs.Geometry.{inRange, originalCount}
 use Rattle.flash.specs.Chip.{Chip}
 use Rattle.flash.proofs.Tables.{refusal-nil}
 use Rattle.split.specs.OneToOne.{badList, isOneToOne}
 use Rattle.split.specs.Split.{isSplit}
+use Rattle.split.specs.Pins.{movesPinned}
 use Rattle.split.specs.Request.{Request}
 use Rattle.method.specs.Move.{move}
 use Rattle.method.specs.Step.{nothingDone}
@@ -19,32 +21,35 @@ unfolding refusal firstFit numberOr0
 row-first true gives rest = refl
 row-first false gives rest = refl
 
--- rows 1 to 4: the first that fits, and else the rows that follow
-four-rows : (a b c d : Bool) (rest : ℕ)
-    → (let number : ℕ → ℕ = λ x. cond a 1 (cond b 2 (cond c 3 (cond d 4 x))) in number rest ≡ cond (eqb (number 0) 0) rest (number 0))
-four-rows true b c d rest = refl
-four-rows false true c d rest = refl
-four-rows false false true d rest = refl
-four-rows false false false true rest = refl
-four-rows false false false false rest = refl
+-- the rows that run and read share: the first that fits, and else the rows that follow
+first-rows : (a b c d e : Bool) (rest : ℕ)
+    → (let number : ℕ → ℕ = λ x. cond a 1 (cond b 2 (cond c 3 (cond d 11 (cond e 4 x)))) in number rest ≡ cond (eqb (number 0) 0) rest (number 0))
+first-rows true b c d e rest = refl
+first-rows false true c d e rest = refl
+first-rows false false true d e rest = refl
+first-rows false false false true e rest = refl
+first-rows false false false false true rest = refl
+first-rows false false false false false rest = refl
 
 module _ (R : Request) (chip : Chip) (work : List ℕ) where
+  open Sizes (R .sizes) using (n, m)
+
   abbrev number : ℕ
   number = refusal (moveRows R chip work [])
 
   pub move-number : number
-      ≡ cond (not (inRange (R .sizes))) 1 (cond (badParts R chip work) 2
-      (cond (badList (originalCount (R .sizes)) (R .list)) 3 (cond (not (isSplit (R .sizes .n) (R .sizes .m) (R .list) (R .sets))) 4 0)))
+      ≡ cond (not (inRange (R .sizes))) 1 (cond (badParts R chip work) 2 (cond (badList (originalCount (R .sizes)) (R .list)) 3
+      (cond (movesPinned (R .pins) (R .list)) 11 (cond (not (isSplit n m (R .list) (R .sets))) 4 0))))
   unfolding moveRows
-  move-number = rw (row-first, row-first, row-first, row-first, refusal-nil)
+  move-number = rw (row-first, row-first, row-first, row-first, row-first, refusal-nil)
 
   module _ (rest : List (Row ℕ)) where
     move-then : refusal (moveRows R chip work rest) ≡ cond (eqb number 0) (refusal rest) number
     unfolding moveRows
     move-then =
-        rw (move-number, row-first, row-first, row-first, row-first)
-        (four-rows (not (inRange (R .sizes))) (badParts R chip work) (badList (originalCount (R .sizes)) (R .list))
-        (not (isSplit (R .sizes .n) (R .sizes .m) (R .list) (R .sets))) (refusal rest))
+        rw (move-number, row-first, row-first, row-first, row-first, row-first)
+        (first-rows (not (inRange (R .sizes))) (badParts R chip work) (badList (originalCount (R .sizes)) (R .list))
+        (movesPinned (R .pins) (R .list)) (not (isSplit n m (R .list) (R .sets))) (refusal rest))
 
     pub by-move : (x : ℕ) → x ≡ number → x ≢ 0 → refusal (moveRows R chip work rest) ≡ x
     by-move x e ne = move-then ∙ rw (← e, ne-eqb x 0 ne)
@@ -52,19 +57,24 @@ module _ (R : Request) (chip : Chip) (work : List ℕ) where
     pub past-move : 0 ≡ number → refusal (moveRows R chip work rest) ≡ refusal rest
     past-move e = move-then ∙ rw (← e)
 
-  -- past rows 1 and 2 the list decides, and then the split
+  -- past rows 1 and 2 the list decides, then the pins, and then the split
   pub by-list : inRange (R .sizes) ≡ true → badParts R chip work ≡ false
-      → number ≡ cond (isOneToOne (length (R .list)) (R .list)) (cond (isSplit (R .sizes .n) (R .sizes .m) (R .list) (R .sets)) 0 4) 3
+      → (let found : ℕ = cond (isOneToOne (length (R .list)) (R .list)) (cond (isSplit n m (R .list) (R .sets)) 0 4) 3 in
+      number ≡ cond (not (eqb found 3) && movesPinned (R .pins) (R .list)) 11 found)
   unfolding isOneToOne
   by-list e f =
       move-number
       ∙ rw (e, f, parts-ok R chip work f .0)
-      (in-turn (badList (originalCount (R .sizes)) (R .list)) (isSplit (R .sizes .n) (R .sizes .m) (R .list) (R .sets)))
+      (in-turn (badList (originalCount (R .sizes)) (R .list)) (movesPinned (R .pins) (R .list)) (isSplit n m (R .list) (R .sets)))
     where
-      in-turn : (bad split : Bool) → _≡_ {A = ℕ} (cond bad 3 (cond (not split) 4 0)) (cond (not bad) (cond split 0 4) 3)
-      in-turn true split = refl
-      in-turn false true = refl
-      in-turn false false = refl
+      in-turn : (bad moved split : Bool)
+          → (let found : ℕ = cond (not bad) (cond split 0 4) 3 in
+          _≡_ {A = ℕ} (cond bad 3 (cond moved 11 (cond (not split) 4 0))) (cond (not (eqb found 3) && moved) 11 found))
+      in-turn true moved split = refl
+      in-turn false true true = refl
+      in-turn false true false = refl
+      in-turn false false true = refl
+      in-turn false false false = refl
 
 -- ---- the answer of run
 module _ (R : Request) (chip : Chip) (work : List ℕ) (place : ℕ) where
@@ -84,7 +94,7 @@ module _ (R : Request) (chip : Chip) (work : List ℕ) (place : ℕ) where
     unfolding runAnswer runRefused
     refused-answer x ne e ran r = rw (r, e, ne-eqb x 0 ne)
 
-    -- rows 1 to 4 decide, and else row 5
+    -- these rows decide, and else row 5
     pub refused-by-move : (x : ℕ) → x ≡ refusal (moveRows R chip work []) → x ≢ 0 → Refused x
     unfolding runRows
     refused-by-move x e ne = refused-answer x ne (by-move R chip work _ x e ne)

@@ -35,6 +35,7 @@ fn refused(number: u32) -> ReadResult
 pub fn read(
     sizes: Sizes,
     list: &[u16],
+    pins: &[u8],
     sets: &[u8],
     store: &[u8],
     marks: &[u8],
@@ -42,11 +43,11 @@ pub fn read(
     k: usize,
 ) -> ReadResult
     ensures { λ r. ⌜ readAs r (now (work .exit))
-        ≡ readAnswer (requestOf sizes (now (list .entry)) (now (sets .entry))) (record { store = now (store .entry); marks = now (marks .entry) })
+        ≡ readAnswer (requestOf sizes (now (list .entry)) (now (pins .entry)) (now (sets .entry))) (record { store = now (store .entry); marks = now (marks .entry) })
         (now (work .entry)) k ⌝ }
 {
     let mut table = [0u8; TABLE];
-    let number = move_refusal(sizes, list, sets, store, marks, work, &mut table);
+    let number = move_refusal(sizes, list, pins, sets, store, marks, work, &mut table);
     if number != 0 {
         return refused(number);
     }

@@ -11,6 +11,7 @@ use flash::sizes::in_range;
 use flash::sizes::original_count;
 use flash::sizes::slot_count;
 use flash::sizes::store_length;
+use split::pins::moves_pinned;
 use split::rows::sets_refusal;
 use walk::rows::TABLE;
 
@@ -18,43 +19,49 @@ use walk::rows::TABLE;
 fn bad_parts(
     sizes: Sizes,
     list: &[u16],
+    pins: &[u8],
     sets: &[u8],
     store: &[u8],
     marks: &[u8],
     work: &[u8],
 ) -> bool
     requires { ⌜ (sizes .n ≤ 64) × (sizes .m ≤ 64) × (sizes .p ≤ 4096) ⌝ }
-    ensures { λ r. ⌜ r ≡ badParts (requestOf sizes (now (list .entry)) (now (sets .entry)))
+    ensures { λ r. ⌜ r ≡ badParts (requestOf sizes (now (list .entry)) (now (pins .entry)) (now (sets .entry)))
         (record { store = now (store .entry); marks = now (marks .entry) }) (now (work .entry)) ⌝ }
 {
     let originals = original_count(sizes);
     let slots = slot_count(sizes);
     let bytes = store_length(sizes);
-    ((list.len() != originals) | (sets.len() != originals))
+    ((list.len() != originals) | (pins.len() != originals) | (sets.len() != originals))
         | ((store.len() != bytes) | (marks.len() != slots))
         | (work.len() != sizes.p)
 }
 
-// Numbers 1 to 4, or 0 where none of them is given; then the table has the sets by destination. Nothing is computed from sizes that are
+// Numbers 1, 2, 3, 11 and 4, or 0 where none of them is given; then the table has the sets by destination. Nothing is computed from sizes that are
 // out of their range.
 pub fn move_refusal(
     sizes: Sizes,
     list: &[u16],
+    pins: &[u8],
     sets: &[u8],
     store: &[u8],
     marks: &[u8],
     work: &[u8],
     table: &mut [u8; TABLE],
 ) -> u32
-    ensures { λ r. ⌜ r ≡ refusal (moveRows (requestOf sizes (now (list .entry)) (now (sets .entry)))
+    ensures { λ r. ⌜ r ≡ refusal (moveRows (requestOf sizes (now (list .entry)) (now (pins .entry)) (now (sets .entry)))
         (record { store = now (store .entry); marks = now (marks .entry) }) (now (work .entry)) []) ⌝ }
     ensures { λ r. ⌜ (r ≡ 0 → ByDestination (now (list .entry)) (now (sets .entry)) (now (table .exit))) ⌝ }
 {
     if !in_range(sizes) {
         return 1;
     }
-    if bad_parts(sizes, list, sets, store, marks, work) {
+    if bad_parts(sizes, list, pins, sets, store, marks, work) {
         return 2;
     }
-    sets_refusal(sizes.n, sizes.m, list, sets, table)
+    let number = sets_refusal(sizes.n, sizes.m, list, sets, table);
+    if (number != 3) & moves_pinned(pins, list) {
+        return 11;
+    }
+    number
 }

@@ -215,6 +215,7 @@ fn refused(number: u32) -> RunResult
 pub fn run(
     sizes: Sizes,
     list: &[u16],
+    pins: &[u8],
     sets: &[u8],
     store: &mut [u8],
     marks: &mut [u8],
@@ -223,11 +224,11 @@ pub fn run(
     budget: u32,
 ) -> RunResult
     ensures { λ r. ⌜ ranAs r (now (store .exit)) (now (marks .exit)) (now (work .exit))
-        ≡ runAnswer (requestOf sizes (now (list .entry)) (now (sets .entry))) (record { store = now (store .entry); marks = now (marks .entry) })
+        ≡ runAnswer (requestOf sizes (now (list .entry)) (now (pins .entry)) (now (sets .entry))) (record { store = now (store .entry); marks = now (marks .entry) })
         (now (work .entry)) place budget ⌝ }
 {
     let mut table = [0u8; TABLE];
-    let number = move_refusal(sizes, list, sets, store, marks, work, &mut table);
+    let number = move_refusal(sizes, list, pins, sets, store, marks, work, &mut table);
     if number != 0 {
         return refused(number);
     }

@@ -37,4 +37,4 @@ filled-fits R e =
     let p = passed R e in
     let s : splitAnswer R .sets ≡ splitByRule (Z .n) (Z .m) list = rw (eq-eqb _ 0 e) in
     let accepted : isOneToOne (originalCount Z) list ≡ true = accept (originalCount Z) list (p .good) in
-    rw s (rule-length (Z .n) (Z .m) list (p .listed) accepted, p .good, rule-split (Z .n) (Z .m) list (p .listed) accepted)
+    rw s (rule-length (Z .n) (Z .m) list (p .listed) accepted, p .pinned, p .good, p .stays, rule-split (Z .n) (Z .m) list (p .listed) accepted)

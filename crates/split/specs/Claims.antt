@@ -4,9 +4,10 @@ use mathlib.Core.Bool.{true, false}
 use mathlib.Core.List.{List, [], _∷_}
 use Prim.Native.Nat.{ℕ, _+_, _-_, _*_, _≤_, _<_}
 use lib.ListN.{length}
-use Rattle.flash.specs.Geometry.{originalCount, setsLength}
+use Rattle.flash.specs.Geometry.{originalCount, pinsLength, setsLength}
 use Rattle.split.specs.OneToOne.{badList, isOneToOne}
 use Rattle.split.specs.Split.{isSplit}
+use Rattle.split.specs.Pins.{movesPinned}
 use Rattle.split.specs.Rule.{source, destination, blockAt, lowestUnused, pagesMet, setsGiven, splitByRule}
 use Rattle.split.specs.Request.{Request}
 use Rattle.split.specs.Answer.{splitAnswer}
@@ -39,10 +40,12 @@ WalkIsShort =
 abbrev pub WalkBoundMet : Type 0
 WalkBoundMet = length (walkOf 2 (0 ∷ 2 ∷ 1 ∷ 4 ∷ 3 ∷ 5 ∷ []) 4 4) ≡ 2 * 3 - 2
 
--- What a split call filled passes the tests of run and read: their numbers 2, 3 and 4 are not given for it.
+-- What a split call filled passes the tests of run and read: their numbers 2, 3, 11 and 4 are not given for it.
 abbrev pub FilledFits : Type 0
 FilledFits =
     (R : Request) → splitAnswer R .number ≡ 0
     → (length (splitAnswer R .sets) ≡ setsLength (R .sizes))
+    × (length (R .pins) ≡ pinsLength (R .sizes))
     × (badList (originalCount (R .sizes)) (R .list) ≡ false)
+    × (movesPinned (R .pins) (R .list) ≡ false)
     × (isSplit (R .sizes .n) (R .sizes .m) (R .list) (splitAnswer R .sets) ≡ true)

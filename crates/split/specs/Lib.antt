@@ -2,6 +2,7 @@
 pub mod OneToOne
 pub mod Split
 pub mod Rule
+pub mod Pins
 pub mod Request
 pub mod Answer
 pub mod Claims

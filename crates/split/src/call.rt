@@ -4,34 +4,38 @@ ghost use Rattle.flash.specs.Tables.{refusal};
 ghost use Rattle.split.specs.Request.{requestOf};
 ghost use Rattle.split.specs.Answer.{splitRows, splitAnswer};
 use crate::list::check;
+use crate::pins::moves_pinned;
 use crate::rule::fill;
 use flash::sizes::Sizes;
 use flash::sizes::in_range;
 use flash::sizes::original_count;
 
 // The number of the first row of the table that fits, or 0. Nothing is multiplied before the sizes are in range.
-fn refusal(sizes: Sizes, list: &[u16], sets: &[u8]) -> u32
-    ensures { λ r. ⌜ r ≡ refusal (splitRows (requestOf sizes (now (list .entry)) (now (sets .entry)))) ⌝ }
+fn refusal(sizes: Sizes, list: &[u16], pins: &[u8], sets: &[u8]) -> u32
+    ensures { λ r. ⌜ r ≡ refusal (splitRows (requestOf sizes (now (list .entry)) (now (pins .entry)) (now (sets .entry)))) ⌝ }
 {
     if !in_range(sizes) {
         return 1;
     }
     let originals = original_count(sizes);
-    if (list.len() != originals) | (sets.len() != originals) {
+    if (list.len() != originals) | (pins.len() != originals) | (sets.len() != originals) {
         return 2;
     }
     if !check(list, originals) {
         return 3;
     }
+    if moves_pinned(pins, list) {
+        return 11;
+    }
     0
 }
 
 // Fills the set bytes by the rule, or refuses and leaves them.
-pub fn split(sizes: Sizes, list: &[u16], sets: &mut [u8]) -> u32
+pub fn split(sizes: Sizes, list: &[u16], pins: &[u8], sets: &mut [u8]) -> u32
     ensures { λ r. ⌜ record { number = r; sets = now (sets .exit) }
-        ≡ splitAnswer (requestOf sizes (now (list .entry)) (now (sets .entry))) ⌝ }
+        ≡ splitAnswer (requestOf sizes (now (list .entry)) (now (pins .entry)) (now (sets .entry))) ⌝ }
 {
-    let number = refusal(sizes, list, sets);
+    let number = refusal(sizes, list, pins, sets);
     if number == 0 {
         fill(sizes.n, sizes.m, list, sets);
     }

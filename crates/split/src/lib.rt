@@ -4,6 +4,7 @@ mod inverse;
 pub mod list;
 mod mask;
 mod path;
+pub mod pins;
 pub mod rows;
 mod rule;
 mod tables;

@@ -1,6 +1,6 @@
 -- When the list is refused, and when it is split.
 use Rattle.flash.proofs.Kit.{_≡_, refl, sym, ap, _∙_, ⊎-elim, _≢_, Bool, true, false, not, _||_, true≢false, List, [], _∷_, ℕ, _*_, _≤_, arith, leb}
-use Rattle.flash.proofs.Kit.{length, eq-eqb, leb-false, le-leb}
+use Rattle.flash.proofs.Kit.{length, length-replicate, eq-eqb, leb-false, le-leb}
 use Rattle.flash.specs.Lists.{any, all}
 use Rattle.flash.specs.declared.sizes.Sizes.{Sizes}
 use Rattle.flash.specs.Geometry.{inRange}
@@ -8,9 +8,9 @@ use Rattle.flash.proofs.Bools.{bool-cases}
 use Rattle.flash.proofs.Tables.{refusal-skip, refusal-nil}
 use Rattle.flash.proofs.Bounds.{range-in}
 use Rattle.split.specs.OneToOne.{badList}
-use Rattle.split.specs.Request.{requestOf}
+use Rattle.split.specs.Request.{unpinned, badRequest}
 use Rattle.split.specs.Answer.{splitRows, SplitAnswer, splitAnswer}
-use Rattle.split.proofs.Answers.{passed}
+use Rattle.split.proofs.Answers.{passed, none-pinned}
 use Rattle.listing.specs.Lines.{refusedLine}
 use Rattle.listing.specs.Input.{isAllowed, request}
 use Rattle.listing.proofs.InputLaws.{bounded, few-originals}
@@ -44,19 +44,20 @@ module _ (Z : Sizes) (allowed : isAllowed Z ≡ true) (list bytes : List ℕ) wh
   in-range : inRange Z ≡ true
   in-range = range-in Z (in-bounds Z allowed)
 
-  module _ (old sets : List ℕ) (number : ℕ) (list-length : length list ≡ n * m) (sets-length : length old ≡ n * m) (S : record { number = number; sets = sets } ≡ splitAnswer (requestOf Z list old)) where
-    number-is : number ≡ splitAnswer (requestOf Z list old) .number
+  module _ (old sets : List ℕ) (number : ℕ) (list-length : length list ≡ n * m) (sets-length : length old ≡ n * m) (S : record { number = number; sets = sets } ≡ splitAnswer (unpinned Z list old)) where
+    number-is : number ≡ splitAnswer (unpinned Z list old) .number
     number-is = ap (λ (a : SplitAnswer). a .number) S
 
-    sets-are : sets ≡ splitAnswer (requestOf Z list old) .sets
+    sets-are : sets ≡ splitAnswer (unpinned Z list old) .sets
     sets-are = ap (λ (a : SplitAnswer). a .sets) S
 
     -- only row 3 can fit
     good-split : badList (n * m) list ≡ false → number ≡ 0
-    unfolding splitAnswer splitRows
+    unfolding splitAnswer splitRows badRequest
     good-split e =
         number-is
-        ∙ refusal-skip _ _ (ap not in-range) (refusal-skip _ _ (rw (eq-eqb _ _ list-length, eq-eqb _ _ sets-length)) (refusal-skip _ _ e refusal-nil))
+        ∙ refusal-skip _ _ (ap not in-range) (refusal-skip _ _ (rw (eq-eqb _ _ list-length, eq-eqb _ _ (length-replicate {A = ℕ} (n * m) 0), eq-eqb _ _ sets-length))
+        (refusal-skip _ _ e (refusal-skip _ _ (none-pinned (n * m) list) refusal-nil)))
 
     pub not-split : number ≢ 0 → answered (request Z list bytes) ≡ refusedLine 3
     unfolding answered
@@ -69,7 +70,7 @@ module _ (Z : Sizes) (allowed : isAllowed Z ≡ true) (list bytes : List ℕ) wh
     module _ (e : number ≡ 0) where
       good : badList (n * m) list ≡ false
       unfolding splitAnswer
-      good = passed (requestOf Z list old) (sym (number-is) ∙ e) .good
+      good = passed (unpinned Z list old) (sym (number-is) ∙ e) .good
 
       pub is-split : Readable Z list bytes → AcceptedInput Z list sets bytes
       unfolding splitAnswer

@@ -18,6 +18,10 @@ zeros-taken count most h = let z : 0 * count ≡ 0 = omega arith in rw z at (par
 pub zeros-length : (count most : ℕ) → count ≤ most → length (take count (replicate {A = ℕ} most 0)) ≡ count
 zeros-length count most h = ap length (zeros-taken count most h) ∙ length-replicate {A = ℕ} count 0
 
+-- as many zeros as there are pages pin none
+pub no-pins : {count originals : ℕ} → count ≡ originals → count ≤ 64 → take count (replicate {A = ℕ} 64 0) ≡ replicate originals 0
+no-pins {count} {originals} e h = zeros-taken count 64 h ∙ ap (λ (x : ℕ). replicate {A = ℕ} x 0) e
+
 -- an array of zeros whose front came back from a call, to be lent once more
 abbrev pub whole : (count most : ℕ) → (front : List ℕ) → List ℕ
 whole count most front = front ++ drop count (replicate most 0)

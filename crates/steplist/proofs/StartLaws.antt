@@ -13,7 +13,8 @@ use Rattle.flash.proofs.Blocks.{full-of}
 use Rattle.flash.proofs.Chips.{blank-of}
 use Rattle.split.specs.OneToOne.{isOneToOne}
 use Rattle.split.proofs.RuleLaws.{rule-split, rule-length}
-use Rattle.split.specs.Request.{Request, requestOf}
+use Rattle.split.specs.Request.{Request, unpinned}
+use Rattle.split.proofs.Answers.{none-pinned}
 use Rattle.method.specs.Move.{move, AcceptedMove}
 use Rattle.method.specs.State.{isAtRest, atRest}
 use Rattle.method.specs.Step.{Running, runningOf}
@@ -93,7 +94,7 @@ module _ (Z : Sizes) (list sets bytes : List ℕ) where
   open Sizes Z using (n, m, p as P, s)
 
   abbrev R : Request
-  R = requestOf Z list sets
+  R = unpinned Z list sets
 
   module _ (A : AcceptedInput Z list sets bytes) where
     limits : Bounded Z
@@ -129,6 +130,7 @@ module _ (Z : Sizes) (list sets bytes : List ℕ) where
             accepted = accepted;
             lent = record { store-length = store-is; marks-length = marks-size Z bytes; work-length = length-replicate {A = ℕ} P 0 };
             stands = rest-stands (move R) accepted (atRest Z bytes) store-is (marks-size Z bytes) (is-at-rest Z bytes);
+            pins = record { pins-length = length-replicate {A = ℕ} (n * m) 0; stay = none-pinned (n * m) list };
           });
         })
 

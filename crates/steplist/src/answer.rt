@@ -12,6 +12,8 @@ ghost use Rattle.steplist.specs.inner.Given.{Asked, Readable, AcceptedIn
 use crate::listed::put_listing;
 use crate::rest::put_marks;
 use crate::rest::put_store;
+use crate::unpinned::MOST_ORIGINALS;
+use crate::unpinned::split_unpinned;
 use flash::sizes::Sizes;
 use flash::sizes::original_count;
 use flash::sizes::slot_count;
@@ -25,16 +27,12 @@ use listing::input::numbers_due;
 use listing::input::read;
 use listing::lines::put_refused;
 use listing::lines::put_unreadable;
-use split::call::split;
 
 // Room for the longest output.
 pub const MOST_OUTPUT: usize = 32768;
 
 // The largest number that an entry of 16 bits holds.
 const MOST_ENTRY: u32 = 65535;
-
-// The most originals: n and m are at most 8.
-const MOST_ORIGINALS: usize = 64;
 
 // The most slots, with the spare's.
 const MOST_SLOTS: usize = 72;
@@ -89,7 +87,7 @@ fn put_judged(
         return put_refused(out, 0, 3);
     }
     put_entries(entries, list);
-    if split(sizes, list, sets) != 0 {
+    if split_unpinned(sizes, list, sets) != 0 {
         return put_refused(out, 0, 3);
     }
     put_accepted(out, sizes, list, sets, originals)

@@ -3,6 +3,7 @@ pub mod answer;
 mod line;
 mod listed;
 mod rest;
+mod unpinned;
 
 ghost use Rattle.steplist.specs.Example.{Examples};
 

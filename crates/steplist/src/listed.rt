@@ -2,7 +2,7 @@
 ghost use mathlib.Core.Path.{_≡_};
 ghost use Prim.Native.Nat.{_+_, _≤_, _<_};
 ghost use lib.ListN.{length};
-ghost use Rattle.split.specs.Request.{requestOf};
+ghost use Rattle.split.specs.Request.{unpinned};
 ghost use Rattle.method.specs.Move.{moveOf};
 ghost use Rattle.method.specs.Place.{lastPlace};
 ghost use Rattle.method.specs.Step.{runningOf};
@@ -10,10 +10,10 @@ ghost use Rattle.listing.specs.Area.{Written};
 ghost use Rattle.steplist.specs.Output.{moveLines};
 ghost use Rattle.steplist.specs.inner.Listing.{Listable, moved, mostLine, mostOutput, Stepped};
 use crate::line::put_line;
+use crate::unpinned::run_unpinned;
 use flash::casts::word;
 use flash::sizes::Sizes;
 use listing::lines::put_end;
-use mover::run::run;
 use places::place::last_place;
 
 // How far the listing has come: the next position, and what was counted.
@@ -35,13 +35,13 @@ fn put_step(
     work: &mut [u8],
     place: usize,
 ) -> Shown
-    requires { ⌜ Listable (requestOf sizes (now list) (now sets)) (runningOf (now store) (now marks) (now work)) place ⌝ }
+    requires { ⌜ Listable (unpinned sizes (now list) (now sets)) (runningOf (now store) (now marks) (now work)) place ⌝ }
     requires { ⌜ (place < lastPlace sizes) × (at + mostLine ≤ length (now out)) ⌝ }
     ensures { λ r. ⌜ Stepped (moveOf sizes (now (list .entry)) (now (sets .entry))) place
         (runningOf (now (store .entry)) (now (marks .entry)) (now (work .entry))) (now (out .entry)) at r (now (out .exit))
         (now (store .exit)) (now (marks .exit)) (now (work .exit)) ⌝ }
 {
-    let ran = run(sizes, list, sets, store, marks, work, place, 1);
+    let ran = run_unpinned(sizes, list, sets, store, marks, work, place, 1);
     let next = put_line(out, at, sizes, place, work);
     Shown {
         at: next,
@@ -60,7 +60,7 @@ pub fn put_listing(
     marks: &mut [u8],
     work: &mut [u8],
 ) -> usize
-    requires { ⌜ Listable (requestOf sizes (now list) (now sets)) (runningOf (now store) (now marks) (now work)) 0
+    requires { ⌜ Listable (unpinned sizes (now list) (now sets)) (runningOf (now store) (now marks) (now work)) 0
         × (mostOutput ≤ length (now out)) ⌝ }
     ensures { λ r. ⌜ Written (moveLines (moveOf sizes (now (list .entry)) (now (sets .entry)))
         (runningOf (now (store .entry)) (now (marks .entry)) (now (work .entry)))) (now (out .entry)) (now (out .exit)) r ⌝ }

@@ -23,6 +23,8 @@ pub fn check(tally: &mut Tally) {
     tally.check("P9", torn_erase());
     tally.check("P10", recovery_after_finish());
     tally.check("P11", no_budget());
+    tally.check("pins", pins());
+    tally.check("pinned pages travel", pinned_pages_travel());
     tally.check("written bytes", bytes_counted());
     tally.check("the most bytes", most_bytes());
     tally.check("bytes that no move has left", nonsense_bytes());
@@ -99,6 +101,7 @@ fn data_blocks_give(n: u32, due: u32) -> Outcome {
     let mut scene = Scene::at_rest(sizes(1, 1), vec![0], vec![0]);
     scene.sizes = sizes(n, 1);
     scene.list = (0..n as u16).collect();
+    scene.pins = vec![0; count];
     scene.sets = vec![0; count];
     scene.flash = Flash::at_rest(scene.sizes, &vec![0; count]);
     for call in CALLS {
@@ -156,6 +159,41 @@ fn recovery_after_finish() -> Outcome {
     }
     same("a second move", scene.run(0, 12).numbers.returned, 5)?;
     same("the end", scene.run(12, 12).numbers.finished, 1)
+}
+
+/// Pages 1 and 2 trade places: 0 and 3 may be pinned, they may not.
+fn pins() -> Outcome {
+    let mut scene = Scene::at_rest(sizes(2, 2), vec![0, 2, 1, 3], vec![1, 2, 4, 8]);
+    let calls = [Call::Split, Call::Run, Call::Read];
+    let numbers = |scene: &Scene| calls.map(|call| answer(&scene.request(call)).numbers.returned);
+    scene.pins = vec![1, 0, 0, 200];
+    same("pinned pages stay", numbers(&scene), [0, 0, 0])?;
+    let sets = answer(&scene.request(Call::Split)).parts.sets;
+    same("sets", &sets[..], &[1, 0, 0, 1])?;
+    scene.pins = vec![0, 2, 0, 0];
+    same("a pinned page moves", numbers(&scene), [11, 11, 11])?;
+    scene.sets = vec![2, 0, 0, 1];
+    same("11 before 4", numbers(&scene), [11, 11, 11])?;
+    scene.list = vec![0, 2, 2, 3];
+    same("3 before 11", numbers(&scene), [3, 3, 3])?;
+    scene.pins.pop();
+    same("one pin too few", numbers(&scene), [2, 2, 2])
+}
+
+/// In mid-move page 3 is not where it lay, but it can be read, and ends there.
+fn pinned_pages_travel() -> Outcome {
+    let mut scene = Scene::at_rest(sizes(2, 2), vec![0, 2, 1, 3], vec![1, 2, 4, 8]);
+    scene.pins = vec![1, 0, 0, 200];
+    scene.run(0, 6);
+    ensure(scene.flash.is_blank(5), || "slot 5 is not blank".into())?;
+    let read = answer(&scene.read_request(3));
+    same(
+        "read",
+        (read.numbers.count, &read.parts.work[..]),
+        (1, &[8]),
+    )?;
+    scene.run(6, 6);
+    same("page 3 at the end", scene.flash.page(5), &[8])
 }
 
 /// Two pages trade places, one half 255 and one 255 throughout: their sum has no

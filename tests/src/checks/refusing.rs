@@ -1,4 +1,4 @@
-//! The table of refusals: each number alone, and the lower of any two.
+//! The table of refusals: each number alone, and the first of any two.
 
 use super::tally::{same, Tally};
 use crate::scene::Scene;
@@ -33,7 +33,15 @@ macro_rules! case {
     };
 }
 
-/// Written for the scene below: n = 2, m = 2, P = 2, s = 1, place 1.
+/// The order in which the numbers are looked for.
+const ORDER: [u32; 8] = [1, 2, 3, 11, 4, 5, 6, 7];
+
+fn place_in_order(number: u32) -> Option<usize> {
+    ORDER.iter().position(|&other| other == number)
+}
+
+/// Written for the scene below: n = 2, m = 2, P = 2, s = 1, place 1, pages 0
+/// and 3 pinned.
 const CASES: &[Case] = &[
     case!(1, &CALLS, "n = 0", |r| r.sizes.n = 0),
     case!(1, &CALLS, "n = 65", |r| r.sizes.n = 65),
@@ -47,6 +55,12 @@ const CASES: &[Case] = &[
     case!(3, LIST_CALLS, "an entry of 65535", |r| r.parts.list[..2]
         .fill(255)),
     case!(3, LIST_CALLS, "a high byte", |r| r.parts.list[1] = 1),
+    case!(11, LIST_CALLS, "a pinned page that moves", |r| r
+        .parts
+        .pins[1] =
+        1),
+    case!(11, LIST_CALLS, "a pin of 255", |r| r.parts.pins[2] = 255),
+    case!(11, LIST_CALLS, "all pages pinned", |r| r.parts.pins.fill(2)),
     case!(4, SET_CALLS, "a set of m", |r| r.parts.sets[0] = 2),
     case!(4, SET_CALLS, "two pages of a set from a block", |r| r
         .parts
@@ -128,6 +142,7 @@ fn base(call: Call) -> Request {
     };
     let mut scene = Scene::at_rest(sizes, vec![0, 2, 1, 3], (1..=8).collect());
     let page = [9, 9];
+    scene.pins = vec![1, 0, 0, 200];
     scene.flash = Flash::at_rest(sizes, &scene.originals);
     scene.flash.put_page(0, 2, &page);
     Request {
@@ -178,22 +193,29 @@ fn wrong_length(call: Call, part: Part, due: u32) -> Outcome {
     Ok(())
 }
 
-/// The lowest number that applies, among all pairs and with a wrong length.
+/// The first number of the order that applies, among all pairs and with a wrong
+/// length of each part.
 fn two_flaws(call: Call) -> Outcome {
     let mine: Vec<&Case> = CASES
         .iter()
         .filter(|case| case.calls.contains(&call))
         .collect();
     for first in &mine {
-        for second in mine.iter().filter(|second| second.number > first.number) {
+        let place = place_in_order(first.number);
+        for second in &mine {
+            if place_in_order(second.number) <= place {
+                continue;
+            }
             let both = flawed(call, &[first, second]);
             returns(&both, first.number)
                 .map_err(|why| format!("{} and {}: {why}", first.name, second.name))?;
         }
-        let mut short = flawed(call, &[first]);
-        short.parts.get_mut(call.parts()[1]).pop();
-        returns(&short, first.number.min(2))
-            .map_err(|why| format!("{} and a length: {why}", first.name))?;
+        for &part in call.parts() {
+            let mut short = flawed(call, &[first]);
+            short.parts.get_mut(part).pop();
+            returns(&short, first.number.min(2))
+                .map_err(|why| format!("{} and a length: {why}", first.name))?;
+        }
     }
     Ok(())
 }

@@ -54,7 +54,7 @@ const NOT_LENT: Raw = Raw {
 };
 
 /// The parts in the order of `ALL_PARTS`.
-type Loan = [Raw; 5];
+type Loan = [Raw; 6];
 
 /// The request with place, budget and original 0.
 unsafe fn request_of(call: Call, sizes: [u32; 4], loan: &Loan) -> Request {
@@ -110,11 +110,14 @@ unsafe extern "C" fn split<R: Rules, M: Manners>(
     s: u32,
     list: *const u8,
     list_len: u64,
+    pins: *const u8,
+    pins_len: u64,
     sets: *mut u8,
     sets_len: u64,
 ) -> u32 {
     let loan = [
         raw(list, list_len),
+        raw(pins, pins_len),
         raw(sets, sets_len),
         NOT_LENT,
         NOT_LENT,
@@ -133,6 +136,8 @@ unsafe extern "C" fn run<R: Rules, M: Manners>(
     s: u32,
     list: *const u8,
     list_len: u64,
+    pins: *const u8,
+    pins_len: u64,
     sets: *const u8,
     sets_len: u64,
     store: *mut u8,
@@ -150,10 +155,10 @@ unsafe extern "C" fn run<R: Rules, M: Manners>(
     finished: *mut u32,
     written_bytes: *mut u32,
 ) -> u32 {
-    let (list, sets) = (raw(list, list_len), raw(sets, sets_len));
     let loan = [
-        list,
-        sets,
+        raw(list, list_len),
+        raw(pins, pins_len),
+        raw(sets, sets_len),
         raw(store, store_len),
         raw(marks, marks_len),
         raw(work, work_len),
@@ -189,6 +194,7 @@ unsafe extern "C" fn mend<R: Rules, M: Manners>(
     let loan = [
         NOT_LENT,
         NOT_LENT,
+        NOT_LENT,
         raw(store, store_len),
         raw(marks, marks_len),
         NOT_LENT,
@@ -209,6 +215,8 @@ unsafe extern "C" fn read<R: Rules, M: Manners>(
     s: u32,
     list: *const u8,
     list_len: u64,
+    pins: *const u8,
+    pins_len: u64,
     sets: *const u8,
     sets_len: u64,
     store: *const u8,
@@ -221,10 +229,10 @@ unsafe extern "C" fn read<R: Rules, M: Manners>(
     count: *mut u32,
     written_bytes: *mut u32,
 ) -> u32 {
-    let (list, sets) = (raw(list, list_len), raw(sets, sets_len));
     let loan = [
-        list,
-        sets,
+        raw(list, list_len),
+        raw(pins, pins_len),
+        raw(sets, sets_len),
         raw(store, store_len),
         raw(marks, marks_len),
         raw(work, work_len),

@@ -12,6 +12,8 @@ pub fn faults() -> Vec<Fault> {
         rude::<PastWork>("a byte behind the work page is written"),
         rude::<ReadTouchesStore>("read changes the store"),
         rude::<SplitTouchesList>("split changes the list"),
+        rude::<RunTouchesPins>("run changes the pins"),
+        rude::<BeforePins>("a byte before the pins is written"),
         rude::<UnsetAtRefusal>("a refusal leaves the returned numbers unset"),
     ]
 }
@@ -67,6 +69,26 @@ impl Manners for SplitTouchesList {
     unsafe fn harm(call: Call, part: Part, raw: Raw) {
         if call == Call::Split && part == Part::List && raw.len > 0 {
             *raw.start ^= 1;
+        }
+    }
+}
+
+struct RunTouchesPins;
+
+impl Manners for RunTouchesPins {
+    unsafe fn harm(call: Call, part: Part, raw: Raw) {
+        if call == Call::Run && part == Part::Pins && raw.len > 0 {
+            *raw.start ^= 1;
+        }
+    }
+}
+
+struct BeforePins;
+
+impl Manners for BeforePins {
+    unsafe fn harm(_call: Call, part: Part, raw: Raw) {
+        if part == Part::Pins {
+            *raw.start.sub(1) = 1;
         }
     }
 }

@@ -6,6 +6,7 @@ pub mod hex;
 pub mod lists;
 mod manners;
 pub mod operations;
+mod pinning;
 pub mod programs;
 mod reading;
 mod recovery;
@@ -36,6 +37,7 @@ pub fn all_faults() -> Vec<Fault> {
         reading::faults(),
         recovery::faults(),
         counting::faults(),
+        pinning::faults(),
         manners::faults(),
     ];
     topics.into_iter().flatten().collect()

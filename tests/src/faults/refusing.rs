@@ -39,8 +39,8 @@ pub fn faults() -> Vec<Fault> {
     ]
 }
 
-/// The right order with two neighbours exchanged, where the call has both.
-macro_rules! exchanged_order {
+/// The order of some calls is another.
+macro_rules! other_order {
     ($fault:ident, $call:pat, $order:expr) => {
         struct $fault;
         impl Rules for $fault {
@@ -55,26 +55,32 @@ macro_rules! exchanged_order {
     };
 }
 
-exchanged_order!(LengthsBeforeSizes, Call::Mend, [Lengths, Sizes, Marks]);
-exchanged_order!(ListBeforeLengths, Call::Split, [Sizes, List, Lengths]);
-exchanged_order!(
+pub(super) use other_order;
+
+other_order!(LengthsBeforeSizes, Call::Mend, [Lengths, Sizes, Marks]);
+other_order!(
+    ListBeforeLengths,
+    Call::Split,
+    [Sizes, List, Lengths, Pinned]
+);
+other_order!(
     SplitBeforeList,
     Call::Run,
-    [Sizes, Lengths, Split, List, Place]
+    [Sizes, Lengths, Split, List, Pinned, Place]
 );
-exchanged_order!(
+other_order!(
     PlaceBeforeSplit,
     Call::Run,
-    [Sizes, Lengths, List, Place, Split]
+    [Sizes, Lengths, List, Pinned, Place, Split]
 );
-exchanged_order!(
+other_order!(
     OriginalBeforeMarks,
     Call::Read,
-    [Sizes, Lengths, List, Split, Original, Marks]
+    [Sizes, Lengths, List, Pinned, Split, Original, Marks]
 );
 
 /// One part may also be `OFF` bytes longer.
-struct LooseLength<const PART: usize, const OFF: i128>;
+pub(super) struct LooseLength<const PART: usize, const OFF: i128>;
 
 impl<const PART: usize, const OFF: i128> Rules for LooseLength<PART, OFF> {
     fn length_fits(part: Part, given: usize, due: u128) -> bool {

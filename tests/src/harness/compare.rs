@@ -39,6 +39,8 @@ pub struct Comparer<'a> {
     compared: [u64; 4],
     /// Runs and reads that counted none, some and all bytes of their pages.
     counted: [u64; 3],
+    /// Calls with pinned pages that were carried out, and that were refused for them.
+    pinned: [u64; 2],
     /// The events of lists: calls, cut ones among them, and cuts between calls.
     pub events: u64,
     pub cuts: u64,
@@ -56,6 +58,7 @@ impl<'a> Comparer<'a> {
             calls,
             compared: [0; 4],
             counted: [0; 3],
+            pinned: [0; 2],
             events: 0,
             cuts: 0,
             rounds: rounds_from_environment(),
@@ -81,6 +84,7 @@ impl<'a> Comparer<'a> {
         }
         self.compared[request.call as usize] += 1;
         self.note_count(request, &due.numbers);
+        self.note_pins(request, &due.numbers);
         Ok(due)
     }
 
@@ -98,6 +102,14 @@ impl<'a> Comparer<'a> {
         }
     }
 
+    fn note_pins(&mut self, request: &Request, numbers: &Numbers) {
+        match numbers.returned {
+            0 if request.parts.pins.iter().any(|&pin| pin != 0) => self.pinned[0] += 1,
+            11 => self.pinned[1] += 1,
+            _ => {}
+        }
+    }
+
     fn all_compared(&self) -> u64 {
         self.compared.iter().sum()
     }
@@ -108,6 +120,8 @@ impl<'a> Comparer<'a> {
         }
         let [none, some, all] = self.counted;
         println!("written bytes: none of the pages {none} times, some {some}, all {all}");
+        let [done, refused] = self.pinned;
+        println!("pins: {done} calls carried out, {refused} refused as 11");
         println!("rounds: {}", self.rounds);
         println!("events: {}, {} of them cut", self.events, self.cuts);
     }
@@ -140,7 +154,8 @@ pub fn difference(given: Result<Answer, String>, due: &Answer) -> Option<String>
 /// What the gate asks of the lists of events.
 const LEAST_EVENTS: u64 = 100_000;
 
-/// And of the runs and reads that count none, some or all bytes.
+/// And of the runs and reads that count none, some or all bytes, and of the
+/// calls with pins.
 const LEAST_COUNTED: u64 = 1000;
 
 /// Each family has its own random numbers from the seed.
@@ -173,6 +188,13 @@ pub fn check_mover(tally: &mut Tally, name: &str, calls: &Calls, seed: u64) {
         &format!("{name}, counts of every kind"),
         ensure(counted.iter().all(|&times| times >= LEAST_COUNTED), || {
             format!("one of {counted:?} is below {LEAST_COUNTED}")
+        }),
+    );
+    let pinned = comparer.pinned;
+    tally.check(
+        &format!("{name}, pins kept and moved"),
+        ensure(pinned.iter().all(|&times| times >= LEAST_COUNTED), || {
+            format!("one of {pinned:?} is below {LEAST_COUNTED}")
         }),
     );
 }

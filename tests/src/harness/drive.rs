@@ -7,6 +7,7 @@ use crate::simulator::request::{Answer, Call, Numbers, Parts, Request};
 /// The lent parts of one call.
 struct Loan {
     list: Lent,
+    pins: Lent,
     sets: Lent,
     store: Lent,
     marks: Lent,
@@ -17,6 +18,7 @@ impl Loan {
     fn new(parts: &Parts) -> Loan {
         Loan {
             list: Lent::new(&parts.list),
+            pins: Lent::new(&parts.pins),
             sets: Lent::new(&parts.sets),
             store: Lent::new(&parts.store),
             marks: Lent::new(&parts.marks),
@@ -27,6 +29,7 @@ impl Loan {
     fn take(self) -> Result<Parts, String> {
         Ok(Parts {
             list: self.list.take("list")?,
+            pins: self.pins.take("pins")?,
             sets: self.sets.take("sets")?,
             store: self.store.take("store")?,
             marks: self.marks.take("marks")?,
@@ -86,6 +89,8 @@ fn drive_split(calls: &Calls, request: &Request, loan: &mut Loan) -> u32 {
             sizes.s,
             loan.list.pointer(),
             loan.list.length(),
+            loan.pins.pointer(),
+            loan.pins.length(),
             loan.sets.pointer(),
             loan.sets.length(),
         )
@@ -103,6 +108,8 @@ fn drive_run(calls: &Calls, request: &Request, loan: &mut Loan, outs: [*mut u32;
             sizes.s,
             loan.list.pointer(),
             loan.list.length(),
+            loan.pins.pointer(),
+            loan.pins.length(),
             loan.sets.pointer(),
             loan.sets.length(),
             loan.store.pointer(),
@@ -153,6 +160,8 @@ fn drive_read(calls: &Calls, request: &Request, loan: &mut Loan, outs: [*mut u32
             sizes.s,
             loan.list.pointer(),
             loan.list.length(),
+            loan.pins.pointer(),
+            loan.pins.length(),
             loan.sets.pointer(),
             loan.sets.length(),
             loan.store.pointer(),

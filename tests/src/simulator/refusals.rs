@@ -16,16 +16,18 @@ pub enum Refusal {
     Place = 5,
     Marks = 6,
     Original = 7,
+    Pinned = 11,
 }
 
-/// The column "given by" of the table, lowest number first.
+/// The column "given by" of the table, lowest number first, but for 11, which
+/// comes between 3 and 4.
 pub fn order(call: Call) -> &'static [Refusal] {
     use Refusal::*;
     match call {
-        Call::Split => &[Sizes, Lengths, List],
-        Call::Run => &[Sizes, Lengths, List, Split, Place],
+        Call::Split => &[Sizes, Lengths, List, Pinned],
+        Call::Run => &[Sizes, Lengths, List, Pinned, Split, Place],
         Call::Mend => &[Sizes, Lengths, Marks],
-        Call::Read => &[Sizes, Lengths, List, Split, Marks, Original],
+        Call::Read => &[Sizes, Lengths, List, Pinned, Split, Marks, Original],
     }
 }
 
@@ -45,6 +47,7 @@ fn applies<R: Rules>(refusal: Refusal, request: &Request) -> bool {
         Refusal::Place => !place_fits::<R>(&flash(), request.place as usize),
         Refusal::Marks => R::recovery(&flash()).is_none(),
         Refusal::Original => request.original as usize >= sizes.originals(),
+        Refusal::Pinned => R::moves_pinned(request),
     }
 }
 
@@ -64,7 +67,7 @@ fn due_length(sizes: &Sizes, part: Part) -> u128 {
     let [n, m, bytes] = [sizes.n, sizes.m, sizes.page_bytes].map(u128::from);
     match part {
         Part::List => 2 * n * m,
-        Part::Sets => n * m,
+        Part::Pins | Part::Sets => n * m,
         Part::Store => (n + 1) * m * bytes,
         Part::Marks => (n + 1) * m,
         Part::Work => bytes,

@@ -18,6 +18,7 @@ pub const CALLS: [Call; 4] = [Call::Split, Call::Run, Call::Mend, Call::Read];
 #[derive(Clone, Copy, Debug, PartialEq, Eq)]
 pub enum Part {
     List,
+    Pins,
     Sets,
     Store,
     Marks,
@@ -28,19 +29,27 @@ impl Call {
     /// The parts that the caller lends.
     pub fn parts(self) -> &'static [Part] {
         match self {
-            Call::Split => &[Part::List, Part::Sets],
+            Call::Split => &[Part::List, Part::Pins, Part::Sets],
             Call::Mend => &[Part::Store, Part::Marks],
             Call::Run | Call::Read => &ALL_PARTS,
         }
     }
 }
 
-pub const ALL_PARTS: [Part; 5] = [Part::List, Part::Sets, Part::Store, Part::Marks, Part::Work];
+pub const ALL_PARTS: [Part; 6] = [
+    Part::List,
+    Part::Pins,
+    Part::Sets,
+    Part::Store,
+    Part::Marks,
+    Part::Work,
+];
 
 /// The memory a caller lends; a part that a call does not take is empty.
 #[derive(Clone, Debug, Default, PartialEq)]
 pub struct Parts {
     pub list: Vec<u8>,
+    pub pins: Vec<u8>,
     pub sets: Vec<u8>,
     pub store: Vec<u8>,
     pub marks: Vec<u8>,
@@ -51,6 +60,7 @@ impl Parts {
     pub fn get(&self, part: Part) -> &Vec<u8> {
         match part {
             Part::List => &self.list,
+            Part::Pins => &self.pins,
             Part::Sets => &self.sets,
             Part::Store => &self.store,
             Part::Marks => &self.marks,
@@ -61,6 +71,7 @@ impl Parts {
     pub fn get_mut(&mut self, part: Part) -> &mut Vec<u8> {
         match part {
             Part::List => &mut self.list,
+            Part::Pins => &mut self.pins,
             Part::Sets => &mut self.sets,
             Part::Store => &mut self.store,
             Part::Marks => &mut self.marks,
@@ -118,6 +129,7 @@ impl fmt::Display for Request {
         writeln!(out, "    sizes: {:?},", self.sizes)?;
         writeln!(out, "    parts: Parts {{")?;
         writeln!(out, "        list: vec!{:?},", parts.list)?;
+        writeln!(out, "        pins: vec!{:?},", parts.pins)?;
         writeln!(out, "        sets: vec!{:?},", parts.sets)?;
         writeln!(out, "        store: vec!{:?},", parts.store)?;
         writeln!(out, "        marks: vec!{:?},", parts.marks)?;

@@ -23,9 +23,21 @@ pub trait Rules {
         given as u128 == due
     }
 
-    /// The refusals a call looks for, lowest number first.
+    /// The refusals a call looks for, in this order.
     fn refusal_order(call: Call) -> &'static [Refusal] {
         order(call)
+    }
+
+    /// Does a page with this byte have to stay?
+    fn is_pinned(byte: u8) -> bool {
+        byte != 0
+    }
+
+    /// Does the list send a pinned page elsewhere?
+    fn moves_pinned(request: &Request) -> bool {
+        let numbers = request.destinations();
+        let mut pages = numbers.iter().zip(&request.parts.pins).enumerate();
+        pages.any(|(k, (&number, &pin))| Self::is_pinned(pin) && number != k)
     }
 
     /// The pages on which the split exchanges sets a and b.

@@ -100,6 +100,7 @@ fn list_bytes(list: &[u32]) -> Option<Vec<u8>> {
 fn steps_text(sizes: Sizes, list: Vec<u32>, originals: &[u8]) -> Result<String, &'static str> {
     let parts = Parts {
         list: list_bytes(&list).ok_or("refused 3")?,
+        pins: vec![0; sizes.originals()],
         sets: vec![0; sizes.originals()],
         ..Parts::default()
     };

@@ -4,7 +4,7 @@ use Rattle.flash.proofs.Kit.{eq-eqb, ltb-false, le-ltb, not-true, not-false}
 use Rattle.flash.specs.Lists.{range, any, isSame}
 use Rattle.flash.specs.Tables.{Row, refusal}
 use Rattle.flash.specs.declared.sizes.Sizes.{Sizes}
-use Rattle.flash.specs.Geometry.{inRange, slotCount, storeLength, marksLength, listLength, setsLength, workLength}
+use Rattle.flash.specs.Geometry.{inRange, slotCount, storeLength, marksLength, listLength, pinsLength, setsLength, workLength}
 use Rattle.flash.specs.Chip.{Chip, erased, markAt, isBlank}
 use Rattle.flash.proofs.Bools.{bool-cases, or-false-left, or-false-right}
 use Rattle.flash.proofs.Tables.{refusal-zero, refusal-skip, refusal-nil}
@@ -12,7 +12,9 @@ use Rattle.flash.proofs.Bounds.{in-range, range-in}
 use Rattle.flash.proofs.Ranges.{none-in, none-is}
 use Rattle.flash.proofs.Same.{same-eq, eq-same}
 use Rattle.split.specs.OneToOne.{isOneToOne}
-use Rattle.split.specs.Request.{Request}
+use Rattle.split.specs.Pins.{movesPinned}
+use Rattle.split.specs.Request.{Request, badRequest}
+use Rattle.split.proofs.Answers.{lengths-are}
 use Rattle.method.specs.Move.{move, AcceptedMove, Lent}
 use Rattle.method.specs.Place.{lastPlace, marksOf}
 use Rattle.method.specs.Answers.{badChip, badParts, isElsewhere, moveRows, runRows}
@@ -23,6 +25,11 @@ pub record StandsAt (Z : Sizes) (chip : Chip) (place : ℕ) : Type 0 where
   pub marks : chip .marks ≡ marksOf Z place
   pub blank : (t : ℕ) → t < slotCount Z → markAt (chip .marks) t ≡ erased → isBlank (Z .p) chip t ≡ true
 
+-- the pins are as many as there are pages, and the list leaves the pinned ones where they are
+pub record PinsFit (R : Request) : Type 0 where
+  pub pins-length : length (R .pins) ≡ pinsLength (R .sizes)
+  pub stay : movesPinned (R .pins) (R .list) ≡ false
+
 same-length : (x y : ℕ) → not (eqb x y) ≡ false → x ≡ y
 same-length x y e = eqb-true x y (not-false (eqb x y) e)
 
@@ -31,62 +38,67 @@ length-same x y e = rw (eq-eqb x y e)
 
 -- rows 1 to 4
 module _ (R : Request) (chip : Chip) (work : List ℕ) where
-  open Request R using (sizes as Z, list, sets)
+  open Request R using (sizes as Z, list, pins, sets)
 
-  pub parts-ok : badParts R chip work ≡ false → (length list ≡ listLength Z) × (length sets ≡ setsLength Z) × Lent Z chip work
+  pub parts-ok : badParts R chip work ≡ false
+      → (length list ≡ listLength Z) × (length pins ≡ pinsLength Z) × (length sets ≡ setsLength Z) × Lent Z chip work
   unfolding badParts badChip
   parts-ok e =
-      let a = not (eqb (length list) (listLength Z)) in
-      let b = not (eqb (length sets) (setsLength Z)) in
       let c = not (eqb (length (chip .store)) (storeLength Z)) in
       let d = not (eqb (length (chip .marks)) (marksLength Z)) in
       let f = not (eqb (length work) (workLength Z)) in
-      let abc = or-false-left (a || b || (c || d)) f e in
-      let ab = or-false-left (a || b) (c || d) abc in
-      let cd = or-false-right (a || b) (c || d) abc in (
-        same-length (length list) (listLength Z) (or-false-left a b ab),
-        same-length (length sets) (setsLength Z) (or-false-right a b ab),
+      let asked = or-false-left (badRequest R || (c || d)) f e in
+      let l = lengths-are R (or-false-left (badRequest R) (c || d) asked) in
+      let cd = or-false-right (badRequest R) (c || d) asked in (
+        l .0,
+        l .1,
+        l .2,
         record {
           store-length = same-length (length (chip .store)) (storeLength Z) (or-false-left c d cd);
           marks-length = same-length (length (chip .marks)) (marksLength Z) (or-false-right c d cd);
-          work-length = same-length (length work) (workLength Z) (or-false-right (a || b || (c || d)) f e);
+          work-length = same-length (length work) (workLength Z) (or-false-right (badRequest R || (c || d)) f e);
         },
       )
 
-  ok-parts : length list ≡ listLength Z → length sets ≡ setsLength Z → Lent Z chip work → badParts R chip work ≡ false
-  unfolding badParts badChip
-  ok-parts a b L = rw (
+  ok-parts : length list ≡ listLength Z → length pins ≡ pinsLength Z → length sets ≡ setsLength Z → Lent Z chip work → badParts R chip work ≡ false
+  unfolding badRequest badParts badChip
+  ok-parts a p b L = rw (
     length-same (length list) (listLength Z) a,
+    length-same (length pins) (pinsLength Z) p,
     length-same (length sets) (setsLength Z) b,
     length-same (length (chip .store)) (storeLength Z) (L .store-length),
     length-same (length (chip .marks)) (marksLength Z) (L .marks-length),
     length-same (length work) (workLength Z) (L .work-length),
   )
 
-  pub move-accepted : (rest : List (Row ℕ)) → refusal (moveRows R chip work rest) ≡ 0 → AcceptedMove (move R) × Lent Z chip work × (refusal rest ≡ 0)
+  pub move-accepted : (rest : List (Row ℕ)) → refusal (moveRows R chip work rest) ≡ 0
+      → AcceptedMove (move R) × Lent Z chip work × PinsFit R × (refusal rest ≡ 0)
   unfolding moveRows isOneToOne
   move-accepted rest e =
       let one = refusal-zero _ _ (omega arith) e in
       let two = refusal-zero _ _ (omega arith) (one .1) in
       let three = refusal-zero _ _ (omega arith) (two .1) in
-      let four = refusal-zero _ _ (omega arith) (three .1) in
+      let eleven = refusal-zero _ _ (omega arith) (three .1) in
+      let four = refusal-zero _ _ (omega arith) (eleven .1) in
       let parts = parts-ok (two .0) in (
         record {
           ranges = in-range Z (not-false (inRange Z) (one .0));
           list-length = parts .0;
-          sets-length = parts .1;
+          sets-length = parts .2;
           one-to-one = ap not (three .0);
           split = not-false _ (four .0);
         },
-        parts .2,
+        parts .3,
+        record { pins-length = parts .1; stay = eleven .0 },
         four .1,
       )
 
-  pub accepted-move : (rest : List (Row ℕ)) → AcceptedMove (move R) → Lent Z chip work → refusal rest ≡ 0 → refusal (moveRows R chip work rest) ≡ 0
+  pub accepted-move : (rest : List (Row ℕ)) → AcceptedMove (move R) → Lent Z chip work → PinsFit R → refusal rest ≡ 0
+      → refusal (moveRows R chip work rest) ≡ 0
   unfolding moveRows isOneToOne
-  accepted-move rest A L e =
-      refusal-skip _ _ (ap not (range-in Z (A .ranges))) (refusal-skip _ _ (ok-parts (A .list-length) (A .sets-length) L)
-      (refusal-skip _ _ (not-true _ (A .one-to-one)) (refusal-skip _ _ (ap not (A .split)) e)))
+  accepted-move rest A L F e =
+      refusal-skip _ _ (ap not (range-in Z (A .ranges))) (refusal-skip _ _ (ok-parts (A .list-length) (F .pins-length) (A .sets-length) L)
+      (refusal-skip _ _ (not-true _ (A .one-to-one)) (refusal-skip _ _ (F .stay) (refusal-skip _ _ (ap not (A .split)) e))))
 
 -- row 5
 module _ (Z : Sizes) (chip : Chip) (place : ℕ) where
@@ -123,14 +135,15 @@ pub record RunTaken (R : Request) (chip : Chip) (work : List ℕ) (place : ℕ) 
   pub accepted : AcceptedMove (move R)
   pub lent : Lent (R .sizes) chip work
   pub stands : StandsAt (R .sizes) chip place
+  pub pins : PinsFit R
 
 pub run-taken : (R : Request) (chip : Chip) (work : List ℕ) (place : ℕ) → refusal (runRows R chip work place) ≡ 0 → RunTaken R chip work place
 unfolding runRows
 run-taken R chip work place e =
     let a = move-accepted R chip work _ e in
-    record { accepted = a .0; lent = a .1; stands = stands-at (R .sizes) chip place (refusal-zero _ _ (omega arith) (a .2) .0) }
+    record { accepted = a .0; lent = a .1; stands = stands-at (R .sizes) chip place (refusal-zero _ _ (omega arith) (a .3) .0); pins = a .2 }
 
 pub taken-run : (R : Request) (chip : Chip) (work : List ℕ) (place : ℕ) → RunTaken R chip work place → refusal (runRows R chip work place) ≡ 0
 unfolding runRows
 taken-run R chip work place T =
-    accepted-move R chip work _ (T .accepted) (T .lent) (refusal-skip _ [] (at-stands (R .sizes) chip place (T .stands)) refusal-nil)
+    accepted-move R chip work _ (T .accepted) (T .lent) (T .pins) (refusal-skip _ [] (at-stands (R .sizes) chip place (T .stands)) refusal-nil)

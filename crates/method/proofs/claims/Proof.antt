@@ -7,17 +7,18 @@ use Rattle.method.proofs.places.PagesRise.{pages-rise}
 use Rattle.method.proofs.walks.WalksEnd.{top-is-highest, walks-end}
 use Rattle.method.proofs.recovery.LinesAgree.{lines-agree}
 use Rattle.method.proofs.recovery.ErasesNext.{erases-next}
-use Rattle.method.proofs.refusals.LowestReturned.{lowest-returned}
+use Rattle.method.proofs.refusals.FirstReturned.{first-by-all}
 use Rattle.method.proofs.states.RunsAddUp.{runs-add-up, states-reached}
 use Rattle.method.proofs.states.RunsCount.{runs-count}
 use Rattle.method.proofs.demand.EveryEvent.{demand-3}
+use Rattle.method.proofs.demand.PinsKept.{pins-stay}
 use Rattle.method.proofs.examples.Example.{example-holds, bounds-met}
 use Rattle.method.proofs.examples.TwoPages.{two-pages-hold}
 use Rattle.method.proofs.claims.Statement.{statement}
 use Rattle.method.proofs.claims.Tie as tie
 
 returns : tie.Need-returns
-returns c = record { cases = cases-hold; runs = runs-add-up; states = states-reached; counts = runs-count; steps = steps-counted; places = places-differ; erases = erases-counted; pages = pages-rise; tops = top-is-highest; walks = walks-end; lines = lines-agree; erases-next = erases-next; lowest = lowest-returned; demand-3 = demand-3; bounds = bounds-met; example = example-holds; two-pages = two-pages-hold }
+returns c = record { cases = cases-hold; runs = runs-add-up; states = states-reached; counts = runs-count; steps = steps-counted; places = places-differ; erases = erases-counted; pages = pages-rise; tops = top-is-highest; walks = walks-end; lines = lines-agree; erases-next = erases-next; first = first-by-all; demand-3 = demand-3; pins = pins-stay; bounds = bounds-met; example = example-holds; two-pages = two-pages-hold }
 
 pub claims-spec : {M : Type 1} → statement M
 claims-spec = tie.close (tie.spec returns)

@@ -1,12 +1,12 @@
 -- What a list of calls and cuts keeps, and that demand 3 holds of a moment that has it.
-use Rattle.flash.proofs.Kit.{_≡_, refl, _∙_, subst, Bool, true, List, [], ℕ, suc, _+_, _-_, _*_, _≤_, _<_, min, arith, length, getD, take, drop}
-use Rattle.flash.proofs.Kit.{take-append-drop, eq-eqb, lt-leb}
+use Rattle.flash.proofs.Kit.{_≡_, refl, _∙_, subst, true, List, [], ℕ, suc, _+_, _-_, _*_, _≤_, _<_, min, arith, length, getD, take}
+use Rattle.flash.proofs.Kit.{eq-eqb, lt-leb}
 use Rattle.flash.specs.Lists.{count}
 use Rattle.flash.specs.Tables.{refusal}
 use Rattle.flash.specs.declared.sizes.Sizes.{Sizes}
 use Rattle.flash.specs.Geometry.{slotOf, originalCount, storeLength, workLength}
 use Rattle.flash.specs.Chip.{Chip, pageAt}
-use Rattle.flash.proofs.Searches.{count-append}
+use Rattle.flash.proofs.Searches.{count-take}
 use Rattle.flash.proofs.Tables.{refusal-skip, refusal-nil}
 use Rattle.split.specs.Request.{Request}
 use Rattle.method.specs.Move.{Move, move, AcceptedMove, Lent}
@@ -24,17 +24,12 @@ use Rattle.method.proofs.places.StepsAtPlaces.{filled-early}
 use Rattle.method.proofs.places.PlaceShape.{letterAbove, which-pass}
 use Rattle.method.proofs.walks.ReadsOriginals.{reads}
 use Rattle.method.proofs.states.StatesOfPlaces.{is-state}
-use Rattle.method.proofs.states.RunsAddUp.{run-answer, start-accepted, start-full, start-page}
+use Rattle.method.proofs.states.RunsAddUp.{run-answer, start-accepted, start-pins, start-full, start-page}
 use Rattle.method.proofs.places.Turns.{turn, turn-high, turn-erases}
 use Rattle.method.proofs.recovery.Moments.{Moment, moment-shape, finished-page}
 use Rattle.method.proofs.recovery.MendFinds.{moment-fits}
 use Rattle.method.proofs.recovery.MendAnswers.{recovers}
 use Rattle.method.proofs.places.ErasesCounted.{at-most-twice}
-
--- some of a list
-pub count-take : {A : Type 0} (test : A → Bool) (some : ℕ) (xs : List A) → count test (take some xs) ≤ count test xs
-count-take {A} test some xs =
-    subst (λ (l : List A). count test (take some xs) ≤ count test l) (take-append-drop some xs) (omega (arith, count-append test (take some xs) (drop some xs)))
 
 -- where an erase is still to come, so is its turn's end
 turn-before : (Z : Sizes) (place : ℕ) → place ≤ lastPlace Z → 1 ≤ Z .m → filled Z place ≡ Z .m → turn Z place < 2 * Z .n
@@ -89,7 +84,7 @@ module _ (R : Request) (chip₀ : Chip) (S : Start R chip₀) where
     read-taken : (work : List ℕ) → length work ≡ workLength W → (k : ℕ) → k < originalCount W → refusal (readRows R chip work k) ≡ 0
     unfolding readRows
     read-taken work l k h =
-        accepted-move R chip work _ A (lent work l)
+        accepted-move R chip work _ A (lent work l) (start-pins R chip₀ S)
         (refusal-skip _ _ (moment-fits W (A .ranges) (chip .marks) (K .place) (K .moment)) (refusal-skip _ [] (lt-leb (originalCount W) k h) refusal-nil))
 
     stays : (k : ℕ) → k < originalCount W → Stays R chip k (pageAt (W .p) chip₀ (slotOf (W .m) k))
@@ -130,6 +125,7 @@ module _ (R : Request) (chip₀ : Chip) (S : Start R chip₀) where
           accepted = A;
           lent = record { store-length = C .store-length; marks-length = C .marks-length; work-length = l };
           stands = C .stands;
+          pins = start-pins R chip₀ S;
         } in
         let to-end : K .place + min budget (lastPlace W - K .place) ≡ lastPlace W = omega (arith, K .moment .in-move) in
         rw (C .place-is, run-answer R (mendAnswer W chip .chip) work (K .place) budget (taken-run R _ _ _ T), to-end, eq-eqb (lastPlace W) (lastPlace W) refl)

@@ -4,7 +4,7 @@ use Rattle.flash.proofs.Kit.{eqb, length, getD, take}
 use Rattle.flash.specs.Lists.{count}
 use Rattle.flash.specs.declared.sizes.Sizes.{Sizes}
 use Rattle.flash.specs.Chip.{Chip}
-use Rattle.flash.proofs.Searches.{count-append}
+use Rattle.flash.proofs.Searches.{count-append, count-take}
 use Rattle.method.specs.Move.{Move, AcceptedMove}
 use Rattle.method.specs.Place.{Operation, erase, done, filling, filled}
 use Rattle.method.specs.Step.{isErase}
@@ -20,7 +20,7 @@ use Rattle.method.proofs.recovery.MendFinds.{Finds, torn, full, finds}
 use Rattle.method.proofs.recovery.MendAnswers.{Recovered, answers, recovers}
 use Rattle.method.proofs.recovery.MarksFade.{cut-fades, holding-fades}
 use Rattle.method.proofs.recovery.CutsLeave.{mend-cut}
-use Rattle.method.proofs.demand.KeptByHistories.{count-take, Bounded, within, once-more, Kept}
+use Rattle.method.proofs.demand.KeptByHistories.{Bounded, within, once-more, Kept}
 use Rattle.method.proofs.demand.CallsWithoutSteps.{EventKept, idle}
 
 module _ (M : Move) (A : AcceptedMove M) (originals : List ℕ) (h : History) (K : Kept M originals h) where

@@ -24,6 +24,7 @@ cases-hold byte = record {
   number-6 = (refl, refl);
   number-7 = refl;
   bytes = (refl, refl, refl, refl);
+  pins = (refl, refl, refl, refl, refl, refl);
   program = refl;
   program-end = refl;
   figure-2 = refl;

@@ -4,7 +4,7 @@ use Rattle.flash.specs.Tables.{Row, refusal, firstFit, numberOr0}
 use Rattle.flash.specs.Geometry.{inRange, listLength}
 use Rattle.flash.specs.Chip.{Chip}
 use Rattle.flash.proofs.Bools.{bool-cases}
-use Rattle.split.specs.Request.{Request}
+use Rattle.split.specs.Request.{Request, badRequest}
 use Rattle.method.specs.Answers.{badParts, moveRows, runRows, runRefused, runAnswer, readRows, readRefused, readAnswer}
 
 not-zero : (ranged : Bool) → eqb (cond ranged 2 1) 0 ≡ false
@@ -14,7 +14,7 @@ not-zero false = refl
 module _ (R : Request) (chip : Chip) (work : List ℕ) (other : inRange (R .sizes) ≡ true → length (R .list) ≢ listLength (R .sizes)) where
   -- in the rows that run and read share
   pub list-refused : (rest : List (Row ℕ)) → refusal (moveRows R chip work rest) ≡ cond (inRange (R .sizes)) 2 1
-  unfolding moveRows badParts refusal firstFit numberOr0
+  unfolding badRequest moveRows badParts refusal firstFit numberOr0
   list-refused rest = ⊎-elim
       (λ (e : inRange (R .sizes) ≡ true). rw (e, ne-eqb (length (R .list)) (listLength (R .sizes)) (other e)))
       (λ (e : inRange (R .sizes) ≡ false). rw e)

@@ -17,7 +17,7 @@ use Rattle.method.specs.Step.{Running, steps}
 use Rattle.method.specs.Answers.{RunAnswer, runRows, stepsTaken, runCarriedOut, runAnswer}
 use Rattle.method.specs.Runs.{joined, runsOfOne, RunsAddUp, Start, StatesReached}
 use Rattle.method.proofs.basics.MoveShape.{Holding}
-use Rattle.method.proofs.basics.AcceptedCalls.{StandsAt, RunTaken, run-taken, taken-run}
+use Rattle.method.proofs.basics.AcceptedCalls.{StandsAt, PinsFit, RunTaken, run-taken, taken-run}
 use Rattle.method.proofs.states.StepsAddUp.{steps-add, taken-add}
 use Rattle.method.proofs.places.Tallies.{tally-split}
 use Rattle.method.proofs.places.StepsAtPlaces.{filling-in}
@@ -44,7 +44,7 @@ pub still-taken : (R : Request) (chip : Chip) (work : List ℕ) (place taken : �
     → (let after = steps (move R) taken place (record { chip = chip; work = work }) in RunTaken R (after .chip) (after .work) (place + taken))
 still-taken R chip work place taken h T =
     let S = steps-stand (move R) (T .accepted) taken place (record { chip = chip; work = work }) h (record { lent = T .lent; stands = T .stands }) in
-    record { accepted = T .accepted; lent = S .lent; stands = S .stands }
+    record { accepted = T .accepted; lent = S .lent; stands = S .stands; pins = T .pins }
 
 answers-join : (M : Move) (chip : Chip) (work : List ℕ) (place a b : ℕ)
     → runCarriedOut M chip work place (a + b) ≡ joined (runCarriedOut M chip work place a) (runCarriedOut M (runCarriedOut M chip work place a .chip) (runCarriedOut M chip work place a .work) (place + a) b)
@@ -139,6 +139,10 @@ module _ (R : Request) (chip : Chip) (S : Start R chip) where
         split = S .split-correct;
       }
 
+  pub start-pins : PinsFit R
+  unfolding splitAnswer
+  start-pins = (let p = passed R (S .list-accepted) in record { pins-length = p .pinned; stay = p .stays })
+
   pub start-stands : StandsAt W chip 0
   start-stands = rest-stands (move R) start-accepted chip (S .store-length) (S .marks-length) (S .at-rest)
 
@@ -157,6 +161,7 @@ module _ (R : Request) (chip : Chip) (S : Start R chip) where
       accepted = start-accepted;
       lent = record { store-length = S .store-length; marks-length = S .marks-length; work-length = work-length };
       stands = start-stands;
+      pins = start-pins;
     }
 
     started : (t : ℕ) → t ≤ lastPlace W → runAnswer R chip work 0 t ≡ runCarriedOut (move R) chip work 0 t

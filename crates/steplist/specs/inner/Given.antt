@@ -10,7 +10,7 @@ use Rattle.flash.specs.declared.sizes.Sizes.{Sizes}
 use Rattle.flash.specs.Geometry.{originalCount}
 use Rattle.split.specs.OneToOne.{badList}
 use Rattle.split.specs.Rule.{splitByRule}
-use Rattle.split.specs.Request.{requestOf}
+use Rattle.split.specs.Request.{unpinned}
 use Rattle.split.specs.Answer.{splitAnswer}
 use Rattle.listing.specs.Input.{isAllowed, numbersDue}
 
@@ -37,4 +37,4 @@ abbrev pub judgedList : (entries list : List ℕ) → List ℕ
 judgedList entries list = cond (all (λ number. leb number 65535) entries) entries list
 
 abbrev pub judgedSets : Sizes → (entries sets : List ℕ) → List ℕ
-judgedSets Z entries sets = cond (all (λ number. leb number 65535) entries) (splitAnswer (requestOf Z entries sets) .sets) sets
+judgedSets Z entries sets = cond (all (λ number. leb number 65535) entries) (splitAnswer (unpinned Z entries sets) .sets) sets

@@ -2,7 +2,7 @@
 //! again in the recovery after it.
 
 use super::other_splits::elsewhere;
-use super::walk::{any_bytes, compare_split, sizes};
+use super::walk::{any_bytes, any_list, compare_split, sizes};
 use super::Outcome;
 use crate::harness::compare::Comparer;
 use crate::harness::player::Player;
@@ -23,8 +23,9 @@ pub fn cases(comparer: &mut Comparer, random: &mut Random) -> Outcome {
         let bytes = ((n + 1) * m).div_ceil(8);
         for s in 0..3 {
             // Any bytes: a page of 255s looks the same in a blank place.
-            let list = random.permutation(n * m);
-            let mut scene = any_bytes(sizes(n, m, bytes, s), list, random);
+            let shape = sizes(n, m, bytes, s);
+            let list = any_list(&shape, random);
+            let mut scene = any_bytes(shape, list, random);
             if s == 1 {
                 scene.sets = elsewhere(&scene, random);
             }

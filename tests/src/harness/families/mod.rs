@@ -6,6 +6,7 @@ mod limits;
 mod nonsense;
 mod other_splits;
 mod papers;
+mod pins;
 mod random_moves;
 mod refusals;
 mod small_moves;
@@ -36,7 +37,7 @@ const EVENTS: Family = Family {
 /// The families that look at demand 3 over whole lists.
 pub static LISTS: [Family; 2] = [EVERY_CUT, EVENTS];
 
-pub static FAMILIES: [Family; 13] = [
+pub static FAMILIES: [Family; 14] = [
     Family {
         name: "refusals, one and two at once",
         cases: refusals::cases,
@@ -60,6 +61,10 @@ pub static FAMILIES: [Family; 13] = [
     Family {
         name: "splits made by another rule",
         cases: other_splits::cases,
+    },
+    Family {
+        name: "pinned pages",
+        cases: pins::cases,
     },
     Family {
         name: "written bytes counted",

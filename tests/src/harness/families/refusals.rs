@@ -66,6 +66,7 @@ pub fn flaws(request: &Request) -> Vec<Flaw> {
     let mut flaws = size_flaws();
     if call != Call::Mend {
         flaws.extend(list_flaws(request));
+        flaws.extend(pin_flaws(request));
     }
     if call == Call::Run || call == Call::Read {
         flaws.extend(set_flaws());
@@ -113,6 +114,26 @@ fn list_flaws(request: &Request) -> Vec<Flaw> {
         flaws.push(Box::new(move |request| {
             set_entry(request, originals - 1, first)
         }));
+    }
+    flaws
+}
+
+/// Pins on pages that move; all pinned, which is no flaw if none moves; and
+/// none pinned, which is none.
+fn pin_flaws(request: &Request) -> Vec<Flaw> {
+    let numbers = request.destinations();
+    let moving = |k: &usize| numbers[*k] != *k;
+    let pin =
+        |k: usize, byte: u8| -> Flaw { Box::new(move |request| request.parts.pins[k] = byte) };
+    let mut flaws: Vec<Flaw> = vec![
+        Box::new(|request| request.parts.pins.fill(1)),
+        Box::new(|request| request.parts.pins.fill(0)),
+    ];
+    if let Some(first) = (0..numbers.len()).find(moving) {
+        flaws.extend([pin(first, 1), pin(first, 254)]);
+    }
+    if let Some(last) = (0..numbers.len()).rfind(moving) {
+        flaws.push(pin(last, 255));
     }
     flaws
 }

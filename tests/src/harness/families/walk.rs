@@ -21,14 +21,25 @@ pub fn sizes(n: usize, m: usize, page_bytes: usize, s: usize) -> Sizes {
 pub fn scene_with(sizes: Sizes, list: Vec<u16>, random: &mut Random) -> Scene {
     if random.one_in(4) {
         let originals = pages(sizes, random);
-        return Scene::at_rest(sizes, list, originals);
+        return pinned(Scene::at_rest(sizes, list, originals), random);
     }
     any_bytes(sizes, list, random)
 }
 
 pub fn any_bytes(sizes: Sizes, list: Vec<u16>, random: &mut Random) -> Scene {
     let originals = random.bytes(sizes.originals() * sizes.bytes());
-    Scene::at_rest(sizes, list, originals)
+    pinned(Scene::at_rest(sizes, list, originals), random)
+}
+
+/// Some of the pages that the list leaves where they are get a pin.
+fn pinned(mut scene: Scene, random: &mut Random) -> Scene {
+    for (k, pin) in scene.pins.iter_mut().enumerate() {
+        if scene.list[k] as usize == k {
+            let any = random.byte();
+            *pin = *random.pick(&[0, 1, 255, any]);
+        }
+    }
+    scene
 }
 
 /// Originals with any bytes, with 255s among them, with nothing but 255s or
@@ -53,8 +64,16 @@ pub fn pages(sizes: Sizes, random: &mut Random) -> Vec<u8> {
     originals
 }
 
+/// Any list; one in three keeps some of its pages.
+pub fn any_list(sizes: &Sizes, random: &mut Random) -> Vec<u16> {
+    match random.one_in(3) {
+        true => random.keeping(sizes.originals()),
+        false => random.permutation(sizes.originals()),
+    }
+}
+
 pub fn random_scene(sizes: Sizes, random: &mut Random) -> Scene {
-    let list = random.permutation(sizes.originals());
+    let list = any_list(&sizes, random);
     scene_with(sizes, list, random)
 }
 

@@ -39,7 +39,7 @@ returns c =
     let done = c .before .before .before .before .before .before in
     let z = done .before .before .before .before .before in
     let d = z .before .before .decode .ensures in
-    rw (z .sizes-of .ensures) at (run-exported _ _ _ _ (front-is _ _ _ _ (d .0) (d .1)) _ _ _ _ _ (done .run .ensures))
+    rw (z .sizes-of .ensures) at (run-exported _ _ _ _ _ (front-is _ _ _ _ (d .0) (d .1)) _ _ _ _ _ (done .run .ensures))
 
 pub mover-run-spec : {M : Type 1} → statement M
 mover-run-spec =

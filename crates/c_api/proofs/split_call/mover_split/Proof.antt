@@ -33,7 +33,7 @@ returns c =
     let done = c .before .before in
     let z = done .before .before .before in
     let d = z .before .before .decode .ensures in
-    rw (z .sizes-of .ensures) at (split-exported _ _ _ _ (front-is _ _ _ _ (d .0) (d .1)) _ (done .split .ensures))
+    rw (z .sizes-of .ensures) at (split-exported _ _ _ _ _ (front-is _ _ _ _ (d .0) (d .1)) _ (done .split .ensures))
 
 pub mover-split-spec : {M : Type 1} → statement M
 mover-split-spec =

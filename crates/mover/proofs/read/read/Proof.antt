@@ -18,7 +18,7 @@ use Rattle.mover.proofs.read.read.Statement.{statement}
 use Rattle.mover.proofs.read.read.Tie as tie
 
 abbrev asked : tie.Start → Request
-asked c = requestOf (c .args .sizes) (c .args .list .now) (c .args .sets .now)
+asked c = requestOf (c .args .sizes) (c .args .list .now) (c .args .pins .now) (c .args .sets .now)
 
 abbrev chip : tie.Start → Chip
 chip c = record { store = c .args .store .now; marks = c .args .marks .now }
@@ -34,14 +34,14 @@ same-length c = search needs
 
 returns : tie.Need-returns
 returns c =
-    let start = c .before .before .before .before .before .before .before .before .before .before in
+    let start = c .before .before .before .before .before .before .before .before .before .before .before in
     let r = c .before .before .move-refusal in
     refused-by-move (asked start) (chip start) (start .args .work .now) (start .args .k)
     (r .result) (c .refused .result) (r .ensures .0) (c .before .if1 .taken) (c .refused .ensures)
 
--- ---- past rows 1 to 4
+-- ---- past the rows of the move
 abbrev start : tie.Else1 → tie.Start
-start c = c .before .before .before .before .before .before .before .before .before
+start c = c .before .before .before .before .before .before .before .before .before .before
 
 none : (c : tie.Else1) → 0 ≡ refusal (moveRows (asked (start c)) (chip (start c)) (start c .args .work .now) [])
 none c = sym (c .if1 .left) ∙ c .before .move-refusal .ensures .0

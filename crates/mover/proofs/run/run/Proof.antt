@@ -11,7 +11,7 @@ use Rattle.mover.proofs.run.run.Statement.{statement}
 use Rattle.mover.proofs.run.run.Tie as tie
 
 abbrev asked : tie.Start → Request
-asked c = requestOf (c .args .sizes) (c .args .list .now) (c .args .sets .now)
+asked c = requestOf (c .args .sizes) (c .args .list .now) (c .args .pins .now) (c .args .sets .now)
 
 abbrev chip : tie.Start → Chip
 chip c = record { store = c .args .store .now; marks = c .args .marks .now }
@@ -34,13 +34,13 @@ same-length-3 c = search needs
 returns : tie.Need-returns
 returns c =
     let r = c .before .before in
-    let s = r .before .before .before .before .before .before .before .before .before .before in
+    let s = r .before .before .before .before .before .before .before .before .before .before .before in
     refused-by-move (asked s) (chip s) (s .args .work .now) (s .args .place) (s .args .budget)
     (r .move-refusal .result) (r .move-refusal .ensures .0) (c .before .if1 .taken) _ (c .refused .ensures)
 
--- ---- past rows 1 to 4
+-- ---- past the rows of the move
 abbrev start : tie.Else1 → tie.Start
-start c = c .before .before .before .before .before .before .before .before .before .before .before
+start c = c .before .before .before .before .before .before .before .before .before .before .before .before
 
 none : (c : tie.Else1) → 0 ≡ refusal (moveRows (asked (start c)) (chip (start c)) (start c .args .work .now) [])
 none c = sym (c .if1 .left) ∙ c .before .move-refusal .ensures .0

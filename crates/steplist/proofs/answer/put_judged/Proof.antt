@@ -1,8 +1,9 @@
 -- A list is refused or listed as the output has it, and judged before it is cut to 16 bits.
 use Rattle.flash.proofs.Kit.{arith, _≡_, sym, ap, _∙_, not-true, not-false, needs}
-use Rattle.split.specs.Request.{requestOf}
+use Rattle.split.specs.Request.{unpinned}
 use Rattle.split.specs.Answer.{SplitAnswer, splitAnswer}
 use Rattle.steplist.specs.inner.Given.{judgedList, judgedSets}
+use Rattle.listing.proofs.InputLaws.{bounded}
 use Rattle.listing.proofs.PrintLaws.{first-printed}
 use Rattle.steplist.proofs.LengthLaws.{refused-short}
 use Rattle.steplist.proofs.JudgeLaws.{too-large, not-split, is-split, is-listed}
@@ -10,15 +11,15 @@ use Rattle.steplist.proofs.answer.put_judged.Statement.{statement}
 use Rattle.steplist.proofs.answer.put_judged.Tie as tie
 
 -- the split call's answer, about the numbers as they were read
-judged : (c : tie.After-split)
-    → (let a = c .before .before .before .before .before .before .before .before .before .before .before .before .before .before .args in record { number = c .split .result; sets = c .split .last .1 .1 .0 } ≡ splitAnswer (requestOf (a .sizes) (a .entries .now) (a .sets .now)))
-judged c = rw (c .before .before .before .before .before .put-entries .ensures) at (c .split .ensures)
+judged : (c : tie.After-split-unpinned)
+    → (let a = c .before .before .before .before .before .before .before .before .before .before .before .before .before .before .args in record { number = c .split-unpinned .result; sets = c .split-unpinned .last .1 .1 .0 } ≡ splitAnswer (unpinned (a .sizes) (a .entries .now) (a .sets .now)))
+judged c = rw (c .before .before .before .before .before .put-entries .ensures) at (c .split-unpinned .ensures)
 
 -- what the areas of the list and of the set bytes hold from here on
-left : (c : tie.After-split)
+left : (c : tie.After-split-unpinned)
     → (let a = c .before .before .before .before .before .before .before .before .before .before .before .before .before .before .args in
     (c .before .before .before .before .before .put-entries .last .1 .0 ≡ judgedList (a .entries .now) (a .list .now))
-    × (c .split .last .1 .1 .0 ≡ judgedSets (a .sizes) (a .entries .now) (a .sets .now)))
+    × (c .split-unpinned .last .1 .1 .0 ≡ judgedSets (a .sizes) (a .entries .now) (a .sets .now)))
 left c =
     let p = c .before .before .before .before .before in
     let fits = sym (p .before .before .before .fit .ensures) ∙ not-false _ (p .before .before .if1 .left) in
@@ -46,8 +47,10 @@ put-entries-requires c κs =
     let start = c .before .before .before .before .before .before .before .before in
     (start .pre .0 .list-length ∙ sym (start .pre .1), sym (c .before .before .fit .ensures) ∙ not-false _ (c .before .if1 .left))
 
-split-requires : tie.Need-split-requires
-split-requires c κs = search needs
+split-unpinned-requires : tie.Need-split-unpinned-requires
+split-unpinned-requires c κs =
+    let l = bounded _ (c .before .before .before .before .before .before .before .before .before .before .before .before .before .pre .0 .allowed) in
+    (l .few-blocks, l .few-pages)
 
 put-refused-requires-2 : tie.Need-put-refused-requires-2
 put-refused-requires-2 c κs = omega (arith, refused-short 3 (omega arith))
@@ -65,7 +68,7 @@ returns-2 : tie.Need-returns-2
 returns-2 c =
     let start = c .before .before .before .before .before .before .before .before .before .before .before .before .before .before .before .before .before .before .before .before .before in
     let a = start .args in
-    let split = c .before .before .before .before .before .before .before .split in
+    let split = c .before .before .before .before .before .before .before .split-unpinned in
     let line = c .before .before .put-refused2 .ensures in
     (rw (not-split (a .sizes) (start .pre .0 .allowed) (a .entries .now) (a .originals .now) (a .sets .now) (split .last .1 .1 .0) (split .result) (start .pre .0 .list-length) (start .pre .2) (judged (c .before .before .before .before .before .before .before)) (c .before .before .before .before .if2 .taken)) (first-printed line), left (c .before .before .before .before .before .before .before))
 
@@ -73,7 +76,7 @@ put-accepted-requires : tie.Need-put-accepted-requires
 put-accepted-requires c κs =
     let start = c .before .before .before .before .before .before .before .before .before .before .before .before .before .before .before .before .before .before .before .before in
     let a = start .args in
-    let split = c .before .before .before .before .before .before .split in
+    let split = c .before .before .before .before .before .before .split-unpinned in
     (rw (c .before .before .before .before .before .before .before .before .before .before .before .put-entries .ensures) (is-split (a .sizes) (start .pre .0 .allowed) (a .entries .now) (a .originals .now) (a .sets .now) (split .last .1 .1 .0) (split .result) (start .pre .0 .list-length) (start .pre .2) (judged (c .before .before .before .before .before .before)) (c .before .before .before .if2 .left) (start .pre .0)), omega arith)
 
 same-length-5 : tie.Need-same-length-5
@@ -89,10 +92,10 @@ returns-3 : tie.Need-returns-3
 returns-3 c =
     let start = c .before .before .before .before .before .before .before .before .before .before .before .before .before .before .before .before .before .before .before .before .before .before .before in
     let a = start .args in
-    let split = c .before .before .before .before .before .before .before .before .before .split in
+    let split = c .before .before .before .before .before .before .before .before .before .split-unpinned in
     let listing = c .before .before .put-accepted .ensures in
     (rw (is-listed (a .sizes) (start .pre .0 .allowed) (a .entries .now) (a .originals .now) (a .sets .now) (split .last .1 .1 .0) (split .result) (start .pre .0 .list-length) (start .pre .2) (judged (c .before .before .before .before .before .before .before .before .before)) (c .before .before .before .before .before .before .if2 .left)) (rw (c .before .before .before .before .before .before .before .before .before .before .before .before .before .before .put-entries .ensures) at listing), left (c .before .before .before .before .before .before .before .before .before))
 
 pub put-judged-spec : {M : Type 1} → statement M
-put-judged-spec = tie.close (tie.spec fit-requires put-refused-requires same-length returns put-entries-requires split-requires put-refused-requires-2
+put-judged-spec = tie.close (tie.spec fit-requires put-refused-requires same-length returns put-entries-requires split-unpinned-requires put-refused-requires-2
     same-length-2 same-length-3 same-length-4 returns-2 put-accepted-requires same-length-5 same-length-6 same-length-7 returns-3)

@@ -1,6 +1,6 @@
 -- The loop over the places shows every step once and counts them; with the end line that is the listing of the move.
 use Rattle.flash.proofs.Kit.{_≡_, refl, _+_, _-_, _≤_, arith, length, needs}
-use Rattle.split.specs.Request.{requestOf}
+use Rattle.split.specs.Request.{unpinned}
 use Rattle.method.specs.Move.{moveOf}
 use Rattle.steplist.proofs.LengthLaws.{few-steps, end-short}
 use Rattle.method.specs.Place.{lastPlace}
@@ -54,7 +54,7 @@ put-step-requires c κs =
     let a = start .args in
     let l = c .before .before .before .before .before .loop in
     let last = few-steps (a .sizes) (start .pre .0 .few-blocks) (start .pre .0 .few-pages) in
-    (listable-at (requestOf (a .sizes) (a .list .now) (a .sets .now)) (runningOf (a .store .now) (a .marks .now) (a .work .now)) (l .place) _ (start .pre .0) (omega (arith, c .before .before .before .before .before .before .last-place .ensures)) (l .inv .0 .left), (omega (arith, c .before .before .before .before .before .before .last-place .ensures), omega (arith, l .inv .0 .at-high)))
+    (listable-at (unpinned (a .sizes) (a .list .now) (a .sets .now)) (runningOf (a .store .now) (a .marks .now) (a .work .now)) (l .place) _ (start .pre .0) (omega (arith, c .before .before .before .before .before .before .last-place .ensures)) (l .inv .0 .left), (omega (arith, c .before .before .before .before .before .before .last-place .ensures), omega (arith, l .inv .0 .at-high)))
 
 add-writes : tie.Need-add-writes Inv-loop μ-loop
 add-writes c = omega (arith, counted (c .before .before .before .before .before .before .before .before .before))

@@ -1,6 +1,6 @@
 -- One step is taken as the run takes it, and its line printed.
 use Rattle.flash.proofs.Kit.{_∙_, arith, needs}
-use Rattle.split.specs.Request.{requestOf}
+use Rattle.split.specs.Request.{unpinned}
 use Rattle.method.specs.Move.{moveOf}
 use Rattle.method.specs.Step.{runningOf}
 use Rattle.method.proofs.basics.AcceptedCalls.{run-taken}
@@ -9,22 +9,24 @@ use Rattle.steplist.proofs.listed.put_step.Statement.{statement}
 use Rattle.steplist.proofs.listed.put_step.Tie as tie
 
 -- what the run left and counted
-told : (c : tie.After-run)
-    → (let a = c .before .before .before .before .before .before .before .before .before .before .args in let l = c .run .last in
-    OneStep (moveOf (a .sizes) (a .list .now) (a .sets .now)) (runningOf (a .store .now) (a .marks .now) (a .work .now)) (a .place) (c .run .result) (l .1 .1 .1 .0) (l .1 .1 .1 .1 .0) (l .1 .1 .1 .1 .1 .0))
+told : (c : tie.After-run-unpinned)
+    → (let a = c .before .before .before .before .before .before .before .before .before .before .args in let l = c .run-unpinned .last in
+    OneStep (moveOf (a .sizes) (a .list .now) (a .sets .now)) (runningOf (a .store .now) (a .marks .now) (a .work .now)) (a .place) (c .run-unpinned .result) (l .1 .1 .1 .0) (l .1 .1 .1 .1 .0) (l .1 .1 .1 .1 .1 .0))
 told c =
     let start = c .before .before .before .before .before .before .before .before .before .before in
     let a = start .args in
-    one-step (requestOf (a .sizes) (a .list .now) (a .sets .now)) (runningOf (a .store .now) (a .marks .now) (a .work .now)) (a .place) (start .pre .0) (start .pre .1 .0) _ _ _ _ (c .run .ensures)
+    one-step (unpinned (a .sizes) (a .list .now) (a .sets .now)) (runningOf (a .store .now) (a .marks .now) (a .work .now)) (a .place) (start .pre .0) (start .pre .1 .0) _ _ _ _ (c .run-unpinned .ensures)
 
-run-requires : tie.Need-run-requires
-run-requires c κs = search needs
+run-unpinned-requires : tie.Need-run-unpinned-requires
+run-unpinned-requires c κs =
+    let start = c .before .before .before .before .before .before .before .before .before in
+    (start .pre .0 .few-blocks, start .pre .0 .few-pages)
 
 put-line-requires : tie.Need-put-line-requires
 put-line-requires c κs =
     let start = c .before .before .before .before .before .before .before .before .before .before .before .before .before .before .before .before .before .before in
     let a = start .args in
-    let given = run-taken (requestOf (a .sizes) (a .list .now) (a .sets .now)) _ _ (a .place) (start .pre .0 .taken) .accepted .ranges in
+    let given = run-taken (unpinned (a .sizes) (a .list .now) (a .sets .now)) _ _ (a .place) (start .pre .0 .taken) .accepted .ranges in
     ((given, omega arith), omega (arith, told (c .before .before .before .before .before .before .before .before) .short))
 
 word-requires : tie.Need-word-requires
@@ -58,4 +60,4 @@ returns c =
     }
 
 pub put-step-spec : {M : Type 1} → statement M
-put-step-spec = tie.close (tie.spec run-requires put-line-requires word-requires word-requires-2 same-length same-length-2 same-length-3 same-length-4 returns)
+put-step-spec = tie.close (tie.spec run-unpinned-requires put-line-requires word-requires word-requires-2 same-length same-length-2 same-length-3 same-length-4 returns)
