@@ -36,8 +36,8 @@ static void make(uint16_t *to, uint32_t n, uint32_t m, uint32_t kind)
 int main(void)
 {
     static uint16_t to[PAGES];
-    static uint8_t list[2 * PAGES], sets[PAGES];
-    struct mover_move move = {0, 0, 1, 0, list, sets, NULL, NULL, NULL};
+    static uint8_t list[2 * PAGES], pins[PAGES], sets[PAGES];
+    struct mover_move move = {.page_bytes = 1, .list = list, .pins = pins, .sets = sets};
     uint32_t i, k;
     uint8_t head[3];
     for (i = 0; i < LISTS; i++) {
