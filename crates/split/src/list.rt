@@ -25,7 +25,13 @@ fn differ_within(list: &[u16], originals: usize, window: usize) -> bool
         if originals <= number {
             return false;
         }
-        if number / WINDOW == window && flip(&mut seen, number / BITS % MASKS, number % BITS) {
+        if number / WINDOW == window
+            && flip(
+                &mut seen,
+                (number / BITS % MASKS) as u16,
+                (number % BITS) as u16,
+            )
+        {
             return false;
         }
         k += 1;

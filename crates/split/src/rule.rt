@@ -11,20 +11,20 @@ use crate::inverse::invert_rows;
 use crate::mask::flip;
 use crate::mask::has;
 use crate::mask::lowest_free;
+use crate::path::block_of;
 use crate::path::exchange_along_path;
 use crate::path::target;
 use crate::tables::BLOCKS;
 use crate::tables::CELLS;
 use crate::tables::note;
-use flash::quotient::quotient;
 use flash::quotient::reciprocal;
 
 // Gives page k its set.
 fn give(
     list: &[u16],
-    m: usize,
+    m: u16,
     reciprocal: usize,
-    k: usize,
+    k: u16,
     numbers: &mut [u8],
     targets: &mut [u8; CELLS],
     homes: &mut [u8; CELLS],
@@ -35,14 +35,14 @@ fn give(
     ensures { λ _. ⌜ Working m (now (list .entry)) (k + 1) (now (numbers .exit)) (now (targets .exit)) (now (homes .exit))
         (now (destinations .exit)) ⌝ }
 {
-    let home = quotient(k, m, reciprocal);
+    let home = block_of(k, m, reciprocal);
     let block = target(list, m, reciprocal, k);
     let a = k - home * m;
-    let used = destinations[block];
-    numbers[k] = a as u8;
+    let used = destinations[block as usize];
+    numbers[k as usize] = a as u8;
     note(targets, a, home, block);
     if has(used, a) {
-        let b = lowest_free(used);
+        let b = lowest_free(used) as u16;
         note(homes, b, block, home);
         flip(destinations, block, b);
         exchange_along_path(
@@ -70,14 +70,16 @@ pub fn fill(n: usize, m: usize, list: &[u16], sets: &mut [u8])
     ensures { λ _. ⌜ now (sets .exit) ≡ splitByRule n m (now (list .entry)) ⌝ }
 {
     let reciprocal = reciprocal(m);
+    let pages = m as u16;
+    let count = list.len() as u16;
     let mut targets = [0u8; CELLS];
     let mut homes = [0u8; CELLS];
     let mut destinations = [0u64; BLOCKS];
-    let mut k = 0;
-    while k < list.len() {
+    let mut k = 0u16;
+    while k < count {
         give(
             list,
-            m,
+            pages,
             reciprocal,
             k,
             sets,

@@ -29,6 +29,12 @@ returns c = let i = c .before .before .before in sym (too-large _ _ _ _ _ (i .be
 slice-aggregate-flip : tie.Need-slice-aggregate-flip Inv-loop μ-loop
 slice-aggregate-flip c = search needs
 
+cast-flip : tie.Need-cast-flip Inv-loop μ-loop
+cast-flip c = search needs
+
+cast-flip-2 : tie.Need-cast-flip-2 Inv-loop μ-loop
+cast-flip-2 c = search needs
+
 flip-requires : tie.Need-flip-requires Inv-loop μ-loop
 flip-requires c κs = search needs
 
@@ -74,4 +80,4 @@ returns-3 c = sym (all-good _ _ _ _ _ (c .before .loop .inv .0) (c .loop-test .l
 
 pub differ-within-spec : {M : Type 1} → statement M
 differ-within-spec = tie.close (tie.spec Inv-loop μ-loop loop-holds mul-entry shared-slice-read-entry entry-requires returns slice-aggregate-flip
-    flip-requires returns-2 add-k loop-less loop-again returns-3)
+    cast-flip cast-flip-2 flip-requires returns-2 add-k loop-less loop-again returns-3)

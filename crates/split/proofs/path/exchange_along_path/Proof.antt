@@ -32,6 +32,9 @@ block-lt l = row-lt _ _ _ _ _ _ _ _ _ _ (l .loop .inv .0)
 sets-lt : (l : tie.At-loop Inv-loop μ-loop) → (start l .args .a < 64) × (start l .args .b < 64)
 sets-lt l = let R = l .loop .inv .0 .ready in (omega (arith, R .a-lt, R .fits), omega (arith, R .b-lt, R .fits))
 
+cast-has : tie.Need-cast-has Inv-loop μ-loop
+cast-has c = record { fits = omega (arith, block-lt c) }
+
 mul-has : tie.Need-mul-has Inv-loop μ-loop
 mul-has c = record { fits = omega (arith, block-lt c) }
 
@@ -52,7 +55,7 @@ noted-requires : tie.Need-noted-requires Inv-loop μ-loop
 noted-requires c κs = let l = loop-of (c .before) in (sets-lt l .0, block-lt l)
 
 home-lt : (c : tie.After-noted Inv-loop μ-loop) → c .noted .result < 64
-home-lt c = let t = c .before .before in h-lt _ _ _ _ _ _ _ _ _ _ (loop-of t .loop .inv .0) (more t) _ (c .noted .ensures)
+home-lt c = let t = c .before .before in h-lt _ _ _ _ _ _ _ _ _ _ (loop-of t .loop .inv .0) (more t) _ (c .noted .ensures .0)
 
 noted-requires-2 : tie.Need-noted-requires-2 Inv-loop μ-loop
 noted-requires-2 c κs = let n = c .before in (sets-lt (loop-of (n .before .before)) .1, home-lt n)
@@ -73,19 +76,10 @@ before c =
     let n = noted-of (c .before .before) in
     let t = n .before .before in
     let W = loop-of t .loop .inv .0 in
-    (h-before _ _ _ _ _ _ _ _ _ _ W (more t) _ (n .noted .ensures), omega (arith, W .room, W .numbers-sized))
+    (h-before _ _ _ _ _ _ _ _ _ _ W (more t) _ (n .noted .ensures .0), omega (arith, W .room, W .numbers-sized))
 
 mul-swap : tie.Need-mul-swap Inv-loop μ-loop
 mul-swap c = record { fits = omega (arith, before (c .before)) }
-
-add-swap : tie.Need-add-swap Inv-loop μ-loop
-add-swap c = record { fits = omega (arith, before (c .before)) }
-
-mul-swap-2 : tie.Need-mul-swap-2 Inv-loop μ-loop
-mul-swap-2 c = record { fits = omega (arith, before (c .before)) }
-
-add-swap-2 : tie.Need-add-swap-2 Inv-loop μ-loop
-add-swap-2 c = record { fits = omega (arith, before (c .before)) }
 
 swap-requires : tie.Need-swap-requires Inv-loop μ-loop
 swap-requires c κs =
@@ -101,7 +95,7 @@ loop-less c =
     let t = n .before .before in
     let l = loop-of t in
     let B = start l .pre .0 in
-    rw (c .before .before .swap .ensures) (turn-less _ _ _ _ _ _ _ _ _ _ (l .loop .inv .0) (more t) _ (n .noted .ensures)
+    rw (c .before .before .swap .ensures) (turn-less _ _ _ _ _ _ _ _ _ _ (l .loop .inv .0) (more t) _ (n .noted .ensures .0)
     (start l .args .numbers .now) (B .sets) (B .numbered) (begun _ _ _ _ _ _ _ _ _ B))
 
 loop-again : tie.Need-loop-again Inv-loop μ-loop
@@ -110,8 +104,8 @@ loop-again c =
     let n = noted-of (e .before .before) in
     let t = n .before .before in
     let l = loop-of t in (
-      turn-goes _ _ _ _ _ _ _ _ _ _ (l .loop .inv .0) (more t) _ (n .noted .ensures) _ _ _ _ (c .before .before .swap .ensures)
-          (e .exchange2 .ensures) (e .before .before .exchange .ensures) (e .before .before .before .before .noted2 .ensures),
+      turn-goes _ _ _ _ _ _ _ _ _ _ (l .loop .inv .0) (more t) _ (n .noted .ensures .0) _ _ _ _ (c .before .before .swap .ensures)
+          (e .exchange2 .ensures) (e .before .before .exchange .ensures) (e .before .before .before .before .noted2 .ensures .0),
       omega (arith, c .before .before .swap .kept .0, l .loop .inv .1),
     )
 
@@ -138,6 +132,6 @@ returns c =
     (sym (e .before .has .ensures) ∙ e .if1 .left) (c .flip-both .ensures))
 
 pub exchange-along-path-spec : {M : Type 1} → statement M
-exchange-along-path-spec = tie.close (tie.spec Inv-loop μ-loop target-requires loop-holds mul-has element-copy-out-has has-requires noted-requires noted-requires-2
-    exchange-requires exchange-requires-2 mul-swap add-swap mul-swap-2 add-swap-2 swap-requires loop-less loop-again exchange-requires-3
+exchange-along-path-spec = tie.close (tie.spec Inv-loop μ-loop target-requires loop-holds cast-has mul-has element-copy-out-has has-requires noted-requires noted-requires-2
+    exchange-requires exchange-requires-2 mul-swap swap-requires loop-less loop-again exchange-requires-3
     flip-both-requires same-length returns)

@@ -1,6 +1,5 @@
 -- `give` gives page k the set of the rule, and the tables stay exact.
 use Rattle.flash.proofs.Kit.{refl, sym, _∙_, _-_, _*_, _≤_, _<_, arith, needs, length-set}
-use Rattle.flash.proofs.Bounds.{product-le}
 use Rattle.split.proofs.Filling.{rooms, other-lt, plain, blocked}
 use Rattle.split.proofs.rule.give.Statement.{statement}
 use Rattle.split.proofs.rule.give.Tie as tie
@@ -8,12 +7,8 @@ use Rattle.split.proofs.rule.give.Tie as tie
 more : (s : tie.Start) → s .args .k < s .pre .0 .blocks * s .args .m
 more s = omega (arith, s .pre .1 .1, s .pre .0 .accepted .listed)
 
-quotient-requires : tie.Need-quotient-requires
-quotient-requires c κs =
-    let s = c .before .before in
-    let A = s .pre .0 .accepted in
-    let fits = product-le (s .pre .0 .blocks) (s .args .m) {c = 64} {d = 64} (A .n-fits) (A .m-fits) in
-    (omega (arith, more s, fits), A .some-pages, A .m-fits, s .pre .1 .0)
+block-of-requires : tie.Need-block-of-requires
+block-of-requires c κs = let s = c .before .before in (s .pre .0 .accepted .some-pages, s .pre .0 .accepted .m-fits, s .pre .1 .0)
 
 target-requires : tie.Need-target-requires
 target-requires c κs = let s = c .before .before .before in (s .pre .0 .accepted .some-pages, s .pre .0 .accepted .m-fits, s .pre .1 .0, s .pre .1 .1)
@@ -21,15 +16,18 @@ target-requires c κs = let s = c .before .before .before in (s .pre .0 .accepte
 abbrev start : tie.After-target → tie.Start
 start c = c .before .before .before .before
 
-fits : (c : tie.After-target) → (let home = c .before .quotient .result in let a = start c .args in
+fits : (c : tie.After-target) → (let home = c .before .block-of .result in let a = start c .args in
     (home < 64) × (c .target .result < 64) × (home * a .m ≤ a .k) × (a .k - home * a .m < 64))
-fits c = let s = start c in rooms _ _ _ _ _ _ _ (s .pre .0) (more s) _ _ (c .before .quotient .ensures) (c .target .ensures)
+fits c = let s = start c in rooms _ _ _ _ _ _ _ (s .pre .0) (more s) _ _ (c .before .block-of .ensures) (c .target .ensures)
 
 mul-a : tie.Need-mul-a
 mul-a c = record { fits = omega (arith, fits c) }
 
 sub-a : tie.Need-sub-a
 sub-a c = omega (arith, fits c)
+
+cast-used : tie.Need-cast-used
+cast-used c = record { fits = omega (arith, fits c) }
 
 mul-used : tie.Need-mul-used
 mul-used c = record { fits = omega (arith, fits c) }
@@ -44,7 +42,7 @@ slice-write-numbers : tie.Need-slice-write-numbers
 slice-write-numbers c = let s = start (c .before) in omega (arith, more s, s .pre .0 .numbers-sized)
 
 note-requires : tie.Need-note-requires
-note-requires c κs = let f = fits (c .before .before) in (f .3, f .0, f .1)
+note-requires c κs = let f = fits (c .before .before) in (f .3, f .0, omega (arith, f))
 
 abbrev target-of : tie.After-note → tie.After-target
 target-of c = c .before .before .before
@@ -63,10 +61,13 @@ other : (c : tie.After-lowest-free) → c .lowest-free .result < 64
 other c =
     let t = target-of (note-of c) in
     let s = start t in
-    other-lt _ _ _ _ _ _ _ (s .pre .0) (more s) _ _ (t .before .quotient .ensures) (t .target .ensures) _ (c .lowest-free .ensures)
+    other-lt _ _ _ _ _ _ _ (s .pre .0) (more s) _ _ (t .before .block-of .ensures) (t .target .ensures) _ (c .lowest-free .ensures)
+
+cast-b : tie.Need-cast-b
+cast-b c = record { fits = omega (arith, other c) }
 
 note-requires-2 : tie.Need-note-requires-2
-note-requires-2 c κs = let f = fits (target-of (note-of (c .before))) in (other (c .before), f .1, f .0)
+note-requires-2 c κs = let f = fits (target-of (note-of (c .before))) in (other (c .before), f .1, omega (arith, f))
 
 flip-requires : tie.Need-flip-requires
 flip-requires c κs =
@@ -82,7 +83,7 @@ exchange-along-path-requires c κs =
     let e = note-of l in
     let t = target-of e in
     let s = start t in (
-      blocked _ _ _ _ _ _ _ (s .pre .0) (more s) _ _ (t .before .quotient .ensures) (t .target .ensures) _ refl _ _ _ (e .note .ensures) _
+      blocked _ _ _ _ _ _ _ (s .pre .0) (more s) _ _ (t .before .block-of .ensures) (t .target .ensures) _ refl _ _ _ (e .note .ensures) _
           (l .lowest-free .ensures) (sym (h .has .ensures) ∙ l .before .if1 .taken) (n .note2 .ensures) (p .flip .ensures .1),
       s .pre .1 .0,
     )
@@ -95,7 +96,7 @@ returns c = c .before .before .exchange-along-path .ensures
 
 -- ---- or free there
 note-requires-3 : tie.Need-note-requires-3
-note-requires-3 c κs = let f = fits (target-of (c .before .before .before)) in (f .3, f .1, f .0)
+note-requires-3 c κs = let f = fits (target-of (c .before .before .before)) in (f .3, f .1, omega (arith, f))
 
 flip-requires-2 : tie.Need-flip-requires-2
 flip-requires-2 c κs =
@@ -112,10 +113,10 @@ returns-2 c =
     let w = e .before .before in
     let t = target-of w in
     let s = start t in
-    plain _ _ _ _ _ _ _ (s .pre .0) (more s) _ _ (t .before .quotient .ensures) (t .target .ensures) _ refl _ _ _ (w .note .ensures)
+    plain _ _ _ _ _ _ _ (s .pre .0) (more s) _ _ (t .before .block-of .ensures) (t .target .ensures) _ refl _ _ _ (w .note .ensures)
     (sym (e .before .has .ensures) ∙ e .if1 .left) (n .note3 .ensures) (c .flip2 .ensures .1)
 
 pub give-spec : {M : Type 1} → statement M
-give-spec = tie.close (tie.spec quotient-requires target-requires mul-a sub-a mul-used element-copy-out-used cast-numbers
-    slice-write-numbers note-requires has-requires lowest-free-requires note-requires-2 flip-requires exchange-along-path-requires note-requires-3
+give-spec = tie.close (tie.spec block-of-requires target-requires mul-a sub-a cast-used mul-used element-copy-out-used cast-numbers
+    slice-write-numbers note-requires has-requires lowest-free-requires cast-b note-requires-2 flip-requires exchange-along-path-requires note-requires-3
     flip-requires-2 same-length returns same-length-2 returns-2)
