@@ -98,8 +98,9 @@ fn known_pages(marks: &[u8], m: usize, block: usize, letter: u8) -> usize
     }
 }
 
-// Reads the marks; one that is no letter counts as 255, whatever it is. Blocks that are full bear s + 1 below block `change`, and one other letter, `upper`, from there on. The search
-// ends at the second unfinished block, at anything else that fits no moment of the move, and where all the rest is full of `upper`.
+// Reads the marks; one that is no letter counts as 255. Blocks that are full bear s + 1 below block `change`, and one other letter,
+// `upper`, from there on. The search ends at the second unfinished block, at anything else that fits no moment of the move, and where
+// all the rest is full of `upper`.
 pub fn read_marks(sizes: Sizes, marks: &[u8]) -> MarksRead
     requires { ⌜ (sizes .n ≤ 64) × (0 < sizes .m) × (sizes .m ≤ 64) × (sizes .s < 3) ⌝ }
     requires { ⌜ length (now marks) ≡ slotCount sizes ⌝ }
