@@ -35,7 +35,7 @@ static void spoil(struct scene *z, uint64_t *random)
     case 17: memset(z->pins, 1, z->pins_len); break;
     case 18: memset(z->pins, 1, z->pins_len); z->list[0] ^= 1; break;
     case 19: memset(z->pins, 1, z->pins_len); z->sets[0] = 255; break;
-    case 20: memset(z->pins, 1, z->pins_len); z->marks[0] = 3; break;
+    case 20: memset(z->pins, 1, z->pins_len); memset(z->marks, 3, z->marks_len); break;
     default: break;
     }
 }
