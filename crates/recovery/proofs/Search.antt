@@ -1,5 +1,5 @@
 -- What the search of the marks knows after some blocks, and after some pages of the next one.
-use Rattle.flash.proofs.Kit.{_≡_, refl, sym, _∙_, _⊎_, inl, inr, ⊎-elim, _≢_, Bool, true, false, _&&_, _||_, not, List, none, ℕ, _+_, _-_, _*_, _≤_}
+use Rattle.flash.proofs.Kit.{_≡_, refl, sym, _∙_, _⊎_, inl, inr, ⊎-elim, _≢_, Bool, true, false, _&&_, _||_, not, List, none, ℕ, _+_, _*_, _≤_}
 use Rattle.flash.proofs.Kit.{_<_, arith, below-more, eqb, leb, length, getD, eqb-true, eqb-false, leb-true, leb-false, not-true, not-false}
 use Rattle.flash.specs.declared.sizes.Sizes.{Sizes}
 use Rattle.flash.specs.Geometry.{slot, letter}

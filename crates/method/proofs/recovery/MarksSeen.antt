@@ -1,5 +1,5 @@
 -- Counting marks that are no letter as 255 changes no block that is full of a letter, so neither what mend reads nor what read sums.
-use Rattle.flash.proofs.Kit.{_≡_, ap, fun-ext, refl, sym, _∙_, ⊎-elim, Bool, true, false, cond, List, ℕ, zero, suc, _+_, _-_, _<_, arith, eqb, ltb, ltb-false}
+use Rattle.flash.proofs.Kit.{_≡_, ap, fun-ext, refl, ⊎-elim, Bool, true, false, cond, List, ℕ, zero, suc, _+_, _-_, _<_, arith, eqb, ltb, ltb-false}
 use Rattle.flash.proofs.Kit.{getD, List·getD-map, ne-eqb}
 use Rattle.flash.specs.Lists.{range, all}
 use Rattle.flash.specs.Tables.{firstFit}

@@ -1,14 +1,14 @@
 -- Moments of a move: the marks that places have, and those that cuts leave. A moment goes by the place where the move goes on after
 -- a mend, which the marks tell (Recovery).
-use Rattle.flash.proofs.Kit.{_≡_, refl, sym, ap, _∙_, subst, _≢_, ⊎-elim, true, List, ℕ, _+_, _*_, _≤_, _<_, div-add-mod', mod-lt, arith, length}
-use Rattle.flash.proofs.Kit.{getD, lt-ltb}
-use Rattle.flash.specs.Lists.{all, part}
+use Rattle.flash.proofs.Kit.{_≡_, refl, sym, ap, _∙_, subst, _≢_, ⊎-elim, List, ℕ, _+_, _*_, _≤_, _<_, div-add-mod', mod-lt, arith, length}
+use Rattle.flash.proofs.Kit.{getD}
+use Rattle.flash.specs.Lists.{part}
 use Rattle.flash.specs.declared.sizes.Sizes.{Sizes}
-use Rattle.flash.specs.Geometry.{isLetter, slot, slotOf, blockOf, pageOf, originalCount, marksLength, letter}
+use Rattle.flash.specs.Geometry.{slot, slotOf, blockOf, pageOf, originalCount, marksLength, letter}
 use Rattle.flash.specs.Chip.{Chip, erased, pageAt, markAt}
 use Rattle.method.specs.Move.{Move, AcceptedMove}
-use Rattle.method.specs.Place.{lastPlace, passAt, filling, filled, Held, blank, plain, code, final, above, heldAt, heldMark}
-use Rattle.method.proofs.basics.Indexes.{Order, less, same, more, order, this-or-other, each-slot}
+use Rattle.method.specs.Place.{lastPlace, passAt, filling, filled, above, heldAt, heldMark}
+use Rattle.method.proofs.basics.Indexes.{Order, less, same, more, order, this-or-other}
 use Rattle.method.proofs.basics.MoveShape.{Holding}
 use Rattle.method.proofs.basics.AcceptedCalls.{StandsAt}
 use Rattle.method.proofs.cycles.SetCycles.{block-in, entry-in}

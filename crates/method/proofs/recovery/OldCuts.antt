@@ -5,7 +5,6 @@ use Rattle.flash.specs.Chip.{Chip, erased, markAt, isUnfinished}
 use Rattle.flash.proofs.Bounds.{in-range}
 use Rattle.method.specs.Place.{Operation, write, erase, done}
 use Rattle.method.specs.Cut.{isTornMark, Kept, Torn, Touched}
-use Rattle.method.specs.Mend.{Reading, reading}
 use Rattle.method.specs.Claims.{OldCuts, OneUnfinished}
 use Rattle.method.proofs.places.PlaceShape.{Shaped, letterAbove}
 use Rattle.method.proofs.recovery.LinesAgree.{finished}

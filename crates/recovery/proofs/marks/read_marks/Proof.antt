@@ -1,6 +1,5 @@
 -- `read_marks` meets its contract: the search knows what it has met, and what that tells at its end.
-use Rattle.flash.proofs.Kit.{needs, _≡_, sym, _∙_, ⊎-elim, true, false, ℕ, _+_, _-_, _*_, _≤_, _<_, mul-le-mul-right, arith, length, getD, not-true}
-use Rattle.flash.proofs.Kit.{not-false}
+use Rattle.flash.proofs.Kit.{needs, _≡_, sym, _∙_, ⊎-elim, true, ℕ, _+_, _-_, _*_, _≤_, _<_, arith, length, getD}
 use Rattle.flash.specs.Geometry.{letter}
 use Rattle.flash.specs.Chip.{isFull}
 use Rattle.flash.proofs.Ranges.{all-in}
@@ -43,8 +42,7 @@ search-holds c =
     let marks = start .args .marks .now in
     let upper : c .before .letter-after .result ≡ letter sizes 1 = c .before .letter-after .ensures in
     let r = c .passed-over .result in
-    let full = (rw upper at (c .passed-over .ensures .1)) in
-    let fits = mul-le-mul-right (sizes .m) (c .passed-over .ensures .0) in (
+    let full = (rw upper at (c .passed-over .ensures .1)) in (
       omega arith,
       omega arith,
       rw upper (upto-passed sizes (omega arith) marks 0 r (omega arith) full),
