@@ -5,6 +5,12 @@
 
 #include <string.h>
 
+/* A mark that a cut may leave: 255, or half-written. */
+static uint8_t torn_mark(uint64_t *random)
+{
+    return random_below(random, 2) == 0 ? 255 : (uint8_t)(3 + random_below(random, 252));
+}
+
 /* One fault, or none: a size, a length, an entry, a pin, a set, a mark, a byte; or all pinned, beside a fault that comes before or after. */
 static void spoil(struct scene *z, uint64_t *random)
 {
@@ -20,16 +26,16 @@ static void spoil(struct scene *z, uint64_t *random)
     case 8: z->list[random_below(random, (uint32_t)z->list_len)] = (uint8_t)random_below(random, 256); break;
     case 9: z->sets[random_below(random, (uint32_t)z->sets_len)] = (uint8_t)random_below(random, 256); break;
     case 10: z->sets[random_below(random, (uint32_t)z->sets_len)] = (uint8_t)random_below(random, z->m); break;
-    case 11: z->marks[random_below(random, (uint32_t)z->marks_len)] = 255; break;
+    case 11: z->marks[random_below(random, (uint32_t)z->marks_len)] = torn_mark(random); break;
     case 12: z->marks[random_below(random, (uint32_t)z->marks_len)] = (uint8_t)random_below(random, 5); break;
     case 13: z->store[random_below(random, (uint32_t)z->store_len)] = (uint8_t)random_below(random, 256); break;
-    case 14: memset(z->marks + random_below(random, z->n + 1) * z->m, 255, z->m); break;
+    case 14: memset(z->marks + random_below(random, z->n + 1) * z->m, torn_mark(random), z->m); break;
     case 15: z->pins_len -= 1; break;
     case 16: z->pins[random_below(random, (uint32_t)z->pins_len)] = (uint8_t)random_below(random, 256); break;
     case 17: memset(z->pins, 1, z->pins_len); break;
     case 18: memset(z->pins, 1, z->pins_len); z->list[0] ^= 1; break;
     case 19: memset(z->pins, 1, z->pins_len); z->sets[0] = 255; break;
-    case 20: memset(z->pins, 1, z->pins_len); z->marks[0] = 3; break;
+    case 20: memset(z->pins, 1, z->pins_len); memset(z->marks, 3, z->marks_len); break;
     default: break;
     }
 }

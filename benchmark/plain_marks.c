@@ -9,14 +9,6 @@ void plain_erase(const struct sizes *z, uint8_t *store, uint8_t *marks, uint32_t
     memset(marks + first, ERASED, z->m);
 }
 
-static int marks_legal(const uint8_t *marks, uint32_t count)
-{
-    uint8_t bad = 0;
-    for (uint32_t i = 0; i < count; i++)
-        bad |= (uint8_t)(marks[i] + 1) > 3;
-    return !bad;
-}
-
 /* The first block that is not full of the letter, if the marks fit: its first mark is the last in the row of those that are the
  * letter, or the next one. */
 static uint32_t first_other(const struct sizes *z, const uint8_t *marks, uint8_t is)
@@ -41,7 +33,7 @@ int plain_moment(const struct sizes *z, const uint8_t *marks, struct moment *fou
         return 0;
     found->block = block;
     found->torn = marks[first] > 2 || !all_are(marks + first, z->m, marks[first]);
-    if (found->torn ? !marks_legal(marks + first, z->m) : block == 0)
+    if (!found->torn && block == 0)
         return 0;
     from = found->torn ? first + z->m : first;
     found->forward = 1;

@@ -6,8 +6,8 @@
  *
  * Besides the flash, these must outlast a power cut until the move is finished: the list, the pins, n, m, page_bytes and s; the sets
  * too, unless mover_split makes them again from the same list. A page's mark must be programmed last, or together with the page: a
- * page whose write was cut must show mark 255. What else a cut may leave: pages of a block that was being erased, each as it was,
- * or with mark 255 and any bytes.
+ * page whose write was cut must not show a letter, but 255 or a half-written mark, 3 to 254. What else a cut may leave: pages of a
+ * block that was being erased, each as it was, or with such a mark and any bytes.
  *
  * Every call is total: it takes any numbers and any lengths, tests them, and either carries out the request and returns 0, or
  * returns the first refusal number that fits: they are looked for in the order in which the call's comment names them. No call
@@ -29,7 +29,8 @@
  *                elsewhere is refused. Without pins: n * m zeros. The same through the whole move
  *   sets         n * m bytes: the set of each original, 0 to m - 1, as mover_split fills them; the same through the whole move
  *   store        (n + 1) * m * page_bytes bytes: the pages, block after block, the spare first
- *   marks        (n + 1) * m bytes, one a page in the same order: 0, 1 or 2 where a page is written, 255 where none is
+ *   marks        (n + 1) * m bytes, one a page in the same order: 0, 1 or 2 where a page is written, 255 where none is; 3 to 254 only
+ *                where a cut left it so: mover_mend and mover_read count it as 255, mover_run refuses it with 5
  *   work         page_bytes bytes to work in
  *   text         an Intel HEX file; mover_hex_write fills exactly mover_hex_bytes, mover_hex_read takes any length
  *
@@ -109,13 +110,13 @@ uint32_t mover_run(uint32_t n, uint32_t m, uint32_t page_bytes, uint32_t s,
  *   *place   where the move goes on; 2 * n * (m + 1) if it is finished
  *   *erases  1 if a block was erased, else 0; it is the block that mover_operation tells of at *place, which at the end is 0, the spare
  * Changes only that block's bytes and marks.
- * A block whose pages all have the same letter is full of it; a block that is full of none is unfinished. The number is 6 unless each
- * mark is 0, 1, 2 or 255 and, letters counted modulo 3, one of these is so:
+ * A block whose pages all have the same letter is full of it; a block that is full of none is unfinished. The number is 6 unless, letters
+ * counted modulo 3, one of these is so:
  *   one block is unfinished, all below it are full of s + 1, and all above it of s
  *   one block is unfinished, all below it are full of s + 1, and all above it of s + 2
  *   no block is unfinished; the first of them, one or more, are full of s + 1, and the rest, one or more, of s
  *   no block is unfinished; the first of them, one or more, are full of s + 1, and the rest, one or more, of s + 2
- * What letters an unfinished block has, and where, is not looked into.
+ * What marks an unfinished block has, and where, is not looked into.
  * Returns 0, or 1, 2 or 6. */
 uint32_t mover_mend(uint32_t n, uint32_t m, uint32_t page_bytes, uint32_t s,
                     uint8_t *store, uint64_t store_len, uint8_t *marks, uint64_t marks_len,

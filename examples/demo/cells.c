@@ -62,11 +62,16 @@ static enum moment moment_of_cut(struct cells *cells)
     }
 }
 
-/* Plain tears: nothing in the spare area and any bytes. Now and then the page looks blank, as a real one may. */
+/* Plain tears: no letter in the spare area, half of the times 255 and else half-written, and any bytes. Now and then the page looks blank, as
+ * a real one may. */
+
+enum { LETTERS = 3 };
 
 static void tear_plainly(struct cells *cells, uint64_t slot)
 {
     memset(cells_spare(cells, slot), BLANK, cells->spare_bytes);
+    if (random_below(&cells->random, 2) == 0)
+        cells_spare(cells, slot)[0] = (uint8_t)(LETTERS + random_below(&cells->random, BLANK - LETTERS));
     if (random_below(&cells->random, 8) == 0)
         memset(cells_page(cells, slot), BLANK, cells->page_bytes);
     else

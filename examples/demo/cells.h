@@ -3,7 +3,8 @@
  * An erase turns all bits of a block to ones; programming turns ones to zeros. Each page has bytes and a spare area. Power may fail
  * before an operation, inside it or after it. What an operation leaves that was cut inside:
  *
- *   plain tears   the page, or some pages of the block, with a blank spare area and any bytes: what the library asks of a chip
+ *   plain tears   the page, or some pages of the block, with 3 to 255 at the start of the spare area, else blank, and any bytes: what the
+ *                 library asks of a chip
  *   rude tears    some of the bits that were to become zeros have, in any order; an erase may have turned bits to zeros before it
  *                 turns them to ones, and be anywhere on that way, with the spare area at another point than the bytes
  *

@@ -32,7 +32,7 @@ static uint8_t mark_of(const struct chip *chip, uint64_t slot)
 {
     const uint8_t *spare = cells_spare(&chip->cells, slot);
     if (chip->raw)
-        return spare[0] <= 2 ? spare[0] : BLANK;
+        return spare[0];
     return spare_mark(spare, slot, cells_page(&chip->cells, slot), chip->cells.page_bytes);
 }
 
@@ -61,7 +61,7 @@ void chip_load(struct chip *chip, uint8_t *store, uint8_t *marks)
     memcpy(store, cells->bytes, slots * cells->page_bytes);
     for (uint64_t slot = 0; slot < slots; slot++) {
         marks[slot] = mark_of(chip, slot);
-        chip->inexact += marks[slot] == BLANK && !all_blank(cells_spare(cells, slot), SPARE_BYTES);
+        chip->inexact += marks[slot] > 2 && !all_blank(cells_spare(cells, slot), SPARE_BYTES);
     }
 }
 

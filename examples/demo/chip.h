@@ -10,7 +10,7 @@
 struct chip {
     struct cells cells;
     int raw;
-    uint32_t inexact;       /* how many pages were read as not written although their spare area was not blank */
+    uint32_t inexact;       /* how many pages were read without a letter although their spare area was not blank */
 };
 
 enum chip_answer {

@@ -93,7 +93,7 @@ static void print_cuts(const struct demo *demo)
     printf("  cut%-9s%" PRIu32 ": %" PRIu32 " tore a page, %" PRIu32 " tore an erase, %" PRIu32 " between operations; %" PRIu32
            " in recovery\n", s(demo->cuts), demo->cuts, cells->cut_in_write, cells->cut_in_erase,
            cells->cut_before + cells->cut_after, demo->cut_recoveries);
-    printf("  marks       %" PRIu32 " damaged one%s met and read as 'not written'\n", demo->chip.inexact, s(demo->chip.inexact));
+    printf("  marks       %" PRIu32 " damaged one%s met and counted as 'not written'\n", demo->chip.inexact, s(demo->chip.inexact));
 }
 
 static void print_reads(const struct demo *demo)

@@ -96,6 +96,7 @@ static void runs_checked(void)
     static const struct chip end = {{255, 255, 1, 4, 2, 8}, {255, 255, 2, 2, 2, 2}, {4}};
     static const struct chip one = {{255, 9}, {255, 0}, {77}}, one_end = {{255, 9}, {255, 2}, {9}};
     static const struct chip soiled = {{255, 254, 1, 2, 4, 8}, {255, 255, 0, 0, 0, 0}, {77}};
+    static const struct chip half = {{255, 255, 1, 2, 4, 8}, {255, 100, 0, 0, 0, 0}, {77}};
     static const struct due refused_3 = {3, 0, 0, 0, 0, 0, 0}, refused_4 = {4, 0, 0, 0, 0, 0, 0}, refused_5 = {5, 0, 0, 0, 0, 0, 0};
 
     runs("P3: block 0", 2, 2, p1, sets, 0, 2, &rest, (struct due){0, 2, 2, 2, 0, 0, 2}, &coded_1);
@@ -111,6 +112,7 @@ static void runs_checked(void)
     runs("a set of m", 2, 2, p1, set_2, 0, 9, &rest, refused_4, &rest);
     runs("marks of another place", 2, 2, p1, sets, 1, 9, &rest, refused_5, &rest);
     runs("a page marked 255 not blank", 2, 2, p1, sets, 0, 9, &soiled, refused_5, &soiled);
+    runs("a half-written mark where 255 is due", 2, 2, p1, sets, 0, 9, &half, refused_5, &half);
     runs("3 before 5", 2, 2, twice, sets, 13, 9, &rest, refused_3, &rest);
 }
 
@@ -143,13 +145,14 @@ static void mends_checked(void)
 {
     static const uint8_t torn[] = {5, 3, 77, 4}, torn_marks[] = {1, 1, 255, 0};
     static const uint8_t whole_marks[] = {1, 1, 0, 0}, end[] = {255, 4, 1, 2}, end_marks[] = {255, 2, 2, 2};
-    static const uint8_t odd_marks[] = {1, 1, 3, 0}, two_marks[] = {1, 255, 255, 0};
+    static const uint8_t half_marks[] = {1, 1, 100, 0}, two_marks[] = {1, 255, 255, 0}, two_half_marks[] = {1, 3, 100, 0};
 
     mends("P9", torn, torn_marks, 4, 0, MOVER_DONE, 4, 1, 2);
     mends("P10", end, end_marks, 4, 0, MOVER_DONE, 12, 1, 0);
     mends("nothing unfinished", torn, whole_marks, 4, 0, MOVER_DONE, 3, 0, -1);
-    mends("an odd mark", torn, odd_marks, 4, 0, MOVER_BAD_MARKS, 0, 0, -1);
+    mends("P9 with a half-written mark", torn, half_marks, 4, 0, MOVER_DONE, 4, 1, 2);
     mends("two unfinished", torn, two_marks, 4, 0, MOVER_BAD_MARKS, 0, 0, -1);
+    mends("two half-written", torn, two_half_marks, 4, 0, MOVER_BAD_MARKS, 0, 0, -1);
     mends("marks too short", torn, torn_marks, 3, 0, MOVER_BAD_LENGTH, 0, 0, -1);
     mends("s = 3", torn, torn_marks, 4, 3, MOVER_BAD_SIZES, 0, 0, -1);
 }
@@ -179,7 +182,8 @@ static void reads_checked(void)
     static const uint8_t twice[] = {0, 0, 2, 0, 2, 0, 3, 0};
     static const uint8_t rest[] = {255, 255, 1, 2, 4, 8}, rest_marks[] = {255, 255, 0, 0, 0, 0};
     static const uint8_t torn[] = {6, 1, 4, 77, 4, 8}, torn_marks[] = {1, 1, 1, 255, 0, 0};
-    static const uint8_t end[] = {255, 255, 1, 4, 2, 8}, end_marks[] = {255, 255, 2, 2, 2, 2}, odd_marks[] = {1, 1, 1, 3, 0, 0};
+    static const uint8_t end[] = {255, 255, 1, 4, 2, 8}, end_marks[] = {255, 255, 2, 2, 2, 2};
+    static const uint8_t half_marks[] = {1, 1, 1, 100, 0, 0}, two_half_marks[] = {1, 1, 1, 100, 3, 0};
     static const uint8_t turn[] = {1, 0, 2, 0, 0, 0}, only[] = {0, 0, 0}, cut[] = {5, 3, 77, 4}, cut_marks[] = {1, 1, 255, 0};
 
     reads("at rest", 2, 2, p1, sets, rest, rest_marks, 1, 3, MOVER_DONE, 1, 8);
@@ -189,8 +193,10 @@ static void reads_checked(void)
     reads("between cut and recovery, two pages", 3, 1, turn, only, cut, cut_marks, 1, 0, MOVER_DONE, 2, 1);
     reads("between cut and recovery, three pages", 3, 1, turn, only, cut, cut_marks, 1, 1, MOVER_DONE, 3, 2);
     reads("no such original", 2, 2, p1, sets, rest, rest_marks, 1, 4, MOVER_BAD_ORIGINAL, 0, 77);
-    reads("marks that fit nothing", 2, 2, p1, sets, torn, odd_marks, 1, 0, MOVER_BAD_MARKS, 0, 77);
-    reads("6 before 7", 2, 2, p1, sets, torn, odd_marks, 1, 4, MOVER_BAD_MARKS, 0, 77);
+    reads("with a half-written mark, by a cycle of one", 2, 2, p1, sets, torn, half_marks, 1, 0, MOVER_DONE, 1, 1);
+    reads("with a half-written mark, by the block above", 2, 2, p1, sets, torn, half_marks, 1, 1, MOVER_DONE, 2, 2);
+    reads("two half-written", 2, 2, p1, sets, torn, two_half_marks, 1, 0, MOVER_BAD_MARKS, 0, 77);
+    reads("6 before 7", 2, 2, p1, sets, torn, two_half_marks, 1, 4, MOVER_BAD_MARKS, 0, 77);
     reads("no split", 2, 2, p1, no_split, rest, rest_marks, 1, 0, MOVER_BAD_SPLIT, 0, 77);
     reads("an entry met twice", 2, 2, twice, sets, rest, rest_marks, 1, 0, MOVER_BAD_LIST, 0, 77);
     reads("work page too short", 2, 2, p1, sets, rest, rest_marks, 0, 0, MOVER_BAD_LENGTH, 0, 77);
@@ -389,6 +395,9 @@ static void hex_writes_checked(void)
     store[3] = 254;
     check("a spare that is not blank", mover_hex_write(5, 1, 4, store, 24, marks, 6, text, length) == MOVER_BAD_PLACE);
     store[3] = 255;
+    marks[0] = 100;
+    check("a spare with a half-written mark", mover_hex_write(5, 1, 4, store, 24, marks, 6, text, length) == MOVER_BAD_PLACE);
+    marks[0] = 255;
     check("nothing written so far", memcmp(text, blank, sizeof text) == 0);
     check("twenty bytes", mover_hex_write(5, 1, 4, store, 24, marks, 6, text, length) == MOVER_DONE);
     check("their text", memcmp(text, due, length) == 0 && memcmp(text + length, blank + length, sizeof text - length) == 0);

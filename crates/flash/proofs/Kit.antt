@@ -5,7 +5,7 @@ pub use mathlib.Core.List.{_++_, List, List·Memᴰ, List·Memᴰ·append-cases,
 pub use mathlib.Core.List.{Memᴰ·append-left, Memᴰ·append-right, [], append-assoc, append-nil, map, _∷_}
 pub use mathlib.Core.Logic.{inl, inr, _≢_, _⊎_, ⊎-elim}
 pub use mathlib.Core.Option.{Option, none, some}
-pub use mathlib.Core.Path.{ap, ap₂, refl, subst, sym, _∙_, _≡_}
+pub use mathlib.Core.Path.{ap, ap₂, fun-ext, refl, subst, sym, _∙_, _≡_}
 pub use Prim.Native.Nat.{_%_, _*_, _+_, _-_, _/_, _<_, _^_, max, min, suc, zero, ℕ, _≤_}
 pub use native.Mathlib.Nat.{add-mul, add-suc, add-zero, div-add-mod', div-eq-of-lt, div-le-self, div-lt-iff-lt-mul, div-one, div-self, le-antisymm}
 pub use native.Mathlib.Nat.{le-div-iff-mul-le, le-of-suc-le-suc, mod-eq-of-lt, mod-lt, mul-add-div-right, mul-add-mod-self-right, mul-assoc}
@@ -19,8 +19,8 @@ pub use lib.Bits.{xor-self, xor-shr, xor-step, xor-zero-l, xor-zero-r}
 unfoldable pub use lib.Count.{trailingZeros}
 pub use lib.Count.{trailing-le, under}
 pub use lib.Dec.{eqb, leb, lit<, ltb}
-pub use lib.ListN.{List·getD-append, List·getD-eq-default, drop, drop-of-length-le, getD, getD-replicate, length, length-append, length-drop}
-pub use lib.ListN.{length-map, length-replicate, length-set, length-take, replicate, replicate-append-replicate, set, take, take-append-drop}
+pub use lib.ListN.{List·getD-append, List·getD-eq-default, List·getD-map, drop, drop-of-length-le, getD, getD-replicate, length, length-append}
+pub use lib.ListN.{length-drop, length-map, length-replicate, length-set, length-take, replicate, replicate-append-replicate, set, take, take-append-drop}
 pub use lib.Pow.{pow-add, pow-lt, pow-pos, shl-exact, shl-shr, shr-shr}
 pub use lib.Seq.{append-snoc, drop-append-add, drop-append-le, drop-at, drop-cons, drop-drop, drop-length, drop-set-add, drop-set-lt, ext-getD}
 pub use lib.Seq.{getD-append-add, getD-at, getD-drop, getD-set-other, getD-set-same, getD-take, length-take-le, set-append-left, set-at, set-split}

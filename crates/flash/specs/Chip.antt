@@ -16,10 +16,6 @@ pub record Chip : Type 0 where
 abbrev pub erased : ℕ
 erased = 255
 
--- rule 1.4
-unfoldable pub isMark : ℕ → Bool
-isMark mark = isLetter mark || eqb mark erased
-
 -- the page and the mark of a slot
 unfoldable pub pageAt : (P : ℕ) → Chip → (t : ℕ) → List ℕ
 pageAt P chip t = part P t (chip .store)

@@ -1,9 +1,11 @@
 -- What cuts leave, and what mend makes of it.
+pub mod MarksSeen
 pub mod LinesAgree
 pub mod ErasesNext
 pub mod FittingMarks
 pub mod Moments
 pub mod MarksFade
+pub mod OldCuts
 pub mod MendFinds
 pub mod MendAnswers
 pub mod CutsLeave

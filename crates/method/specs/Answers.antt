@@ -20,7 +20,7 @@ use Rattle.method.specs.Move.{Move, move}
 use Rattle.method.specs.Place.{lastPlace, marksOf}
 use Rattle.method.specs.Read.{readSlots, readPage}
 use Rattle.method.specs.Step.{Running, steps, nothingDone, tallyOf}
-use Rattle.method.specs.Mend.{Reading, reading}
+use Rattle.method.specs.Mend.{Reading, seen, reading}
 
 -- number 2, of mend, and of run and read
 unfoldable pub badChip : Sizes → Chip → Bool
@@ -152,4 +152,5 @@ readRefused number work = record { number = number; count = 0; bytes = 0; work =
 unfoldable pub readAnswer : Request → Chip → (work : List ℕ) → (k : ℕ) → ReadAnswer
 readAnswer R chip work k =
     let number = refusal (readRows R chip work k) in
-    cond (eqb number 0) (readGives (length (readSlots (move R) (chip .marks) k)) (readPage (move R) chip k)) (readRefused number work)
+    let view : Chip = record { store = chip .store; marks = seen (chip .marks) } in
+    cond (eqb number 0) (readGives (length (readSlots (move R) (view .marks) k)) (readPage (move R) view k)) (readRefused number work)

@@ -127,15 +127,31 @@ threeFinished = chip (255 ∷ 4 ∷ 1 ∷ 2 ∷ []) (255 ∷ 2 ∷ 2 ∷ 2 ∷ [
 abbrev pub threeBeforeErase : Chip
 threeBeforeErase = chip (5 ∷ 3 ∷ 2 ∷ 4 ∷ []) (1 ∷ 1 ∷ 0 ∷ 0 ∷ [])
 
+abbrev threeMarked : (mark byte : ℕ) → Chip
+threeMarked mark byte = chip (5 ∷ 3 ∷ byte ∷ 4 ∷ []) (1 ∷ 1 ∷ mark ∷ 0 ∷ [])
+
 abbrev pub threeTorn : (byte : ℕ) → Chip
-threeTorn byte = chip (5 ∷ 3 ∷ byte ∷ 4 ∷ []) (1 ∷ 1 ∷ 255 ∷ 0 ∷ [])
+threeTorn = threeMarked 255
+
+-- P9 with this mark instead of 255: mend and read do the same, and a run is refused even where the page is as an erase leaves it
+abbrev HalfWritten : (mark byte : ℕ) → Type 0
+HalfWritten mark byte =
+    CutInside (three .sizes) (operationAt (three .sizes) 3) threeBeforeErase (threeMarked mark byte)
+    × (readAnswer three (threeMarked mark byte) (junk 1) 1 ≡ record { number = 0; count = 3; bytes = 1; work = 2 ∷ [] })
+    × (mendAnswer (three .sizes) (threeMarked mark byte) ≡ record { number = 0; place = 4; erases = 1; chip = threeTorn 255 })
+    × (runAnswer three (threeMarked mark 255) (junk 1) 4 1 ≡ refusedRun 5 (threeMarked mark 255) (junk 1))
 
 -- with a set byte that is none of its sets, and with two blocks unfinished
 abbrev threeBadly : Request
 threeBadly = unpinned (three .sizes) (three .list) (0 ∷ 1 ∷ 0 ∷ [])
 
-abbrev threeUnfit : Chip
-threeUnfit = chip (255 ∷ 1 ∷ 2 ∷ 4 ∷ []) (255 ∷ 0 ∷ 255 ∷ 0 ∷ [])
+abbrev threeUnfit : (mark : ℕ) → Chip
+threeUnfit mark = chip (255 ∷ 1 ∷ 2 ∷ 4 ∷ []) (mark ∷ 0 ∷ mark ∷ 0 ∷ [])
+
+abbrev Unfit : (mark : ℕ) → Type 0
+Unfit mark =
+    (mendAnswer (three .sizes) (threeUnfit mark) ≡ record { number = 6; place = 0; erases = 0; chip = threeUnfit mark })
+    × (readAnswer three (threeUnfit mark) (junk 1) 0 ≡ record { number = 6; count = 0; bytes = 0; work = junk 1 })
 
 -- two blocks change places, two bytes a page: the first page is half as an erase leaves it, the second is nothing else
 abbrev pub half : Request
@@ -191,6 +207,7 @@ pub record CasesHold (byte : ℕ) : Type 0 where
   -- a run at that place is refused while the page marked 255 is not blank, and goes on once it is
   pub p9-on : (runAnswer three (threeTorn 0) (junk 1) 4 1 ≡ refusedRun 5 (threeTorn 0) (junk 1))
       × (runAnswer three (threeTorn 255) (junk 1) 4 1 ≡ ran 5 (counts 1 1 0 1) 0 (chip (5 ∷ 3 ∷ 4 ∷ 4 ∷ []) (1 ∷ 1 ∷ 1 ∷ 0 ∷ [])) (4 ∷ []))
+  pub half-written : HalfWritten 3 byte × HalfWritten 254 byte
   pub p10 : mendAnswer (three .sizes) threeFinished ≡ record { number = 0; place = 12; erases = 1; chip = threeFinished }
   pub p11 : runAnswer three threeAtRest (junk 1) 0 0 ≡ ran 0 (counts 0 0 0 0) 0 threeAtRest (junk 1)
   -- the numbers that no P gives: a part one byte short
@@ -202,8 +219,7 @@ pub record CasesHold (byte : ℕ) : Type 0 where
   pub number-4 : (runAnswer threeBadly threeAtRest (junk 1) 0 9 ≡ refusedRun 4 threeAtRest (junk 1))
       × (readAnswer threeBadly threeAtRest (junk 1) 0 ≡ record { number = 4; count = 0; bytes = 0; work = junk 1 })
   -- two blocks unfinished
-  pub number-6 : (mendAnswer (three .sizes) threeUnfit ≡ record { number = 6; place = 0; erases = 0; chip = threeUnfit })
-      × (readAnswer three threeUnfit (junk 1) 0 ≡ record { number = 6; count = 0; bytes = 0; work = junk 1 })
+  pub number-6 : Unfit 255 × Unfit 3 × Unfit 254
   -- an original too many
   pub number-7 : readAnswer three threeAtRest (junk 1) 3 ≡ record { number = 7; count = 0; bytes = 0; work = junk 1 }
   -- of the four pages written the first, the sum of both, programs two bytes, and of the others one and none

@@ -5,20 +5,22 @@ use mathlib.Core.Logic.{_≢_, _⊎_}
 use mathlib.Core.List.{List, List·Memᴰ}
 use mathlib.Core.Option.{some}
 use Prim.Native.Nat.{ℕ, _+_, _-_, _*_, _/_, _≤_, _<_}
+use lib.Dec.{eqb}
 use lib.ListN.{length, getD}
 use Rattle.flash.specs.Lists.{range, any, count}
 use Rattle.flash.specs.Tables.{Row, First, refusal}
 use Rattle.flash.specs.declared.sizes.Sizes.{Sizes}
 use Rattle.flash.specs.Geometry.{inRange, blockOf, originalCount, slotCount}
-use Rattle.flash.specs.Chip.{Chip, isWhole, isUnfinished}
+use Rattle.flash.specs.Chip.{Chip, erased, isWhole, isUnfinished}
 use Rattle.split.specs.Split.{setOf}
 use Rattle.split.specs.Request.{Request}
 use Rattle.split.specs.Answer.{splitRows}
 use Rattle.method.specs.Move.{Move, AcceptedMove}
 use Rattle.method.specs.Cycle.{dest, top}
 use Rattle.method.specs.Read.{fullOf, goBack, goOn, readSlots}
-use Rattle.method.specs.Place.{Pass, write, erase, done, operations, lastPlace, operationAt, passAt, blank, heldAt, marksOf}
+use Rattle.method.specs.Place.{Pass, Operation, write, erase, done, operations, lastPlace, operationAt, passAt, blank, heldAt, marksOf}
 use Rattle.method.specs.Step.{isWrite, isErase, erasesBlock}
+use Rattle.method.specs.Cut.{CutLeaves, CutInside}
 use Rattle.method.specs.Mend.{Reading, lines, reading}
 use Rattle.method.specs.Answers.{order, runRows, mendRows, readRows}
 use Rattle.method.specs.Runs.{RunsAddUp, StatesReached}
@@ -97,6 +99,18 @@ WalksEnd =
     (M : Move) → AcceptedMove M → (marks : List ℕ) (found : Reading) → reading (M .sizes) marks ≡ some found
     → (k : ℕ) → k < originalCount (M .sizes) → WalksOf M marks k
 
+-- Cuts that leave 255 on a page and no other mark are among those of rule 5.1: what is claimed of these is claimed of them.
+unfoldable pub OldCuts : Type 0
+OldCuts =
+    (Z : Sizes) (operation : Operation) (before after : Chip)
+    → CutLeaves (λ mark. eqb mark erased) Z operation before after → CutInside Z operation before after
+
+-- rule 5.2: of marks that fit a moment, at most one block is unfinished
+unfoldable pub OneUnfinished : Type 0
+OneUnfinished =
+    (Z : Sizes) → inRange Z ≡ true → (marks : List ℕ) (found : Reading) → reading Z marks ≡ some found → (b c : ℕ) → b ≤ Z .n → c ≤ Z .n
+    → isUnfinished (Z .m) marks b ≡ true → isUnfinished (Z .m) marks c ≡ true → b ≡ c
+
 -- Two of mend's lines that fit the same marks give the same answer: it does not matter which is tried first.
 unfoldable pub LinesAgree : Type 0
 LinesAgree =
@@ -132,6 +146,8 @@ pub record Claims : Type 0 where
   pub pages : PagesRise
   pub tops : TopIsHighest
   pub walks : WalksEnd
+  pub old-cuts : OldCuts
+  pub one-unfinished : OneUnfinished
   pub lines : LinesAgree
   pub erases-next : ErasesNext
   pub first : FirstReturned

@@ -26,13 +26,13 @@ abbrev pub cutInside : Call → (finished : ℕ) → (left : Chip) → Event
 cutInside call finished left = record { call = call; cut = inside finished left }
 
 -- what the cut inside step 2 leaves, the write of page 0 of block 1, and the cut inside its recovery
-abbrev tornWrite : Chip
-tornWrite = chip (5 ∷ 9 ∷ 2 ∷ 4 ∷ []) (1 ∷ 255 ∷ 0 ∷ 0 ∷ [])
+abbrev tornWrite : (mark : ℕ) → Chip
+tornWrite mark = chip (5 ∷ 9 ∷ 2 ∷ 4 ∷ []) (1 ∷ mark ∷ 0 ∷ 0 ∷ [])
 
 unfoldable pub exampleEvents : List Event
 exampleEvents =
-    cutInside (run three (junk 1) 0 5) 2 tornWrite
-    ∷ cutInside (mend (three .sizes)) 0 tornWrite
+    cutInside (run three (junk 1) 0 5) 2 (tornWrite 254)
+    ∷ cutInside (mend (three .sizes)) 0 (tornWrite 3)
     ∷ whole (mend (three .sizes))
     -- inside step 3, the erase of block 2, which has taken no mark yet
     ∷ cutInside (run three (junk 1) 2 9) 1 threeBeforeErase

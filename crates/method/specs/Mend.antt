@@ -3,11 +3,11 @@ use mathlib.Core.Bool.{Bool, cond, _&&_}
 use mathlib.Core.List.{List, _++_, map}
 use mathlib.Core.Option.{Option, none, some}
 use Prim.Native.Nat.{ℕ, _+_, _-_, _*_}
-use Rattle.flash.specs.Geometry.{letter}
+use Rattle.flash.specs.Geometry.{isLetter, letter}
 use Rattle.flash.specs.Lists.{range, all}
 use Rattle.flash.specs.Tables.{Row, firstFit}
 use Rattle.flash.specs.declared.sizes.Sizes.{Sizes}
-use Rattle.flash.specs.Chip.{isMark, isFull, isUnfinished}
+use Rattle.flash.specs.Chip.{erased, isFull, isUnfinished}
 
 -- what mend finds: the place, and the block that it erases, if any
 pub record Reading : Type 0 where
@@ -55,10 +55,10 @@ module _ (Z : Sizes) (marks : List ℕ) where
       map forwardTorn (range 0 (n + 1)) ++ (map backwardTorn (range 0 (n + 1))
       ++ (map forwardFull (range 1 n) ++ map backwardFull (range 1 n)))
 
-  -- rule 5.2: each mark is a letter or 255
-  unfoldable pub legalMarks : Bool
-  legalMarks = all isMark marks
+-- rule 5.2: the marks as mend and read see them, which count one that is no letter as 255
+unfoldable pub seen : (marks : List ℕ) → List ℕ
+seen marks = map (λ mark. cond (isLetter mark) mark erased) marks
 
-  -- rule 5.2: what the marks tell, or none where they fit no moment
-  unfoldable pub reading : Option Reading
-  reading = cond legalMarks (firstFit lines) none
+-- rule 5.2: what the marks tell, or none where they fit no moment
+unfoldable pub reading : Sizes → (marks : List ℕ) → Option Reading
+reading Z marks = firstFit (lines Z (seen marks))

@@ -46,19 +46,19 @@ unfoldable pub numbers : List Event → History → List ℕ
 numbers [] h = []
 numbers (event ∷ events) h = numberOf (event .call) (h .chip) ∷ numbers events (after event h)
 
--- `byte` is what a cut leaves on each torn page
+-- `byte` is what a cut leaves on each torn page; the marks that it leaves differ
 module _ (byte : ℕ) where
   -- inside the erase of block 1: page 0 is kept, page 1 is torn
   abbrev upperTorn : Chip
-  upperTorn = chip (6 ∷ 1 ∷ 1 ∷ byte ∷ 4 ∷ 8 ∷ []) (1 ∷ 1 ∷ 0 ∷ 255 ∷ 0 ∷ 0 ∷ [])
+  upperTorn = chip (6 ∷ 1 ∷ 1 ∷ byte ∷ 4 ∷ 8 ∷ []) (1 ∷ 1 ∷ 0 ∷ 100 ∷ 0 ∷ 0 ∷ [])
 
   -- inside mend's erase of the same block: page 0 is torn as well
   abbrev bothTorn : Chip
-  bothTorn = chip (6 ∷ 1 ∷ byte ∷ byte ∷ 4 ∷ 8 ∷ []) (1 ∷ 1 ∷ 255 ∷ 255 ∷ 0 ∷ 0 ∷ [])
+  bothTorn = chip (6 ∷ 1 ∷ byte ∷ byte ∷ 4 ∷ 8 ∷ []) (1 ∷ 1 ∷ 3 ∷ 255 ∷ 0 ∷ 0 ∷ [])
 
   -- inside the write of page 1 of block 1
   abbrev writeTorn : Chip
-  writeTorn = chip (6 ∷ 1 ∷ 4 ∷ byte ∷ 4 ∷ 8 ∷ []) (1 ∷ 1 ∷ 1 ∷ 255 ∷ 0 ∷ 0 ∷ [])
+  writeTorn = chip (6 ∷ 1 ∷ 4 ∷ byte ∷ 4 ∷ 8 ∷ []) (1 ∷ 1 ∷ 1 ∷ 254 ∷ 0 ∷ 0 ∷ [])
 
   -- inside the erase of block 2: page 0 is torn, page 1 is kept
   abbrev lowerTorn : Chip
@@ -66,7 +66,7 @@ module _ (byte : ℕ) where
 
   -- after the finish, inside mend's erase of the spare
   abbrev spareTorn : Chip
-  spareTorn = chip (byte ∷ 255 ∷ 1 ∷ 4 ∷ 2 ∷ 8 ∷ []) (255 ∷ 255 ∷ 2 ∷ 2 ∷ 2 ∷ 2 ∷ [])
+  spareTorn = chip (byte ∷ 255 ∷ 1 ∷ 4 ∷ 2 ∷ 8 ∷ []) (200 ∷ 255 ∷ 2 ∷ 2 ∷ 2 ∷ 2 ∷ [])
 
   unfoldable pub events : List Event
   events =

@@ -15,6 +15,7 @@ use Rattle.method.specs.inner.Shape.{Shape}
 use Rattle.method.proofs.basics.EachNumber.{Each}
 use Rattle.method.proofs.walks.StoredPages.{Reads}
 use Rattle.method.proofs.walks.ReadsOriginals.{reads}
+use Rattle.method.proofs.recovery.MarksSeen.{slots-seen, page-seen}
 use Rattle.recovery.specs.declared.marks.MarksRead.{MarksRead}
 use Rattle.recovery.specs.declared.marks.MarksRead.the-variants.{NoMoment, Full, Torn}
 use Rattle.recovery.specs.MarksRead.{answerOf}
@@ -56,7 +57,7 @@ module _ (R : Request) (chip : Chip) (work : List ℕ) (k : ℕ) where
         → count ≡ length (readSlots (move R) (chip .marks) k) → after ≡ readPage (move R) chip k → bytes ≡ writtenBytes after
         → readAs (record { number = 0; count = count; bytes = bytes }) after ≡ readAnswer R chip work k
     unfolding readAnswer
-    rebuilt count bytes after f g h i j = rw (by-rest, f, lt-leb _ _ g, h, j, i)
+    rebuilt count bytes after f g h i j = rw (by-rest, f, lt-leb _ _ g, slots-seen (chip .marks) (move R) k, page-seen (move R) chip k, h, j, i)
 
 -- ---- what the marks tell
 module _ (M : Move) (marks : List ℕ) (told : MarksRead) (answer : answerOf (M .sizes) told ≡ marksAnswer (reading (M .sizes) marks)) where

@@ -1,19 +1,19 @@
 -- What `reading` gives: the answer of any line that fits, or none where marks of that kind cannot be.
 use Rattle.flash.proofs.Kit.{_≡_, refl, sym, ap, _∙_, ⊎-elim, _≢_, Bool, true, false, cond, _&&_, List, [], _∷_, map, List·Memᴰ, List·Memᴰ·head}
 use Rattle.flash.proofs.Kit.{List·Memᴰ·tail, List·Memᴰ·not-nil, List·Memᴰ·cases-cons, Memᴰ·append-left, Memᴰ·append-right, Option, none, some, ℕ}
-use Rattle.flash.proofs.Kit.{zero, suc, _+_, _-_, _*_, _%_, add-zero, _≤_, _<_, arith, eqb, length, getD, eqb-true, eqb-false}
+use Rattle.flash.proofs.Kit.{zero, suc, _+_, _-_, _*_, _%_, add-zero, _≤_, _<_, arith, eqb, eqb-true, eqb-false}
 use Rattle.flash.specs.Geometry.{letter}
 use Rattle.flash.specs.Lists.{range}
 use Rattle.flash.specs.Tables.{Row, firstFit}
 use Rattle.flash.specs.declared.sizes.Sizes.{Sizes}
-use Rattle.flash.specs.Chip.{isMark, isFull, isUnfinished}
+use Rattle.flash.specs.Chip.{isFull, isUnfinished}
 use Rattle.flash.proofs.Bools.{bool-cases, never-both}
-use Rattle.flash.proofs.Searches.{all-fails}
 use Rattle.flash.proofs.Ranges.{all-is}
 use Rattle.flash.proofs.Blocks.{full-same}
 use Rattle.flash.proofs.Comparisons.{lt-cases}
-use Rattle.method.specs.Mend.{Reading, fullFrom, forwardTorn, backwardTorn, forwardFull, backwardFull, lines, legalMarks, reading}
+use Rattle.method.specs.Mend.{Reading, fullFrom, forwardTorn, backwardTorn, forwardFull, backwardFull, lines, reading}
 use Rattle.method.specs.inner.Shape.{Shape}
+use Rattle.method.proofs.recovery.MarksSeen.{reading-is}
 use Rattle.method.proofs.recovery.FittingMarks.{first-fit, torn-shape, filled-shape}
 use Rattle.method.proofs.recovery.LinesAgree.{full, Torn, Filled, Fit, torn-forth, torn-back, full-forth, full-back, finished, fit, agree}
 use Rattle.recovery.specs.MarksRead.{placeInTurn}
@@ -52,9 +52,8 @@ module _ (Z : Sizes) (pages : 0 < Z .m) (marks : List ℕ) where
   open Sizes Z using (n, m)
 
   -- ---- a line that fits
-  hit : (row : Row Reading) → List·Memᴰ row (lines Z marks) → row .fits ≡ true → legalMarks Z marks ≡ true → reading Z marks ≡ some (row .gives)
-  unfolding reading
-  hit row member e legal = rw legal (told (firstFit (lines Z marks)) refl)
+  hit : (row : Row Reading) → List·Memᴰ row (lines Z marks) → row .fits ≡ true → reading Z marks ≡ some (row .gives)
+  hit row member e = reading-is marks Z ∙ told (firstFit (lines Z marks)) refl
     where
       told : (found : Option Reading) → firstFit (lines Z marks) ≡ found → found ≡ some (row .gives)
       told none f = absurd (none-fits (lines Z marks) row member e f)
@@ -86,18 +85,18 @@ module _ (Z : Sizes) (pages : 0 < Z .m) (marks : List ℕ) where
   abbrev line3 : List (Row Reading)
   line3 = map (forwardFull Z marks) (range 1 n)
 
-  module _ (legal : legalMarks Z marks ≡ true) (b : ℕ) where
+  module _ (b : ℕ) where
     pub reads-torn : (isBackward : Bool) → Torn Z pages marks (cond isBackward 2 0) b
         → reading Z marks ≡ some (record { place = placeInTurn Z isBackward b 0; toErase = some b })
     unfolding lines forwardTorn backwardTorn placeInTurn
     reads-torn false T =
         rw (add-zero (b * (m + 1)))
         (hit (forwardTorn Z marks b)
-        (Memᴰ·append-left _ (mem-map (forwardTorn Z marks) 0 (n + 1) b (omega arith) (omega (arith, T .low)))) (torn-test 0 b T) legal)
+        (Memᴰ·append-left _ (mem-map (forwardTorn Z marks) 0 (n + 1) b (omega arith) (omega (arith, T .low)))) (torn-test 0 b T))
     reads-torn true T =
         rw (add-zero ((2 * n - b) * (m + 1)))
         (hit (backwardTorn Z marks b)
-        (Memᴰ·append-right line1 (Memᴰ·append-left _ (mem-map (backwardTorn Z marks) 0 (n + 1) b (omega arith) (omega (arith, T .low))))) (torn-test 2 b T) legal)
+        (Memᴰ·append-right line1 (Memᴰ·append-left _ (mem-map (backwardTorn Z marks) 0 (n + 1) b (omega arith) (omega (arith, T .low))))) (torn-test 2 b T))
 
     pub reads-full : (isBackward : Bool) → Filled Z pages marks (cond isBackward 2 0) b
         → reading Z marks ≡ some (record { place = placeInTurn Z isBackward (cond isBackward b (b - 1)) m; toErase = none })
@@ -105,17 +104,13 @@ module _ (Z : Sizes) (pages : 0 < Z .m) (marks : List ℕ) where
     reads-full false F =
         hit (forwardFull Z marks b)
         (Memᴰ·append-right line1 (Memᴰ·append-right line2 (Memᴰ·append-left _ (mem-map (forwardFull Z marks) 1 n b (F .low) (omega (arith, F .high))))))
-        (full-test 0 b F) legal
+        (full-test 0 b F)
     reads-full true F =
         hit (backwardFull Z marks b)
         (Memᴰ·append-right line1 (Memᴰ·append-right line2 (Memᴰ·append-right line3 (mem-map (backwardFull Z marks) 1 n b (F .low) (omega (arith, F .high))))))
-        (full-test 2 b F) legal
+        (full-test 2 b F)
 
   -- ---- no line fits
-  pub reads-illegal : (t : ℕ) → t < length marks → isMark (getD marks t 0) ≡ false → reading Z marks ≡ none
-  unfolding reading legalMarks
-  reads-illegal t h e = rw (all-fails isMark marks t 0 h e)
-
   -- What the four lines have in common: the shape, with another letter above than below, and a block below if none is unfinished.
   pub record Fitting (i low high : ℕ) : Type 0 where
     pub shape : Shape Z marks low high i
@@ -123,12 +118,8 @@ module _ (Z : Sizes) (pages : 0 < Z .m) (marks : List ℕ) where
     pub begun : low ≡ high → 1 ≤ low
 
   pub reads-none : ((i low high : ℕ) → Fitting i low high → ⊥) → reading Z marks ≡ none
-  unfolding reading letter
-  reads-none refute =
-      ⊎-elim
-      (λ (l : legalMarks Z marks ≡ true). rw l (told (firstFit (lines Z marks)) refl))
-      (λ (l : legalMarks Z marks ≡ false). rw l)
-      (bool-cases (legalMarks Z marks))
+  unfolding letter
+  reads-none refute = reading-is marks Z ∙ told (firstFit (lines Z marks)) refl
     where
       torn : (i b : ℕ) → letter Z i ≢ letter Z 1 → Torn Z pages marks i b → ⊥
       torn i b ne T = refute i b (suc b) (record { shape = torn-shape Z pages marks i b T; other = ne; begun = λ e. absurd (omega arith) })

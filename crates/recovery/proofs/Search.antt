@@ -1,14 +1,13 @@
 -- What the search of the marks knows after some blocks, and after some pages of the next one.
-use Rattle.flash.proofs.Kit.{_≡_, refl, sym, _∙_, _⊎_, inl, inr, ⊎-elim, _≢_, Bool, true, false, _&&_, _||_, not, List, none, ℕ, _+_, _-_, _*_, _≤_}
-use Rattle.flash.proofs.Kit.{_<_, arith, below-more, eqb, ltb, length, getD, eqb-true, eqb-false, ltb-true, lt-ltb, not-true, not-false}
+use Rattle.flash.proofs.Kit.{_≡_, refl, sym, _∙_, _⊎_, inl, inr, ⊎-elim, _≢_, Bool, true, false, _&&_, _||_, not, List, none, ℕ, _+_, _*_, _≤_}
+use Rattle.flash.proofs.Kit.{_<_, arith, below-more, eqb, leb, length, getD, eqb-true, eqb-false, leb-true, leb-false, not-true, not-false}
 use Rattle.flash.specs.declared.sizes.Sizes.{Sizes}
-use Rattle.flash.specs.Geometry.{isLetter, slot, letter}
-use Rattle.flash.specs.Chip.{erased, isMark, markAt, isFull, isUnfinished}
+use Rattle.flash.specs.Geometry.{slot, letter}
+use Rattle.flash.specs.Chip.{markAt, isFull, isUnfinished}
 use Rattle.flash.proofs.Bools.{never-both, or-cases, or-false-left, or-false-right}
 use Rattle.flash.proofs.Comparisons.{lt-cases}
-use Rattle.flash.proofs.Searches.{all-of}
 use Rattle.flash.proofs.Blocks.{mark-is, first-mark, full-at, full-same, full-of, not-full, unfinished-first}
-use Rattle.method.specs.Mend.{legalMarks, reading}
+use Rattle.method.specs.Mend.{reading}
 use Rattle.recovery.proofs.Reading.{FullOfOther, reads-none, torn-between, other-above}
 
 module _ (Z : Sizes) (marks : List ℕ) where
@@ -30,17 +29,6 @@ module _ (Z : Sizes) (marks : List ℕ) where
   pub data Block (b page x count₀ torn₀ : ℕ) : (count torn : ℕ) (whole : Bool) → Type 0 where
     unbroken : ((q : ℕ) → q < page → markAt marks (slot m b q) ≡ x) → (0 < page → x < 3) → Block b page x count₀ torn₀ count₀ torn₀ true
     opened : isUnfinished m marks b ≡ true → count₀ ≡ 0 → Block b page x count₀ torn₀ 1 b false
-
-  -- every mark below `t` is a mark
-  abbrev pub LegalBelow : ℕ → Type 0
-  LegalBelow t = (i : ℕ) → i < t → isMark (getD marks i 0) ≡ true
-
-  pub legal-more : (first page : ℕ) → LegalBelow (first + page) → isMark (getD marks (first + page) 0) ≡ true → LegalBelow (first + (page + 1))
-  legal-more first page L e i h = below-more _ (first + page) L e i (omega arith)
-
-  pub legal-all : LegalBelow (length marks) → legalMarks Z marks ≡ true
-  unfolding legalMarks
-  legal-all L = all-of isMark marks 0 L
 
   pub change-in : (b count torn upper change : ℕ) → Upto b count torn upper change → change ≤ n + 1
   change-in b count torn upper change U = ⊎-elim (λ (q : n < change). omega (arith, U .same q)) (λ (q : change ≤ n). omega arith) (lt-cases n change)
@@ -125,25 +113,9 @@ module _ (Z : Sizes) (pages : 0 < Z .m) (marks : List ℕ) where
       (λ w. unbroken (λ q h. absurd (omega (arith, w))) (λ h. absurd (omega (arith, w))))
       K
 
-  pub legal-known : (b x known : ℕ) → Known b x known → b * m + m ≤ length marks → LegalBelow Z marks (b * m) → LegalBelow Z marks (b * m + known)
-  unfolding isMark isLetter
-  legal-known b x known K fits L i h =
-      ⊎-elim
-      (λ (q : i < b * m). L i q)
-      (λ (q : b * m ≤ i).
-      ⊎-elim
-      (λ w.
-      let at : b * m + (i - b * m) ≡ i = omega arith in
-      let f = full-at m marks b x (i - b * m) (w .1) (omega (arith, w .2)) in
-      let e : getD marks i 0 ≡ x = sym (mark-is marks i (omega (arith, w .2))) ∙ (rw at at f) in
-      rw (e, lt-ltb x 3 (w .0)))
-      (λ w. absurd (omega (arith, w)))
-      K)
-      (lt-cases i (b * m))
-
   -- the test of a page: it shows that the block is unfinished
   abbrev pub differs : (mark x : ℕ) → Bool
-  differs mark x = not (eqb mark x) || eqb mark erased
+  differs mark x = not (eqb mark x) || leb 3 mark
 
   module _ (b page count₀ torn₀ : ℕ) (fits : b * m + m ≤ length marks) (h : page < m) where
     abbrev x : ℕ
@@ -158,26 +130,23 @@ module _ (Z : Sizes) (pages : 0 < Z .m) (marks : List ℕ) where
     unfinished-here : differs mark x ≡ true → isUnfinished m marks b ≡ true
     unfinished-here e =
         unfinished-first m marks b x pages (first-mark m marks b pages fits)
-        (λ l. not-full m marks b x page h (λ q. other l (sym mark-at ∙ q) (or-cases (not (eqb mark x)) (eqb mark erased) e)))
+        (λ l. not-full m marks b x page h (λ q. other l (sym mark-at ∙ q) (or-cases (not (eqb mark x)) (leb 3 mark) e)))
       where
-        other : x < 3 → mark ≡ x → (not (eqb mark x) ≡ true) ⊎ (eqb mark erased ≡ true) → ⊥
+        other : x < 3 → mark ≡ x → (not (eqb mark x) ≡ true) ⊎ (leb 3 mark ≡ true) → ⊥
         other l q (inl d) = eqb-false mark x (not-true (eqb mark x) d) q
-        other l q (inr d) = omega (arith, eqb-true mark erased d)
+        other l q (inr d) = omega (arith, leb-true 3 mark d)
 
     -- the block up to this page
     abbrev Upto-page : (count torn : ℕ) (whole : Bool) → Type 0
     Upto-page = Block Z marks b page x count₀ torn₀
 
-    pub page-same : {count torn : ℕ} {whole : Bool} → Upto-page count torn whole → isMark mark ≡ true → (whole && differs mark x) ≡ false
+    pub page-same : {count torn : ℕ} {whole : Bool} → Upto-page count torn whole → (whole && differs mark x) ≡ false
         → Block Z marks b (page + 1) x count₀ torn₀ count torn whole
-    unfolding isMark isLetter
-    page-same (unbroken f g) legal e =
-        let same : mark ≡ x = eqb-true mark x (not-false (eqb mark x) (or-false-left (not (eqb mark x)) (eqb mark erased) e)) in
-        unbroken (below-more _ page f (mark-at ∙ same)) (λ l. rw (← same) (⊎-elim
-        (λ (k : ltb mark 3 ≡ true). ltb-true mark 3 k)
-        (λ (k : eqb mark erased ≡ true). absurd (never-both k (or-false-right (not (eqb mark x)) (eqb mark erased) e)))
-        (or-cases (ltb mark 3) (eqb mark erased) legal)))
-    page-same (opened u z) legal e = opened u z
+    page-same (unbroken f g) e =
+        let same : mark ≡ x = eqb-true mark x (not-false (eqb mark x) (or-false-left (not (eqb mark x)) (leb 3 mark) e)) in
+        let low : mark < 3 = leb-false 3 mark (or-false-right (not (eqb mark x)) (leb 3 mark) e) in
+        unbroken (below-more _ page f (mark-at ∙ same)) (λ l. rw (← same) low)
+    page-same (opened u z) e = opened u z
 
     pub page-opens : {count torn : ℕ} {whole : Bool} → Upto-page count torn whole → (whole && differs mark x) ≡ true
         → (count₀ ≡ count) × (isUnfinished m marks b ≡ true)

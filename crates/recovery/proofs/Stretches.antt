@@ -1,18 +1,18 @@
 -- What the search of the marks knows of blocks that it looks at in one stretch: those below its start, and those above the change.
 use Rattle.flash.proofs.Kit.{_≡_, refl, sym, ap, _∙_, ⊎-elim, true, List, ℕ, _+_, _-_, _*_, _/_, _%_, _≤_, _<_, mul-le-mul-right, div-add-mod'}
 use Rattle.flash.proofs.Kit.{mod-lt, arith, div-lt-iff-lt-mul, le-div-iff-mul-le, eqb, length, getD, take, drop, length-take, length-drop, getD-take}
-use Rattle.flash.proofs.Kit.{getD-drop, eqb-true, eq-eqb, lt-ltb}
+use Rattle.flash.proofs.Kit.{getD-drop, eqb-true, eq-eqb}
 use Rattle.flash.specs.Lists.{all, range}
 use Rattle.flash.specs.declared.sizes.Sizes.{Sizes}
-use Rattle.flash.specs.Geometry.{isLetter, letter}
-use Rattle.flash.specs.Chip.{isMark, isFull}
+use Rattle.flash.specs.Geometry.{letter}
+use Rattle.flash.specs.Chip.{isFull}
 use Rattle.flash.proofs.Bools.{bool-eq}
 use Rattle.flash.proofs.Comparisons.{lt-cases}
 use Rattle.flash.proofs.Searches.{all-at, all-of}
 use Rattle.flash.proofs.Ranges.{all-in, all-is}
 use Rattle.flash.proofs.Parts.{part-fits}
 use Rattle.flash.proofs.Blocks.{mark-is, full-at, full-of}
-use Rattle.recovery.proofs.Search.{Upto, LegalBelow}
+use Rattle.recovery.proofs.Search.{Upto}
 
 module _ (m : ℕ) (marks : List ℕ) (pages : 0 < m) where
   -- a stretch of marks that are all one letter is blocks full of it
@@ -48,18 +48,6 @@ module _ (m : ℕ) (marks : List ℕ) (pages : 0 < m) where
 
 module _ (Z : Sizes) (pages : 0 < Z .m) (marks : List ℕ) where
   open Sizes Z using (n, m)
-
-  -- marks of blocks that are full of a letter are marks
-  pub legal-over : (x from to : ℕ) → x < 3 → to * m ≤ length marks → LegalBelow Z marks (from * m)
-      → ((j : ℕ) → from ≤ j → j < to → isFull m marks j x ≡ true) → LegalBelow Z marks (to * m)
-  unfolding isMark isLetter
-  legal-over x from to small fits L full i h = ⊎-elim
-      (λ (q : i < from * m). L i q)
-      (λ (q : from * m ≤ i).
-      let f = full-at m marks (i / m) x (i % m) (full (i / m) (le-div-iff-mul-le pages .1 q) (div-lt-iff-lt-mul pages .1 h)) (mod-lt i pages) in
-      let e : getD marks i 0 ≡ x = sym (mark-is marks i (omega arith)) ∙ (rw (div-add-mod' i m) at f) in
-      rw (e, lt-ltb x 3 small))
-      (lt-cases i (from * m))
 
   -- the blocks that the search passes over
   pub upto-passed : (torn start : ℕ) → start ≤ n + 1 → ((j : ℕ) → j < start → isFull m marks j (letter Z 1) ≡ true) → Upto Z marks start 0 torn

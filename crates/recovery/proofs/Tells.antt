@@ -4,7 +4,7 @@ use Rattle.flash.proofs.Kit.{_≤_, _<_, add-one, arith, eqb, ltb, eqb-true, eq
 use Rattle.flash.specs.Geometry.{letter}
 use Rattle.flash.specs.declared.sizes.Sizes.{Sizes}
 use Rattle.flash.proofs.Bools.{bool-cases, or-cases, or-false-left, or-false-right}
-use Rattle.method.specs.Mend.{Reading, legalMarks, reading}
+use Rattle.method.specs.Mend.{Reading, reading}
 use Rattle.method.specs.Answers.{MarksAnswer, marksAnswer}
 use Rattle.method.proofs.recovery.LinesAgree as lines
 use Rattle.method.proofs.recovery.LinesAgree.{Filled}
@@ -111,9 +111,9 @@ module _ (Z : Sizes) (pages : 0 < Z .m) (marks : List ℕ) where
         omega (arith, F .shape .inside, under-below Z pages marks i low high F n (omega arith) (U .below n (omega arith) far (λ q. absurd (omega arith)))))
 
     -- the answer to what was gathered is the reading
-    pub tells : legalMarks Z marks ≡ true → Tells (momentOf n isBackward count torn change)
+    pub tells : Tells (momentOf n isBackward count torn change)
     unfolding momentOf answerOf
-    tells legal =
+    tells =
         ⊎-elim
         (λ (z : eqb count 0 ≡ true).
         ⊎-elim
@@ -122,7 +122,7 @@ module _ (Z : Sizes) (pages : 0 < Z .m) (marks : List ℕ) where
         let low : change ≡ 0 → ⊥ = eqb-false change 0 (or-false-left (eqb change 0) (ltb n change) q) in
         let F = filled-lies (eqb-true count 0 z) (omega arith) (ltb-false n change (or-false-right (eqb change 0) (ltb n change) q)) in
         rw (z, q) (
-          reads-as (Full isBackward change) (sym (reads-full Z pages marks legal change isBackward F)),
+          reads-as (Full isBackward change) (sym (reads-full Z pages marks change isBackward F)),
           (F .low, filled-shape Z pages marks (cond isBackward 2 0) change F),
         ))
         (bool-cases (eqb change 0 || ltb n change)))
@@ -134,7 +134,7 @@ module _ (Z : Sizes) (pages : 0 < Z .m) (marks : List ℕ) where
         (λ (q : eqb (torn + 1) change ≡ true).
         let T = torn-lies one (eqb-true (torn + 1) change q) in
         rw (z, two, q) (
-          reads-as (Torn isBackward torn) (sym (reads-torn Z pages marks legal torn isBackward T)),
+          reads-as (Torn isBackward torn) (sym (reads-torn Z pages marks torn isBackward T)),
           rw (add-one torn) (torn-shape Z pages marks (cond isBackward 2 0) torn T),
         ))
         (λ (q : eqb (torn + 1) change ≡ false). rw (z, two, q) (tells-none (torn-astray one (eqb-false (torn + 1) change q))))

@@ -7,12 +7,11 @@ ghost use Prim.Native.Nat.{ℕ, _+_, _-_, _*_, _≤_, _<_};
 ghost use lib.ListN.{length};
 ghost use Rattle.flash.specs.Lists.{all, range};
 ghost use Rattle.flash.specs.Geometry.{slotCount};
-ghost use Rattle.flash.specs.Chip.{isMark, isFull};
+ghost use Rattle.flash.specs.Chip.{isFull};
 ghost use Rattle.method.specs.Mend.{reading};
 ghost use Rattle.method.specs.Answers.{marksAnswer};
 ghost use Rattle.recovery.specs.MarksRead.{answerOf};
 ghost use Rattle.recovery.specs.inner.Gathered.{momentOf, Shown};
-use flash::ERASED;
 use flash::LETTERS;
 use flash::block::is_full;
 use flash::bytes::is_filled;
@@ -27,13 +26,6 @@ pub enum MarksRead {
     Full { backward: bool, change: usize },
     // This block is unfinished. Those below it are full of s + 1, those above it of s, or of s + 2 in the backward pass.
     Torn { backward: bool, block: usize },
-}
-
-// Whether a mark is a letter or 255.
-pub fn is_mark(mark: u8) -> bool
-    ensures { λ r. ⌜ r ≡ isMark mark ⌝ }
-{
-    (mark < LETTERS) | (mark == ERASED)
 }
 
 // What the search has gathered tells: rules 5.3 to 5.6.
@@ -106,8 +98,9 @@ fn known_pages(marks: &[u8], m: usize, block: usize, letter: u8) -> usize
     }
 }
 
-// Reads the marks. Blocks that are full bear s + 1 below block `change`, and one other letter, `upper`, from there on. The search
-// ends at the second unfinished block, at anything else that fits no moment of the move, and where all the rest is full of `upper`.
+// Reads the marks; one that is no letter counts as 255. Blocks that are full bear s + 1 below block `change`, and one other letter,
+// `upper`, from there on. The search ends at the second unfinished block, at anything else that fits no moment of the move, and where
+// all the rest is full of `upper`.
 pub fn read_marks(sizes: Sizes, marks: &[u8]) -> MarksRead
     requires { ⌜ (sizes .n ≤ 64) × (0 < sizes .m) × (sizes .m ≤ 64) × (sizes .s < 3) ⌝ }
     requires { ⌜ length (now marks) ≡ slotCount sizes ⌝ }
@@ -127,10 +120,7 @@ pub fn read_marks(sizes: Sizes, marks: &[u8]) -> MarksRead
         let mut whole = true;
         for page in known_pages(marks, m, block, letter)..m {
             let mark = marks[first + page];
-            if !is_mark(mark) {
-                return MarksRead::NoMoment;
-            }
-            if whole & ((mark != letter) | (mark == ERASED)) {
+            if whole & ((mark != letter) | (LETTERS <= mark)) {
                 whole = false;
                 torn = block;
                 unfinished += 1;

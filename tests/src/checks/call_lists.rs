@@ -5,7 +5,7 @@ use super::trace::{all_moved, all_readable};
 use crate::random::Random;
 use crate::scene::Scene;
 use crate::simulator::calls::answer;
-use crate::simulator::cuts::{slots_at_risk, tear};
+use crate::simulator::cuts::{any_torn_mark, slots_at_risk, tear};
 use crate::simulator::refusals::refusal;
 use crate::simulator::request::{Call, Request};
 use crate::simulator::rules::Correct;
@@ -139,13 +139,16 @@ impl Story {
             self.erases_begun += 1;
             slots.retain(|_| !random.one_in(3));
         }
-        tear(&mut self.scene.flash, &slots, |before| {
-            match random.below(3) {
-                0 => vec![255; before.len()],
-                1 => before.to_vec(),
-                _ => random.bytes(before.len()),
-            }
-        });
+        for slot in slots {
+            let torn = (slot, any_torn_mark(random));
+            tear(&mut self.scene.flash, torn, |before| {
+                match random.below(3) {
+                    0 => vec![255; before.len()],
+                    1 => before.to_vec(),
+                    _ => random.bytes(before.len()),
+                }
+            });
+        }
     }
 
     fn recovery(&mut self, random: &mut Random) -> Outcome {

@@ -20,7 +20,8 @@ pub fn check(tally: &mut Tally) {
     tally.check("P7 n = 65", data_blocks_give(65, 1));
     tally.check("P7 n = 64", data_blocks_give(64, 0));
     tally.check("P8", last_place());
-    tally.check("P9", torn_erase());
+    tally.check("P9", torn_erase(255));
+    tally.check("P9 with a mark of 100", torn_erase(100));
     tally.check("P10", recovery_after_finish());
     tally.check("P11", no_budget());
     tally.check("pins", pins());
@@ -127,10 +128,10 @@ fn last_place() -> Outcome {
     same("at place 13", scene.run(13, 5).numbers, refused)
 }
 
-fn torn_erase() -> Outcome {
+fn torn_erase(mark: u8) -> Outcome {
     let mut scene = program_case();
     scene.run(0, 3);
-    tear(&mut scene.flash, &[2], |_| vec![0x5a]);
+    tear(&mut scene.flash, (2, mark), |_| vec![0x5a]);
     let read = answer(&scene.read_request(1));
     same(
         "read",

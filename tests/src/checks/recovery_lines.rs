@@ -66,8 +66,10 @@ fn marks_that_fit_not(letters: &Letters) -> Vec<Vec<u8>> {
         row(&[(1, coded), (1, rest), (2, moved)]),
         row(&[(1, coded), (1, 255), (1, rest), (1, moved)]),
         row(&[(1, 255), (2, coded), (1, rest)]),
-        row(&[(1, coded), (1, 254), (2, rest)]),
-        row(&[(1, coded), (1, 3), (2, moved)]),
+        row(&[(1, coded), (1, 254), (1, 100), (1, rest)]),
+        row(&[(1, coded), (1, 3), (1, 255), (1, moved)]),
+        row(&[(1, 3), (2, coded), (1, rest)]),
+        row(&[(1, 3), (1, 100), (1, 254), (1, rest)]),
         row(&[(1, 255), (1, 255), (2, rest)]),
         row(&[(1, rest), (1, 255), (2, rest)]),
     ]
@@ -81,7 +83,7 @@ fn row(groups: &[(usize, u8)]) -> Vec<u8> {
         .collect()
 }
 
-/// What the unfinished block holds does not matter, but an unknown mark does.
+/// What the unfinished block holds does not matter.
 fn any_unfinished(s: usize, marks: Vec<u8>, block: usize, place: usize) -> Outcome {
     let mut marks = marks;
     for pair in [
@@ -92,13 +94,13 @@ fn any_unfinished(s: usize, marks: Vec<u8>, block: usize, place: usize) -> Outco
         [0, 1],
         [1, 2],
         [2, 0],
+        [3, 255],
+        [0, 254],
+        [128, 1],
+        [3, 254],
     ] {
         marks[block * M..(block + 1) * M].copy_from_slice(&pair);
         mends(s, &marks, 0, place, 1).map_err(|why| format!("with {pair:?}: {why}"))?;
-    }
-    for pair in [[3, 255], [0, 254], [128, 1]] {
-        marks[block * M..(block + 1) * M].copy_from_slice(&pair);
-        mends(s, &marks, 6, 0, 0).map_err(|why| format!("with {pair:?}: {why}"))?;
     }
     Ok(())
 }

@@ -89,7 +89,12 @@ const CASES: &[Case] = &[
         .parts
         .marks[5] =
         255),
-    case!(6, MARK_CALLS, "a mark of 3", |r| r.parts.marks[1] = 3),
+    case!(5, &[Call::Run], "a mark of 3", |r| r.parts.marks[1] = 3),
+    case!(5, &[Call::Run], "a mark of 254", |r| r.parts.marks[1] = 254),
+    case!(6, MARK_CALLS, "a mark of 3 in a second block", |r| r
+        .parts
+        .marks[5] =
+        3),
     case!(6, MARK_CALLS, "another letter above", |r| r.parts.marks
         [2..4]
         .fill(2)),

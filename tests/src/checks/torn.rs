@@ -4,7 +4,7 @@ use super::tally::{ensure, same, Tally};
 use super::trace::{all_readable, trace};
 use crate::random::{all_permutations, Random};
 use crate::scene::{small_shapes, Scene};
-use crate::simulator::cuts::{tear, torn_choices};
+use crate::simulator::cuts::{any_torn_mark, tear, torn_choices, Torn};
 use crate::simulator::flash::Flash;
 use crate::simulator::sizes::Sizes;
 use crate::simulator::steps::{all_steps, Step};
@@ -37,13 +37,15 @@ enum Unknown {
 
 const UNKNOWN: [Unknown; 3] = [Unknown::AsBefore, Unknown::LooksBlank, Unknown::Nonsense];
 
-fn torn(flash: &Flash, slots: &[usize], unknown: Unknown, random: &mut Random) -> Flash {
+fn torn(flash: &Flash, pages: &[Torn], unknown: Unknown, random: &mut Random) -> Flash {
     let mut flash = flash.clone();
-    tear(&mut flash, slots, |before| match unknown {
-        Unknown::AsBefore => before.to_vec(),
-        Unknown::LooksBlank => vec![255; before.len()],
-        Unknown::Nonsense => random.bytes(before.len()),
-    });
+    for &page in pages {
+        tear(&mut flash, page, |before| match unknown {
+            Unknown::AsBefore => before.to_vec(),
+            Unknown::LooksBlank => vec![255; before.len()],
+            Unknown::Nonsense => random.bytes(before.len()),
+        });
+    }
     flash
 }
 
@@ -58,12 +60,12 @@ fn check_cuts(n: u32, m: u32, list: Vec<u16>, random: &mut Random) -> Outcome {
     let scene = Scene::at_rest(sizes, list, originals);
     let states = trace(&scene)?;
     for (place, step) in all_steps(&sizes).into_iter().enumerate() {
-        for slots in torn_choices(&states[place], step) {
+        for pages in torn_choices(&states[place], step, &[255, 254, 3]) {
             for unknown in UNKNOWN {
                 let mut cut = scene.clone();
-                cut.flash = torn(&states[place], &slots, unknown, random);
+                cut.flash = torn(&states[place], &pages, unknown, random);
                 check_cut(&cut, &states, random)
-                    .map_err(|why| format!("step {place}, slots {slots:?} {unknown:?}: {why}"))?;
+                    .map_err(|why| format!("step {place}, slots {pages:?} {unknown:?}: {why}"))?;
             }
         }
     }
@@ -103,9 +105,9 @@ fn cuts_of_recovery(cut: &Scene, random: &mut Random) -> Vec<Scene> {
     let Some(block) = unfinished else {
         return vec![];
     };
-    let choices = torn_choices(&cut.flash, Step::Erase { block });
-    let scene_with = |slots: Vec<usize>| Scene {
-        flash: torn(&cut.flash, &slots, *random.pick(&UNKNOWN), random),
+    let choices = torn_choices(&cut.flash, Step::Erase { block }, &[any_torn_mark(random)]);
+    let scene_with = |pages: Vec<Torn>| Scene {
+        flash: torn(&cut.flash, &pages, *random.pick(&UNKNOWN), random),
         ..cut.clone()
     };
     choices.into_iter().map(scene_with).collect()

@@ -68,7 +68,7 @@ impl Rules for TornOwnSplit {
             return;
         }
         let flash = flash_of(request);
-        let torn = |slot: &usize| flash.marks[*slot] == UNWRITTEN && !flash.is_blank(*slot);
+        let torn = |slot: &usize| !flash.is_whole(*slot) && !flash.is_blank(*slot);
         if (0..flash.sizes.slots()).filter(torn).count() > 2 {
             let mut own = request.clone();
             own.call = Call::Split;

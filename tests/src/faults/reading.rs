@@ -14,6 +14,7 @@ pub fn faults() -> Vec<Fault> {
         fault::<BackByTopAlone>("rule 2 forgets the blocks full of s"),
         fault::<BackByRestAlone>("rule 2 forgets where c(top) lies"),
         fault::<CountWithoutLast>("read does not count the last page"),
+        fault::<SumsHalfWritten>("read sums a page with a half-written mark"),
         fault::<ByBytes>("read copies a torn page that still holds the original"),
     ]
 }
@@ -53,6 +54,23 @@ impl Rules for CountWithoutLast {
     }
 }
 
+/// The page at its old place, where the mark still tells that one was there.
+struct SumsHalfWritten;
+
+impl Rules for SumsHalfWritten {
+    fn amend(request: &Request, given: &mut Answer) {
+        if request.call != Call::Read || given.numbers.returned != 0 {
+            return;
+        }
+        let flash = Flash::new(request.sizes, &request.parts.store, &request.parts.marks);
+        let slot = flash.sizes.slot_of(request.original as usize);
+        if !flash.is_whole(slot) && flash.marks[slot] != UNWRITTEN {
+            given.parts.work = flash.page(slot).to_vec();
+            given.numbers.count = 1;
+        }
+    }
+}
+
 /// The page is right, but other pages are summed than under the same marks
 /// with other bytes.
 struct ByBytes;
@@ -70,7 +88,7 @@ impl Rules for ByBytes {
             moves.destination_slot(original),
         ];
         let still_there =
-            |&slot: &usize| flash.marks[slot] == UNWRITTEN && flash.page(slot) == given.parts.work;
+            |&slot: &usize| !flash.is_whole(slot) && flash.page(slot) == given.parts.work;
         if slots.iter().any(still_there) {
             given.numbers.count = 1;
         }

@@ -15,7 +15,14 @@ pub fn faults() -> Vec<Fault> {
         fault::<PlaceOffByOne>("mend's place is one too high"),
         fault::<PlaceBeforeErase>("mend reports the place and leaves the block"),
         fault::<SecondMove>("mend gives place 0 after the finish"),
-        fault::<OddMarks>("a mark of 3 in an unfinished block is taken"),
+        fault::<HalfWritten<3, 254>>("mend and read refuse half-written marks"),
+        fault::<HalfWritten<3, 253>>("of the half-written marks 254 alone is taken"),
+        fault::<HalfWritten<4, 254>>("of the half-written marks 3 alone is taken"),
+        fault::<OneTakenForFull>("a block of letters and one half-written mark counts as full"),
+        fault::<SecondUnseen>(
+            "a second unfinished block is not noticed if its marks are half-written",
+        ),
+        fault::<ThirdUnseen>("three unfinished blocks are taken for one"),
         fault::<AllCoded>("all blocks full of s + 1 are taken for a moment"),
         fault::<JudgesUnfinished>("what an unfinished block holds is judged"),
         fault::<ConstantPlace>("mend always gives the same place"),
@@ -96,15 +103,79 @@ impl Rules for SecondMove {
     }
 }
 
-struct OddMarks;
+/// Marks from `LOW` to `HIGH` fit no moment.
+struct HalfWritten<const LOW: u8, const HIGH: u8>;
 
-impl Rules for OddMarks {
+impl<const LOW: u8, const HIGH: u8> Rules for HalfWritten<LOW, HIGH> {
     fn recovery(flash: &Flash) -> Option<Recovery> {
-        let mut flash = flash.clone();
-        for mark in flash.marks.iter_mut().filter(|mark| **mark == 3) {
-            *mark = UNWRITTEN;
+        let refused = |mark: &u8| (LOW..=HIGH).contains(mark);
+        find(flash).filter(|_| !flash.marks.iter().any(refused))
+    }
+}
+
+struct OneTakenForFull;
+
+impl Rules for OneTakenForFull {
+    fn recovery(flash: &Flash) -> Option<Recovery> {
+        let mut seen = flash.clone();
+        for block in seen.marks.chunks_mut(flash.sizes.pages()) {
+            let odd = block.iter().filter(|&&mark| half_written(mark)).count();
+            let letter = block.iter().copied().find(|&mark| mark <= 2);
+            if let (1, Some(letter)) = (odd, letter) {
+                block
+                    .iter_mut()
+                    .filter(|mark| half_written(**mark))
+                    .for_each(|mark| *mark = letter);
+            }
         }
-        find(&flash)
+        find(&seen)
+    }
+}
+
+fn half_written(mark: u8) -> bool {
+    mark > 2 && mark != UNWRITTEN
+}
+
+/// The marks with these blocks as full as the last block of all.
+fn filled(flash: &Flash, blocks: &[usize]) -> Flash {
+    let mut seen = flash.clone();
+    let last = flash.marks[flash.marks.len() - 1];
+    for &block in blocks {
+        seen.marks[flash.block_slots(block)].fill(last);
+    }
+    seen
+}
+
+fn unfinished(flash: &Flash) -> Vec<usize> {
+    let blocks = 0..=flash.sizes.data_blocks();
+    blocks.filter(|&block| flash.unfinished(block)).collect()
+}
+
+struct SecondUnseen;
+
+impl Rules for SecondUnseen {
+    fn recovery(flash: &Flash) -> Option<Recovery> {
+        let mut odd = unfinished(flash);
+        odd.retain(|&block| {
+            flash.marks[flash.block_slots(block)]
+                .iter()
+                .all(|&mark| half_written(mark))
+        });
+        match (unfinished(flash).len(), &odd[..]) {
+            (2, &[block]) => find(&filled(flash, &[block])),
+            _ => find(flash),
+        }
+    }
+}
+
+struct ThirdUnseen;
+
+impl Rules for ThirdUnseen {
+    fn recovery(flash: &Flash) -> Option<Recovery> {
+        match unfinished(flash)[..] {
+            [_, second, third] => find(&filled(flash, &[second, third])),
+            _ => find(flash),
+        }
     }
 }
 

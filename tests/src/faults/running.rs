@@ -13,6 +13,7 @@ pub fn faults() -> Vec<Fault> {
         fault::<CodedAlone>("a coded page lacks D(pred)"),
         fault::<BlankByBytes>("blank is judged by the bytes alone"),
         fault::<BlankByMark>("blank is judged by the mark alone"),
+        fault::<HalfWrittenBlank>("run takes a half-written mark for 255"),
         fault::<StopsEarly>("a run stops one step early"),
         fault::<BudgetWraps>("place and budget run over 32 bits"),
         fault::<StepsAreBudget>("steps are the budget given"),
@@ -58,6 +59,17 @@ struct BlankByMark;
 impl Rules for BlankByMark {
     fn page_fits(flash: &Flash, slot: usize, due: u8) -> bool {
         flash.marks[slot] == due
+    }
+}
+
+struct HalfWrittenBlank;
+
+impl Rules for HalfWrittenBlank {
+    fn page_fits(flash: &Flash, slot: usize, due: u8) -> bool {
+        match due {
+            UNWRITTEN => !flash.is_whole(slot) && flash.all_bytes_255(slot),
+            letter => flash.marks[slot] == letter,
+        }
     }
 }
 

@@ -47,16 +47,17 @@ impl<'a, 'b> Player<'a, 'b> {
         let answer = self.event(&request)?;
         let key = (scene.flash.marks.clone(), k);
         if !self.summed.contains_key(&key) {
-            let slots = self.slots_summed(scene, k)?;
             let count = answer.numbers.count;
-            self.summed.insert(key.clone(), Summed { count, slots });
+            let shown = self.slots_summed(scene, k)?;
+            let summed = shown.unwrap_or(Summed { count, slots: None });
+            self.summed.insert(key.clone(), summed);
         }
         right_read(scene, k, &answer, &self.summed[&key]).map_err(|why| broken(&request, why))
     }
 
     /// Lays a bit of its own in the page of each slot, under the same marks:
     /// the page read then shows which slots were summed.
-    fn slots_summed(&mut self, scene: &Scene, k: usize) -> Played<Option<Vec<usize>>> {
+    fn slots_summed(&mut self, scene: &Scene, k: usize) -> Played<Option<Summed>> {
         let (slots, bytes) = (scene.sizes.slots(), scene.sizes.bytes());
         if slots > 8 * bytes {
             return Ok(None);
@@ -66,8 +67,12 @@ impl<'a, 'b> Player<'a, 'b> {
         for slot in 0..slots {
             request.parts.store[slot * bytes + slot / 8] = 1 << (slot % 8);
         }
-        let page = self.comparer.compare(&request)?.parts.work;
+        let answer = self.comparer.compare(&request)?;
+        let page = answer.parts.work;
         let shown = |slot: &usize| page[slot / 8] >> (slot % 8) & 1 == 1;
-        Ok(Some((0..slots).filter(shown).collect()))
+        Ok(Some(Summed {
+            count: answer.numbers.count,
+            slots: Some((0..slots).filter(shown).collect()),
+        }))
     }
 }

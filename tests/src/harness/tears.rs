@@ -1,7 +1,7 @@
 //! The torn pages that a cut inside a step leaves.
 
 use crate::random::Random;
-use crate::simulator::cuts::{slots_at_risk, tear};
+use crate::simulator::cuts::{any_torn_mark, slots_at_risk, tear, Torn};
 use crate::simulator::flash::Flash;
 use crate::simulator::steps::Step;
 
@@ -34,17 +34,17 @@ impl Unknown {
     }
 }
 
-/// A step begun and cut inside: the slots it tore.
+/// A step begun and cut inside: the slots it tore, and what it left there.
 #[derive(Clone, Debug)]
 pub struct Begun {
     pub step: Step,
-    pub torn: Vec<(usize, Unknown)>,
+    pub torn: Vec<(Torn, Unknown)>,
 }
 
 impl Begun {
     pub fn tear(&self, flash: &mut Flash) {
-        for &(slot, unknown) in &self.torn {
-            tear(flash, &[slot], |before| unknown.bytes(before));
+        for &(torn, unknown) in &self.torn {
+            tear(flash, torn, |before| unknown.bytes(before));
         }
     }
 
@@ -61,8 +61,8 @@ impl Begun {
                 _ => {}
             }
         }
-        let torn = slots.into_iter().map(|slot| (slot, Unknown::any(random)));
-        let torn = torn.collect();
+        let left = |slot| ((slot, any_torn_mark(random)), Unknown::any(random));
+        let torn = slots.into_iter().map(left).collect();
         Begun { step, torn }
     }
 }

@@ -1,7 +1,6 @@
 //! Recovery: the place that the marks show after a cut.
 
 use super::flash::Flash;
-use super::sizes::UNWRITTEN;
 
 #[derive(Clone, Debug, PartialEq)]
 pub struct Recovery {
@@ -10,12 +9,9 @@ pub struct Recovery {
     pub erase: Option<usize>,
 }
 
-/// The moment of the move that the marks show, if they fit one.
+/// The moment of the move that the marks show, if they fit one. A mark that
+/// is no letter counts as not written, whichever it is.
 pub fn find(flash: &Flash) -> Option<Recovery> {
-    let known = |mark: u8| mark <= 2 || mark == UNWRITTEN;
-    if !flash.marks.iter().all(|&mark| known(mark)) {
-        return None;
-    }
     let blocks = 0..=flash.sizes.data_blocks();
     let unfinished: Vec<usize> = blocks.filter(|&b| flash.unfinished(b)).collect();
     match unfinished[..] {

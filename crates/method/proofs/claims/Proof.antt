@@ -5,6 +5,7 @@ use Rattle.method.proofs.places.PlacesDiffer.{places-differ}
 use Rattle.method.proofs.places.ErasesCounted.{erases-counted}
 use Rattle.method.proofs.places.PagesRise.{pages-rise}
 use Rattle.method.proofs.walks.WalksEnd.{top-is-highest, walks-end}
+use Rattle.method.proofs.recovery.OldCuts.{old-cuts, one-unfinished}
 use Rattle.method.proofs.recovery.LinesAgree.{lines-agree}
 use Rattle.method.proofs.recovery.ErasesNext.{erases-next}
 use Rattle.method.proofs.refusals.FirstReturned.{first-by-all}
@@ -18,7 +19,7 @@ use Rattle.method.proofs.claims.Statement.{statement}
 use Rattle.method.proofs.claims.Tie as tie
 
 returns : tie.Need-returns
-returns c = record { cases = cases-hold; runs = runs-add-up; states = states-reached; counts = runs-count; steps = steps-counted; places = places-differ; erases = erases-counted; pages = pages-rise; tops = top-is-highest; walks = walks-end; lines = lines-agree; erases-next = erases-next; first = first-by-all; demand-3 = demand-3; pins = pins-stay; bounds = bounds-met; example = example-holds; two-pages = two-pages-hold }
+returns c = record { cases = cases-hold; runs = runs-add-up; states = states-reached; counts = runs-count; steps = steps-counted; places = places-differ; erases = erases-counted; pages = pages-rise; tops = top-is-highest; walks = walks-end; old-cuts = old-cuts; one-unfinished = one-unfinished; lines = lines-agree; erases-next = erases-next; first = first-by-all; demand-3 = demand-3; pins = pins-stay; bounds = bounds-met; example = example-holds; two-pages = two-pages-hold }
 
 pub claims-spec : {M : Type 1} → statement M
 claims-spec = tie.close (tie.spec returns)

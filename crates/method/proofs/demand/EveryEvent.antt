@@ -21,6 +21,7 @@ use Rattle.method.specs.Events.{Call, run, mend, read, CutPoint, Event, 
 use Rattle.method.specs.Demand3.{CutObeys, Allowed, AllAllowed, Keeps, AtEach, Demand3}
 use Rattle.method.proofs.states.RunsAddUp.{run-answer, start-accepted, start-stands, start-holds, start-full}
 use Rattle.method.proofs.places.Turns.{resumes-begun}
+use Rattle.method.proofs.recovery.MarksSeen.{slots-seen, page-seen}
 use Rattle.method.proofs.recovery.Moments.{Moment, stands-moment}
 use Rattle.method.proofs.demand.KeptByHistories.{within, Kept, keeps}
 use Rattle.method.proofs.demand.CallsWithoutSteps.{EventKept, idle}
@@ -150,7 +151,7 @@ read-answer : (R : Request) (chip : Chip) (work : List ℕ) (k : ℕ) → readAn
     → readAnswer R chip work k ≡ readGives (length (readSlots (move R) (chip .marks) k)) (readPage (move R) chip k)
 unfolding readAnswer
 read-answer R chip work k e = ⊎-elim
-    (λ (q : eqb (refusal (readRows R chip work k)) 0 ≡ true). rw q)
+    (λ (q : eqb (refusal (readRows R chip work k)) 0 ≡ true). rw (q, slots-seen (chip .marks) (move R) k, page-seen (move R) chip k))
     (λ (q : eqb (refusal (readRows R chip work k)) 0 ≡ false). absurd (eqb-false _ 0 q (rw q at e)))
     (bool-cases (eqb (refusal (readRows R chip work k)) 0))
 

@@ -26,6 +26,7 @@ use Rattle.method.proofs.walks.ReadsOriginals.{reads}
 use Rattle.method.proofs.states.StatesOfPlaces.{is-state}
 use Rattle.method.proofs.states.RunsAddUp.{run-answer, start-accepted, start-pins, start-full, start-page}
 use Rattle.method.proofs.places.Turns.{turn, turn-high, turn-erases}
+use Rattle.method.proofs.recovery.MarksSeen.{slots-seen, page-seen}
 use Rattle.method.proofs.recovery.Moments.{Moment, moment-shape, finished-page}
 use Rattle.method.proofs.recovery.MendFinds.{moment-fits}
 use Rattle.method.proofs.recovery.MendAnswers.{recovers}
@@ -98,7 +99,7 @@ module _ (R : Request) (chip₀ : Chip) (S : Start R chip₀) where
           stored = λ i l. D .sited i l .inside;
           whole = λ i l. D .sited i l .whole;
           total = total;
-          read-gives = λ work l. rw (read-taken work l k k-in, total);
+          read-gives = λ work l. rw (read-taken work l k k-in, page-seen M chip k, slots-seen (chip .marks) M k, total);
         }
 
     few-erases : count isErase (h .begun) ≤ 2 * W .n + h .mends

@@ -25,7 +25,7 @@ module _ (Z : Sizes) (before after : Chip) (t : ℕ) where
       let same = both (eqb (markAt (after .marks) t) (markAt (before .marks) t)) _ e in
       record { mark = eqb-true _ _ (same .0); page = same-eq _ _ (same .1) }
 
-  touched : (op : Operation) → isTouched op ≡ true → Touched Z op before after t
+  touched : (op : Operation) → isTouched op ≡ true → Touched isTornMark Z op before after t
   unfolding isTouched
   touched (write pass block page) e = record { mark = e }
   touched (erase block) e = ⊎-elim (λ torn. inr (record { mark = torn })) (λ same. inl (kept same)) (or-cases _ _ e)

@@ -34,9 +34,9 @@ module _ (Z : Sizes) where
   mark-above backward = refl
 
   module _ (place : ℕ) (in-move : place ≤ lastPlace Z) (marks : List ℕ) where
-    -- While a block is being filled: one page marked 255 keeps it from being full, whatever the others are.
+    -- While a block is being filled: one page without a letter keeps it from being full, whatever the others are.
     pub shape-around : ((b q : ℕ) → b ≢ filling Z place → b ≤ n → q < m → markAt marks (slot m b q) ≡ heldMark Z (heldAt Z place b q))
-        → (q : ℕ) → q < m → markAt marks (slot m (filling Z place) q) ≡ erased → Shape Z marks (filling Z place) (suc (filling Z place)) (letterAbove (passAt Z place))
+        → (q : ℕ) → q < m → 3 ≤ markAt marks (slot m (filling Z place) q) → Shape Z marks (filling Z place) (suc (filling Z place)) (letterAbove (passAt Z place))
     unfolding heldMark letter
     shape-around others q k hole =
         let inside = filling-in Z place in-move in
@@ -56,8 +56,10 @@ module _ (Z : Sizes) where
       pub shape-filling : filled Z place < m → Shape Z marks (filling Z place) (suc (filling Z place)) (letterAbove (passAt Z place))
       unfolding heldMark
       shape-filling k =
-          shape-around (λ b q apart. A .mark-is b q) (filled Z place) k
-          (A .mark-is (filling Z place) (filled Z place) (filling-in Z place in-move) k ∙ ap (heldMark Z) (held-blank Z place (filling Z place) (filled Z place) refl (omega arith)))
+          let hole : markAt marks (slot m (filling Z place) (filled Z place)) ≡ erased =
+          A .mark-is (filling Z place) (filled Z place) (filling-in Z place in-move) k
+          ∙ ap (heldMark Z) (held-blank Z place (filling Z place) (filled Z place) refl (omega arith)) in
+          shape-around (λ b q apart. A .mark-is b q) (filled Z place) k (omega (arith, hole))
 
       -- when it is full
       pub shape-full : filled Z place ≡ m → Shape Z marks (edge (passAt Z place) (filling Z place)) (edge (passAt Z place) (filling Z place)) (letterAbove (passAt Z place))

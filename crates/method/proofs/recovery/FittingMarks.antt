@@ -1,14 +1,15 @@
 -- Marks that mend reads have a shape.
-use Rattle.flash.proofs.Kit.{_≡_, refl, ⊎-elim, true, false, none, some, List, [], _∷_, List·Memᴰ, List·Memᴰ·head, List·Memᴰ·tail, ℕ, suc, _<_, arith}
+use Rattle.flash.proofs.Kit.{_≡_, refl, sym, _∙_, ⊎-elim, true, false, some, List, [], _∷_, List·Memᴰ, List·Memᴰ·head, List·Memᴰ·tail, ℕ, suc, _<_, arith}
 use Rattle.flash.specs.Geometry.{letter}
 use Rattle.flash.specs.Tables.{Row, firstFit}
 use Rattle.flash.specs.declared.sizes.Sizes.{Sizes}
 use Rattle.flash.proofs.Bools.{bool-cases}
 use Rattle.flash.proofs.Blocks.{unfinished-at}
 use Rattle.method.specs.Place.{forward, backward}
-use Rattle.method.specs.Mend.{Reading, lines, legalMarks, reading}
+use Rattle.method.specs.Mend.{Reading, lines, reading}
 use Rattle.method.specs.inner.Shape.{Shape}
 use Rattle.method.proofs.places.PlaceShape.{Shaped}
+use Rattle.method.proofs.recovery.MarksSeen.{reading-is}
 use Rattle.method.proofs.recovery.LinesAgree.{Torn, Filled, Fit, torn-forth, torn-back, full-forth, full-back, fit}
 
 -- the row that is found fits
@@ -48,13 +49,9 @@ module _ (Z : Sizes) (pages : 0 < Z .m) (marks : List ℕ) where
 
   -- what mend reads is told by a row that fits
   pub read-row : (found : Reading) → reading Z marks ≡ some found → (row : Row Reading) × Fit Z pages marks row × (row .gives ≡ found)
-  unfolding reading
-  read-row found e = ⊎-elim
-      (λ (l : legalMarks Z marks ≡ true).
-      let r = first-fit (lines Z marks) found (rw l at e) in
-      (r .0, fit Z pages marks (r .0) (r .1) (r .2), r .3))
-      (λ (l : legalMarks Z marks ≡ false). (let q : none ≡ some found = rw l at e in let z : _≡_ {A = ℕ} 0 1 = cc in absurd (omega arith)))
-      (bool-cases (legalMarks Z marks))
+  read-row found e =
+      let r = first-fit (lines Z marks) found (sym (reading-is marks Z) ∙ e) in
+      (r .0, fit Z pages marks (r .0) (r .1) (r .2), r .3)
 
   shaped-row : (row : Row Reading) → Fit Z pages marks row → Shaped Z marks
   shaped-row row (torn-forth b T e) = record { low = b; high = suc b; pass = forward; shape = torn-shape 0 b T }

@@ -1,10 +1,10 @@
--- A chip fades where pages lose their marks and nothing else happens: so do cuts and erases. What whole pages hold stays true.
+-- A chip fades where pages lose their letters and nothing else happens: so do cuts and erases. What whole pages hold stays true.
 use Rattle.flash.proofs.Kit.{_≡_, refl, sym, _∙_, _⊎_, inl, inr, ⊎-elim, true, false, List, ℕ, _+_, _*_, _≤_, _<_, arith, length}
-use Rattle.flash.proofs.Kit.{List·getD-eq-default, eqb-true, eq-eqb}
+use Rattle.flash.proofs.Kit.{List·getD-eq-default, leb, leb-true}
 use Rattle.flash.specs.declared.sizes.Sizes.{Sizes}
 use Rattle.flash.specs.Geometry.{slotCount, storeLength, marksLength, letter}
 use Rattle.flash.specs.Chip.{Chip, erased, pageAt, markAt, eraseBlock}
-use Rattle.flash.proofs.Bools.{bool-cases}
+use Rattle.flash.proofs.Bools.{bool-cases, both}
 use Rattle.flash.proofs.Comparisons.{lt-cases}
 use Rattle.flash.proofs.Bounds.{block-in-marks, block-in-store}
 use Rattle.flash.proofs.Chips.{erase-marks-length, erase-mark, erase-page-other, erase-mark-other}
@@ -17,19 +17,19 @@ use Rattle.method.proofs.basics.MoveShape.{Holding}
 module _ (Z : Sizes) where
   open Sizes Z using (n, m, p as P)
 
-  pub torn-mark : (chip : Chip) (t : ℕ) → Torn Z chip t → markAt (chip .marks) t ≡ erased
+  pub torn-mark : (chip : Chip) (t : ℕ) → Torn isTornMark Z chip t → 3 ≤ markAt (chip .marks) t
   unfolding isTornMark
-  torn-mark chip t T = eqb-true (markAt (chip .marks) t) erased (T .mark)
+  torn-mark chip t T = leb-true 3 _ (both (leb 3 (markAt (chip .marks) t)) _ (T .mark) .0)
 
-  pub torn-of : (chip : Chip) (t : ℕ) → markAt (chip .marks) t ≡ erased → Torn Z chip t
+  pub torn-of : (chip : Chip) (t : ℕ) → markAt (chip .marks) t ≡ erased → Torn isTornMark Z chip t
   unfolding isTornMark
-  torn-of chip t e = record { mark = eq-eqb (markAt (chip .marks) t) erased e }
+  torn-of chip t e = record { mark = rw e }
 
   pub record Fades (before after : Chip) : Type 0 where
-    pub slot : (t : ℕ) → Kept Z before after t ⊎ Torn Z after t
+    pub slot : (t : ℕ) → Kept Z before after t ⊎ Torn isTornMark Z after t
 
   -- marks are read as 255 where there are none, so only the slots that there are count
-  fades-of : (before after : Chip) → length (after .marks) ≡ marksLength Z → ((t : ℕ) → t < slotCount Z → Kept Z before after t ⊎ Torn Z after t) → Fades before after
+  fades-of : (before after : Chip) → length (after .marks) ≡ marksLength Z → ((t : ℕ) → t < slotCount Z → Kept Z before after t ⊎ Torn isTornMark Z after t) → Fades before after
   unfolding markAt
   fades-of before after size f = record {
     slot = λ t. ⊎-elim (f t) (λ l. inr (torn-of after t (List·getD-eq-default (after .marks) erased (rw size l)))) (lt-cases t (slotCount Z));
@@ -39,7 +39,7 @@ module _ (Z : Sizes) where
   fades-refl chip = record { slot = λ t. inl (record { mark = refl; page = refl }) }
 
   -- a cut inside any operation
-  touched-fades : (operation : Operation) (before after : Chip) (t : ℕ) → Touched Z operation before after t → Kept Z before after t ⊎ Torn Z after t
+  touched-fades : (operation : Operation) (before after : Chip) (t : ℕ) → Touched isTornMark Z operation before after t → Kept Z before after t ⊎ Torn isTornMark Z after t
   touched-fades (write pass block page) before after t x = inr x
   touched-fades (erase block) before after t x = x
   touched-fades done before after t x = inl x
@@ -59,9 +59,9 @@ module _ (Z : Sizes) where
       let store-fits : block * (m * P) + m * P ≤ length (chip .store) = rw store-length (block-in-store Z block h) in
       let marks-fit : block * m + m ≤ length (chip .marks) = rw marks-length (block-in-marks Z block h) in
       fades-of chip (eraseBlock m P block chip) (erase-marks-length m P block chip store-fits marks-fit ∙ marks-length)
-      (each-slot m (n + 1) (λ t. Kept Z chip (eraseBlock m P block chip) t ⊎ Torn Z (eraseBlock m P block chip) t)
+      (each-slot m (n + 1) (λ t. Kept Z chip (eraseBlock m P block chip) t ⊎ Torn isTornMark Z (eraseBlock m P block chip) t)
       (λ b q l k.
-      this-or-other (λ x. Kept Z chip (eraseBlock m P block chip) (x * m + q) ⊎ Torn Z (eraseBlock m P block chip) (x * m + q)) block b
+      this-or-other (λ x. Kept Z chip (eraseBlock m P block chip) (x * m + q) ⊎ Torn isTornMark Z (eraseBlock m P block chip) (x * m + q)) block b
       (inr (torn-of (eraseBlock m P block chip) (block * m + q) (erase-mark m P block chip store-fits marks-fit q k)))
       (λ apart.
       inl
@@ -74,7 +74,7 @@ module _ (Z : Sizes) where
   pub letter-kept : (before after : Chip) → Fades before after → (i t : ℕ) → markAt (after .marks) t ≡ letter Z i → Kept Z before after t
   unfolding letter
   letter-kept before after F i t e =
-      ⊎-elim (λ (k : Kept Z before after t). k) (λ (T : Torn Z after t). absurd (omega (arith, torn-mark after t T))) (F .slot t)
+      ⊎-elim (λ (k : Kept Z before after t). k) (λ (T : Torn isTornMark Z after t). absurd (omega (arith, torn-mark after t T))) (F .slot t)
 
 -- what a page holds goes by its letter
 pub holding-fades : (M : Move) (originals : List ℕ) (before after : Chip) → Holding M originals before → Fades (M .sizes) before after → Holding M originals after

@@ -3,20 +3,21 @@ use Rattle.flash.proofs.Kit.{_≡_, refl, sym, ap, _∙_, subst, _≢_, ⊎-eli
 use Rattle.flash.proofs.Kit.{List·Memᴰ·head, List·Memᴰ·tail, List·Memᴰ·not-nil, List·Memᴰ·cases-cons, Memᴰ·append-left, Memᴰ·append-right, ℕ, zero}
 use Rattle.flash.proofs.Kit.{suc, _+_, _-_, _*_, _≤_, _<_, arith}
 use Rattle.flash.specs.Geometry.{Bounds, letter}
-use Rattle.flash.specs.Lists.{range, all}
+use Rattle.flash.specs.Lists.{range}
 use Rattle.flash.specs.Tables.{Row, firstFit}
 use Rattle.flash.specs.declared.sizes.Sizes.{Sizes}
-use Rattle.flash.specs.Chip.{isMark, isFull, isUnfinished}
+use Rattle.flash.specs.Chip.{isFull, isUnfinished}
 use Rattle.flash.proofs.Bools.{bool-cases, never-both}
 use Rattle.flash.proofs.Comparisons.{eq-cases}
 use Rattle.flash.proofs.Ranges.{all-is}
 use Rattle.flash.proofs.Blocks.{unfinished-of}
 use Rattle.flash.proofs.Bounds.{range-in}
 use Rattle.method.specs.Place.{Pass, forward, backward, lastPlace, passAt, filling, filled}
-use Rattle.method.specs.Mend.{Reading, fullFrom, forwardTorn, backwardTorn, forwardFull, backwardFull, lines, legalMarks, reading}
+use Rattle.method.specs.Mend.{Reading, fullFrom, forwardTorn, backwardTorn, forwardFull, backwardFull, lines, reading}
 use Rattle.method.specs.Answers.{marksAnswer, fitsNone}
 use Rattle.method.specs.Claims.{LinesAgree}
 use Rattle.method.specs.inner.Shape.{Shape}
+use Rattle.method.proofs.recovery.MarksSeen.{reading-is}
 use Rattle.method.proofs.recovery.LinesAgree.{lines-agree}
 use Rattle.method.proofs.places.StepsAtPlaces.{turnOf, located, filled-early, backward-low}
 use Rattle.method.proofs.places.PagesHeld.{edge, MarksAt}
@@ -67,13 +68,13 @@ module _ (Z : Sizes) (marks : List ℕ) where
   full-test : (i at : ℕ) → Shape Z marks at at i → (fullFrom Z marks 1 0 at && fullFrom Z marks i at (n + 1 - at)) ≡ true
   full-test i at S = rw (full-from 1 0 at (λ c h k. S .below c (omega arith)), full-from i at (n + 1 - at) (λ c h k. S .above c h (omega arith)))
 
-  module _ (B : Bounds Z) (legal : all isMark marks ≡ true) where
+  module _ (B : Bounds Z) where
     -- a line that fits is what mend reads
     reads : (row : Row Reading) → List·Memᴰ row (lines Z marks) → row .fits ≡ true → reading Z marks ≡ some (row .gives)
-    unfolding reading legalMarks LinesAgree
+    unfolding LinesAgree
     reads row inside fits =
-        rw legal
-        (firstFit-any (lines Z marks) row inside fits (λ other o f. lines-agree Z (range-in Z B) marks other row o inside f fits))
+        reading-is marks Z
+        ∙ firstFit-any (lines Z marks) row inside fits (λ other o f. lines-agree Z (range-in Z B) marks other row o inside f fits)
 
     -- a block that a pass is filling, and one that it has filled
     reads-torn : (pass : Pass) (b : ℕ) → Shape Z marks b (suc b) (letterAbove pass) → reading Z marks ≡ some (record { place = turnOf Z pass b * (m + 1); toErase = some b })
@@ -130,13 +131,13 @@ module _ (Z : Sizes) (B : Bounds Z) where
         go (unfinished z q k hole) =
             let S = shape-around Z place (M .in-move) marks (M .others) q k hole in
             let at : turnOf Z pass b * (m + 1) ≡ place = omega (arith, number) in
-            torn z S (reads-torn Z marks B (M .legal) pass b S ∙ ap (λ (p : ℕ). some (record { place = p; toErase = some b })) at)
+            torn z S (reads-torn Z marks B pass b S ∙ ap (λ (p : ℕ). some (record { place = p; toErase = some b })) at)
         go (whole k f) =
             let A = moment-marks Z marks place M f in
             let S = shape-full Z place (M .in-move) marks A k in
             let low = edge-low place (filled-early Z place (M .in-move) (omega (arith, B .m-low))) pass refl in
             let at : turnOf Z pass b * (m + 1) + m ≡ place = omega (arith, number) in
-            full k A (reads-full Z marks B (M .legal) pass b low S ∙ ap (λ (p : ℕ). some (record { place = p; toErase = none })) at)
+            full k A (reads-full Z marks B pass b low S ∙ ap (λ (p : ℕ). some (record { place = p; toErase = none })) at)
 
     finds-place : (place : ℕ) → Finds Z marks place → placeRead (reading Z marks) ≡ place
     unfolding placeRead

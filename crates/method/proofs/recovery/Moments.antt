@@ -1,15 +1,14 @@
 -- Moments of a move: the marks that places have, and those that cuts leave. A moment goes by the place where the move goes on after
 -- a mend, which the marks tell (Recovery).
-use Rattle.flash.proofs.Kit.{_≡_, refl, sym, ap, _∙_, subst, _≢_, ⊎-elim, true, List, ℕ, _+_, _*_, _≤_, _<_, div-add-mod', mod-lt, arith, length}
-use Rattle.flash.proofs.Kit.{getD, lt-ltb}
-use Rattle.flash.specs.Lists.{all, part}
+use Rattle.flash.proofs.Kit.{_≡_, refl, sym, ap, _∙_, subst, _≢_, ⊎-elim, List, ℕ, _+_, _*_, _≤_, _<_, div-add-mod', mod-lt, arith, length}
+use Rattle.flash.proofs.Kit.{getD}
+use Rattle.flash.specs.Lists.{part}
 use Rattle.flash.specs.declared.sizes.Sizes.{Sizes}
-use Rattle.flash.specs.Geometry.{isLetter, slot, slotOf, blockOf, pageOf, originalCount, marksLength, letter}
-use Rattle.flash.specs.Chip.{Chip, erased, isMark, pageAt, markAt}
-use Rattle.flash.proofs.Searches.{all-of}
+use Rattle.flash.specs.Geometry.{slot, slotOf, blockOf, pageOf, originalCount, marksLength, letter}
+use Rattle.flash.specs.Chip.{Chip, erased, pageAt, markAt}
 use Rattle.method.specs.Move.{Move, AcceptedMove}
-use Rattle.method.specs.Place.{lastPlace, passAt, filling, filled, Held, blank, plain, code, final, above, heldAt, heldMark}
-use Rattle.method.proofs.basics.Indexes.{Order, less, same, more, order, this-or-other, each-slot}
+use Rattle.method.specs.Place.{lastPlace, passAt, filling, filled, above, heldAt, heldMark}
+use Rattle.method.proofs.basics.Indexes.{Order, less, same, more, order, this-or-other}
 use Rattle.method.proofs.basics.MoveShape.{Holding}
 use Rattle.method.proofs.basics.AcceptedCalls.{StandsAt}
 use Rattle.method.proofs.cycles.SetCycles.{block-in, entry-in}
@@ -21,34 +20,19 @@ use Rattle.method.proofs.places.Turns.{turn, resumesAt, resumes-start, 
 module _ (Z : Sizes) where
   open Sizes Z using (n, m)
 
-  -- Of the block that is being filled a page is not written, and the others are anything; or all are as the place has them.
+  -- Of the block that is being filled a page has no letter, and the others are anything; or all are as the place has them.
   pub data Block (marks : List ℕ) (place : ℕ) : Type 0 where
-    unfinished : filled Z place ≡ 0 → (q : ℕ) → q < m → markAt marks (slot m (filling Z place) q) ≡ erased → Block marks place
+    unfinished : filled Z place ≡ 0 → (q : ℕ) → q < m → 3 ≤ markAt marks (slot m (filling Z place) q) → Block marks place
     whole : filled Z place ≡ m → ((q : ℕ) → q < m → markAt marks (slot m (filling Z place) q) ≡ heldMark Z (heldAt Z place (filling Z place) q)) → Block marks place
 
   -- all blocks but one are as the place has them
   pub record Moment (marks : List ℕ) (place : ℕ) : Type 0 where
     pub in-move : place ≤ lastPlace Z
     pub marks-length : length marks ≡ marksLength Z
-    pub legal : all isMark marks ≡ true
     pub others : (b q : ℕ) → b ≢ filling Z place → b ≤ n → q < m → markAt marks (slot m b q) ≡ heldMark Z (heldAt Z place b q)
     pub own : Block marks place
 
   -- ---- places
-  mark-legal : (held : Held) → isMark (heldMark Z held) ≡ true
-  unfolding isMark isLetter heldMark letter
-  mark-legal blank = refl
-  mark-legal plain = rw (lt-ltb (letter Z 0) 3 (omega arith))
-  mark-legal code = rw (lt-ltb (letter Z 1) 3 (omega arith))
-  mark-legal final = rw (lt-ltb (letter Z 2) 3 (omega arith))
-
-  -- marks are legal if that of each page is
-  pub all-legal : (marks : List ℕ) → length marks ≡ marksLength Z → ((b q : ℕ) → b ≤ n → q < m → isMark (markAt marks (slot m b q)) ≡ true) → all isMark marks ≡ true
-  unfolding markAt
-  all-legal marks size f =
-      all-of isMark marks erased
-      (λ t h. each-slot m (n + 1) (λ u. isMark (markAt marks u) ≡ true) (λ b q l k. f b q (omega arith) k) t (rw size at h))
-
   -- outside the block that is being filled, the places of a turn are alike
   held-around : (place other : ℕ) → passAt Z place ≡ passAt Z other → filling Z place ≡ filling Z other → (b q : ℕ) → b ≢ filling Z place → heldAt Z place b q ≡ heldAt Z other b q
   held-around place other e f b q apart = go (order b (filling Z place))
@@ -58,31 +42,35 @@ module _ (Z : Sizes) where
       go (same l) = absurd (apart l)
       go (more l) = held-above Z place b q l ∙ ap above e ∙ sym (held-above Z other b q (omega arith))
 
-  module _ (place : ℕ) (in-move : place ≤ lastPlace Z) (marks : List ℕ) (A : MarksAt Z place marks) where
-    pub marks-legal : all isMark marks ≡ true
-    marks-legal = all-legal marks (A .length-is) (λ b q h k. rw (A .mark-is b q h k) (mark-legal (heldAt Z place b q)))
+  -- the page that is written next has no letter, and the other blocks are as the place has them
+  pub filling-moment : (place : ℕ) → place ≤ lastPlace Z → filled Z place < m → (marks : List ℕ) → length marks ≡ marksLength Z
+      → ((b q : ℕ) → b ≢ filling Z place → b ≤ n → q < m → markAt marks (slot m b q) ≡ heldMark Z (heldAt Z place b q))
+      → 3 ≤ markAt marks (slot m (filling Z place) (filled Z place)) → Moment marks (resumesAt Z place)
+  filling-moment place in-move k marks size others hole =
+      let start-in : turn Z place * (m + 1) ≤ lastPlace Z = omega (arith, div-add-mod' place (m + 1)) in
+      subst (Moment marks) (sym (resumes-start Z place k)) (from (turn Z place * (m + 1)) start-in (start-stands Z place in-move))
+    where
+      from : (start : ℕ) → start ≤ lastPlace Z → Stands Z start (passAt Z place) (filling Z place) 0 → Moment marks start
+      from start h S = record {
+        in-move = h;
+        marks-length = size;
+        others = λ b q apart l r.
+            let other : b ≢ filling Z place = λ e. apart (e ∙ sym (S .block-is)) in
+            others b q other l r ∙ ap (heldMark Z) (held-around place start (sym (S .pass-is)) (sym (S .block-is)) b q other);
+        own = unfinished (S .pages-is) (filled Z place) k (subst (λ (b : ℕ). 3 ≤ markAt marks (slot m b (filled Z place))) (sym (S .block-is)) hole);
+      }
 
-    filling-moment : filled Z place < m → (start : ℕ) → start ≤ lastPlace Z → Stands Z start (passAt Z place) (filling Z place) 0 → Moment marks start
+  module _ (place : ℕ) (in-move : place ≤ lastPlace Z) (marks : List ℕ) (A : MarksAt Z place marks) where
+    hole-is : filled Z place < m → markAt marks (slot m (filling Z place) (filled Z place)) ≡ erased
     unfolding heldMark
-    filling-moment k start h S = record {
-      in-move = h;
-      marks-length = A .length-is;
-      legal = marks-legal;
-      others = λ b q apart l r.
-          A .mark-is b q l r
-          ∙ ap (heldMark Z) (held-around place start (sym (S .pass-is)) (sym (S .block-is)) b q (λ e. apart (e ∙ sym (S .block-is))));
-      own =
-          unfinished (S .pages-is) (filled Z place) k
-          (ap (λ (b : ℕ). markAt marks (slot m b (filled Z place))) (S .block-is)
-          ∙ A .mark-is (filling Z place) (filled Z place) (filling-in Z place in-move) k
-          ∙ ap (heldMark Z) (held-blank Z place (filling Z place) (filled Z place) refl (omega arith)));
-    }
+    hole-is k =
+        A .mark-is (filling Z place) (filled Z place) (filling-in Z place in-move) k
+        ∙ ap (heldMark Z) (held-blank Z place (filling Z place) (filled Z place) refl (omega arith))
 
     full-moment : filled Z place ≡ m → Moment marks place
     full-moment k = record {
       in-move = in-move;
       marks-length = A .length-is;
-      legal = marks-legal;
       others = λ b q apart. A .mark-is b q;
       own = whole k (λ q. A .mark-is (filling Z place) q (filling-in Z place in-move));
     }
@@ -90,9 +78,7 @@ module _ (Z : Sizes) where
     pub place-moment : Moment marks (resumesAt Z place)
     place-moment =
         ⊎-elim
-        (λ k.
-        let start-in : turn Z place * (m + 1) ≤ lastPlace Z = omega (arith, div-add-mod' place (m + 1)) in
-        subst (Moment marks) (sym (resumes-start Z place k)) (filling-moment k (turn Z place * (m + 1)) start-in (start-stands Z place in-move)))
+        (λ k. filling-moment place in-move k marks (A .length-is) (λ b q apart. A .mark-is b q) (omega (arith, hole-is k)))
         (λ k. subst (Moment marks) (sym (resumes-there Z place k)) (full-moment k))
         (page-cases Z place)
 

@@ -23,6 +23,7 @@ pub fn faults() -> Vec<HexFault> {
         fault::<WidePages>("m = 65 is taken by a HEX call"),
         fault::<AnyMark>("the HEX writer takes any one letter for mark 0"),
         fault::<SpareByMarks>("the HEX writer does not look at the spare's bytes"),
+        fault::<HalfWrittenSpare>("the HEX writer takes a half-written mark for 255"),
         fault::<SpareMarksUnseen>("the HEX writer does not look at the spare's marks"),
         fault::<ClearsFirst>("the store is cleared before the HEX text is judged"),
         fault::<MarksFirst>("the marks are set before the HEX text is judged"),
@@ -104,6 +105,14 @@ but_for! {
         fn is_at_rest(flash: &Flash) -> bool {
             let mut seen = flash.clone();
             seen.store.fill(255);
+            Correct::is_at_rest(&seen)
+        }
+    }
+    HalfWrittenSpare {
+        fn is_at_rest(flash: &Flash) -> bool {
+            let mut seen = flash.clone();
+            let spare = seen.marks[..flash.sizes.pages()].iter_mut();
+            spare.filter(|mark| **mark > 2).for_each(|mark| *mark = 255);
             Correct::is_at_rest(&seen)
         }
     }

@@ -14,6 +14,9 @@ use crate::simulator::cuts::torn_choices;
 use crate::simulator::recovery::find;
 use crate::simulator::steps::{all_steps, Step};
 
+/// The marks that torn pages get: 255, and both ends of what else a cut leaves.
+const MARKS: [u8; 3] = [255, 254, 3];
+
 pub fn cases(comparer: &mut Comparer, random: &mut Random) -> Outcome {
     for (n, m) in [1, 2, 3]
         .map(|n: usize| [1, 2, 3].map(|m: usize| (n, m)))
@@ -71,14 +74,14 @@ fn uncut(player: &mut Player, mut story: Story) -> Outcome {
     Ok(())
 }
 
-/// Each choice of torn pages, with each kind of bytes in them.
+/// Each choice of torn pages and of their marks, with each kind of bytes.
 fn all_tears(scene: &Scene, step: Step, random: &mut Random) -> Vec<Begun> {
     let mut tears = vec![];
-    for slots in torn_choices(&scene.flash, step) {
+    for pages in torn_choices(&scene.flash, step, &MARKS) {
         for unknown in Unknown::one_of_each(random) {
-            let torn = slots.iter().map(|&slot| (slot, unknown)).collect();
+            let torn = pages.iter().map(|&page| (page, unknown)).collect();
             tears.push(Begun { step, torn });
-            if slots.is_empty() {
+            if pages.is_empty() {
                 break;
             }
         }
@@ -103,9 +106,12 @@ fn mend_cuts(scene: &Scene, random: &mut Random) -> Vec<MendCut> {
     let mut cuts = vec![MendCut::NotBegun, MendCut::Erased];
     if let Some(block) = find(&scene.flash).and_then(|recovery| recovery.erase) {
         let step = Step::Erase { block };
-        for slots in torn_choices(&scene.flash, step) {
+        // All marks here too would take minutes with three pages a block.
+        let one = [*random.pick(&MARKS)];
+        let few = scene.sizes.pages() < 3;
+        for pages in torn_choices(&scene.flash, step, if few { &MARKS } else { &one }) {
             let unknown = Unknown::any(random);
-            let torn = slots.iter().map(|&slot| (slot, unknown)).collect();
+            let torn = pages.iter().map(|&page| (page, unknown)).collect();
             cuts.push(MendCut::InsideErase(Begun { step, torn }));
         }
     }

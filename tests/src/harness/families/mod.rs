@@ -2,6 +2,7 @@
 
 mod events;
 mod every_cut;
+mod half_written;
 mod limits;
 mod nonsense;
 mod other_splits;
@@ -37,7 +38,7 @@ const EVENTS: Family = Family {
 /// The families that look at demand 3 over whole lists.
 pub static LISTS: [Family; 2] = [EVERY_CUT, EVENTS];
 
-pub static FAMILIES: [Family; 14] = [
+pub static FAMILIES: [Family; 15] = [
     Family {
         name: "refusals, one and two at once",
         cases: refusals::cases,
@@ -53,6 +54,10 @@ pub static FAMILIES: [Family; 14] = [
     Family {
         name: "nonsense bytes and marks",
         cases: nonsense::cases,
+    },
+    Family {
+        name: "half-written marks",
+        cases: half_written::cases,
     },
     Family {
         name: "torn pages",

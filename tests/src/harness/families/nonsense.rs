@@ -9,7 +9,7 @@ use crate::simulator::request::Call;
 use crate::simulator::sizes::UNWRITTEN;
 use crate::simulator::steps::marks_at;
 
-const MARKS: [u8; 5] = [0, 1, 2, 255, 3];
+const MARKS: [u8; 6] = [0, 1, 2, 255, 3, 254];
 
 /// Every marking of small stores, for recovery, read and run.
 pub fn all_marks(comparer: &mut Comparer, random: &mut Random) -> Outcome {
@@ -101,6 +101,7 @@ pub fn wrong_mark(scene: &mut Scene, random: &mut Random) {
         let byte = slot * scene.sizes.bytes() + random.below(scene.sizes.bytes());
         scene.flash.store[byte] = random.byte();
     } else {
-        scene.flash.marks[slot] = *random.pick(&[0, 1, 2, 255, 3, 254]);
+        let half_written = random.between(3, 254) as u8;
+        scene.flash.marks[slot] = *random.pick(&[0, 1, 2, 255, 3, 254, half_written]);
     }
 }

@@ -5,7 +5,7 @@ use super::Outcome;
 use crate::harness::compare::Comparer;
 use crate::random::Random;
 use crate::scene::Scene;
-use crate::simulator::cuts::{tear, torn_choices};
+use crate::simulator::cuts::{any_torn_mark, tear, torn_choices};
 use crate::simulator::request::Call;
 use crate::simulator::steps::all_steps;
 
@@ -33,13 +33,14 @@ fn cut_at(comparer: &mut Comparer, at_rest: &Scene, place: usize, random: &mut R
     let mut scene = at_rest.clone();
     scene.run(0, place as u32);
     let step = all_steps(&scene.sizes)[place];
-    let choices = torn_choices(&scene.flash, step);
-    let slots = random.pick(&choices).clone();
-    tear(&mut scene.flash, &slots, |before| match random.below(3) {
-        0 => vec![255; before.len()],
-        1 => before.to_vec(),
-        _ => random.bytes(before.len()),
-    });
+    let choices = torn_choices(&scene.flash, step, &[any_torn_mark(random), 255]);
+    for &torn in random.pick(&choices) {
+        tear(&mut scene.flash, torn, |before| match random.below(3) {
+            0 => vec![255; before.len()],
+            1 => before.to_vec(),
+            _ => random.bytes(before.len()),
+        });
+    }
     compare_reads(comparer, &scene, 4, random)?;
     comparer.compare(&scene.run_request(place as u32, 1))?;
     comparer.compare(&scene.run_request(place as u32 + 1, 1))?;

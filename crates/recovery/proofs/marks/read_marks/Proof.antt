@@ -1,28 +1,26 @@
 -- `read_marks` meets its contract: the search knows what it has met, and what that tells at its end.
-use Rattle.flash.proofs.Kit.{needs, _≡_, sym, _∙_, ⊎-elim, true, false, ℕ, _+_, _-_, _*_, _≤_, _<_, mul-le-mul-right, arith, length, getD, not-true}
-use Rattle.flash.proofs.Kit.{not-false}
+use Rattle.flash.proofs.Kit.{needs, _≡_, sym, _∙_, ⊎-elim, true, ℕ, _+_, _-_, _*_, _≤_, _<_, arith, length, getD}
 use Rattle.flash.specs.Geometry.{letter}
-use Rattle.flash.specs.Chip.{isMark, isFull}
+use Rattle.flash.specs.Chip.{isFull}
 use Rattle.flash.proofs.Ranges.{all-in}
 use Rattle.flash.proofs.Bounds.{block-in-marks}
-use Rattle.recovery.proofs.Reading.{reads-illegal}
-use Rattle.recovery.proofs.Search.{Upto, Block, LegalBelow, legal-more, legal-all, torn-in, known-in, block-known, legal-known}
+use Rattle.recovery.proofs.Search.{Upto, Block, torn-in, known-in, block-known}
 use Rattle.recovery.proofs.Search.{page-same, page-opens, page-first, page-second, block-changes, block-astray, block-kept}
-use Rattle.recovery.proofs.Stretches.{legal-over, upto-passed, upto-rest}
+use Rattle.recovery.proofs.Stretches.{upto-passed, upto-rest}
 use Rattle.recovery.proofs.Tells.{tells-none, tells-second, tells}
 use Rattle.recovery.proofs.marks.read_marks.Statement.{statement}
 use Rattle.recovery.proofs.marks.read_marks.Tie as tie
 
 abbrev Inv-loop : tie.InvT-loop
 Inv-loop sizes marks n m blocks unfinished₀ torn₀ upper change block first letter whole₀ page₀ unfinished torn whole page =
-    (page ≤ m) × Block sizes marks block page letter unfinished₀ torn₀ unfinished torn whole × LegalBelow sizes marks (block * m + page)
+    (page ≤ m) × Block sizes marks block page letter unfinished₀ torn₀ unfinished torn whole
 
 abbrev μ-loop : tie.MeasureT-loop
 μ-loop sizes marks n m blocks unfinished₀ torn₀ upper change block first letter whole₀ page₀ unfinished torn whole page = m - page
 
 abbrev Inv-search : tie.InvT-search
 Inv-search sizes marks n m blocks unfinished₀ torn₀ upper₀ change₀ block₀ unfinished torn upper change block =
-    (block ≤ n + 1) × (torn ≤ n) × Upto sizes marks block unfinished torn upper change × LegalBelow sizes marks (block * m)
+    (block ≤ n + 1) × (torn ≤ n) × Upto sizes marks block unfinished torn upper change
 
 abbrev μ-search : tie.MeasureT-search
 μ-search sizes marks n m blocks unfinished₀ torn₀ upper₀ change₀ block₀ unfinished torn upper change block = n + 1 - block
@@ -44,13 +42,10 @@ search-holds c =
     let marks = start .args .marks .now in
     let upper : c .before .letter-after .result ≡ letter sizes 1 = c .before .letter-after .ensures in
     let r = c .passed-over .result in
-    let full = (rw upper at (c .passed-over .ensures .1)) in
-    let fits = mul-le-mul-right (sizes .m) (c .passed-over .ensures .0) in (
+    let full = (rw upper at (c .passed-over .ensures .1)) in (
       omega arith,
       omega arith,
       rw upper (upto-passed sizes (omega arith) marks 0 r (omega arith) full),
-      legal-over sizes (omega arith) marks (letter sizes 1) 0 r (omega arith) (omega (arith, start .pre .1)) (λ i h. absurd (omega arith))
-          (λ j a h. full j h),
     )
 
 -- the block that is looked at lies within the marks
@@ -79,7 +74,6 @@ loop-holds c =
     let K = c .known-pages .ensures in (
       known-in sizes pages (a .marks .now) (o .block) _ _ K,
       block-known sizes pages (a .marks .now) (o .block) _ _ _ _ K,
-      legal-known sizes pages (a .marks .now) (o .block) _ _ K (room b) (o .inv .3),
     )
 
 add-mark : tie.Need-add-mark Inv-loop μ-loop Inv-search μ-search
@@ -88,33 +82,16 @@ add-mark c = omega (arith, room (c .before .before .before .before))
 shared-slice-read-mark : tie.Need-shared-slice-read-mark Inv-loop μ-loop Inv-search μ-search
 shared-slice-read-mark c = omega (arith, room (c .before .before .before .before .before))
 
-is-mark-requires : tie.Need-is-mark-requires Inv-loop μ-loop Inv-search μ-search
-is-mark-requires c κs = search needs
-
-returns : tie.Need-returns Inv-loop μ-loop Inv-search μ-search
-returns c =
-    let p = c .before .before .before in
-    let l = p .before .loop in
-    let b = p .before .before .before .before in
-    let o = b .before .search in
-    let a = b .before .before .before .before .before .args in
-    let sizes = a .sizes in
-    let pages : 0 < a .sizes .m = omega arith in
-    let illegal : isMark (getD (a .marks .now) (o .block * a .sizes .m + l .page) 0) ≡ false = sym (c .before .is-mark .ensures) ∙ not-true _
-    (c .if1 .taken) in
-    tells-none sizes pages (a .marks .now)
-    (reads-illegal sizes pages (a .marks .now) (o .block * a .sizes .m + l .page) (omega (arith, room b)) illegal)
-
 add-unfinished : tie.Need-add-unfinished Inv-loop μ-loop Inv-search μ-search
 add-unfinished c =
-    let p = c .before .before .before .before in
+    let p = c .before .before in
     let l = p .before .loop in
     let b = p .before .before .before .before in
     let o = b .before .search in
     let a = b .before .before .before .before .before .args in
     let sizes = a .sizes in
     let pages : 0 < a .sizes .m = omega arith in
-    let e = page-opens sizes pages (a .marks .now) (o .block) (l .page) _ _ (room b) (p .loop-test .taken) (l .inv .1) (c .if2 .taken) in
+    let e = page-opens sizes pages (a .marks .now) (o .block) (l .page) _ _ (room b) (p .loop-test .taken) (l .inv .1) (c .if1 .taken) in
     omega (arith, o .inv .2 .few)
 
 add-page : tie.Need-add-page Inv-loop μ-loop Inv-search μ-search
@@ -125,33 +102,28 @@ loop-less c = search needs
 
 loop-again : tie.Need-loop-again Inv-loop μ-loop Inv-search μ-search
 loop-again c =
-    let p = c .before .before .before .before in
+    let p = c .before .before in
     let l = p .before .loop in
     let b = p .before .before .before .before in
     let o = b .before .search in
     let a = b .before .before .before .before .before .args in
     let sizes = a .sizes in
     let pages : 0 < a .sizes .m = omega arith in
-    let legal : isMark (getD (a .marks .now) (o .block * a .sizes .m + l .page) 0) ≡ true =
-    sym (c .before .before .is-mark .ensures) ∙ not-false _ (c .before .if1 .left) in
-    let more = legal-more sizes (a .marks .now) (o .block * a .sizes .m) (l .page) (l .inv .2) legal in
     ⊎-elim
     (λ w. (
       omega arith,
       rw (w .2, w .3, w .4) (page-first sizes pages (a .marks .now) (o .block) (l .page) _ _ (room b) (p .loop-test .taken)
           (l .inv .1) (o .inv .2 .few) (w .1 .left) (w .0 .taken)),
-      more,
     ))
     (λ w. (
       omega arith,
       rw (w .1, w .2, w .3) (page-same sizes pages (a .marks .now) (o .block) (l .page) _ _ (room b) (p .loop-test .taken)
-          (l .inv .1) legal (w .0 .left)),
-      more,
+          (l .inv .1) (w .0 .left)),
     ))
-    (c .if2 .came)
+    (c .if1 .came)
 
-returns-2 : tie.Need-returns-2 Inv-loop μ-loop Inv-search μ-search
-returns-2 c =
+returns : tie.Need-returns Inv-loop μ-loop Inv-search μ-search
+returns c =
     let e = c .before .before in
     let l = e .before .loop in
     let b = e .before .before .before .before in
@@ -161,7 +133,7 @@ returns-2 c =
     let pages : 0 < a .sizes .m = omega arith in
     tells-none sizes pages (a .marks .now)
     (block-astray sizes pages (a .marks .now) (o .block) (l .page) _ _ _ _ _ (omega arith) (e .loop-test .left)
-    (o .inv .2) (l .inv .1) (omega arith) (c .before .if4 .taken))
+    (o .inv .2) (l .inv .1) (omega arith) (c .before .if3 .taken))
 
 add-are-full : tie.Need-add-are-full Inv-loop μ-loop Inv-search μ-search
 add-are-full c = search needs
@@ -191,23 +163,20 @@ search-again c =
     let pages : 0 < a .sizes .m = omega arith in
     let h : o .block ≤ a .sizes .n = omega arith in
     let torn = torn-in sizes (a .marks .now) (l .inv .1) h (o .inv .1) in
-    let legal : LegalBelow sizes (a .marks .now) ((o .block + 1) * a .sizes .m) = λ i k. l .inv .2 i (omega arith) in
     ⊎-elim
     (λ w. (
       omega arith,
       torn,
       rw (w .4, w .5) (block-changes sizes pages (a .marks .now) (o .block) (l .page) _ _ _ _ _ h (e .loop-test .left)
           (o .inv .2) (l .inv .1) (omega arith) (w .0 .taken)),
-      legal,
     ))
     (λ w. (
       omega arith,
       torn,
       rw (w .1, w .2) (block-kept sizes pages (a .marks .now) (o .block) (l .page) _ _ _ _ _ h (e .loop-test .left)
           (o .inv .2) (l .inv .1) (w .0 .left)),
-      legal,
     ))
-    (c .if4 .came)
+    (c .if3 .came)
 
 letter-after-requires-2 : tie.Need-letter-after-requires-2 Inv-loop μ-loop Inv-search μ-search
 letter-after-requires-2 c κs = search needs
@@ -224,8 +193,8 @@ moment-requires c κs =
     w)
     (c .before .search-test .came)
 
-returns-3 : tie.Need-returns-3 Inv-loop μ-loop Inv-search μ-search
-returns-3 c =
+returns-2 : tie.Need-returns-2 Inv-loop μ-loop Inv-search μ-search
+returns-2 c =
     let t = c .before .before .before in
     let o = t .search in
     let start = t .before .before .before .before in
@@ -239,15 +208,14 @@ returns-3 c =
     (λ w.
     let end : o .block ≡ a .sizes .n + 1 = omega arith in
     let U : Upto sizes marks (a .sizes .n + 1) (o .unfinished) (o .torn) (o .upper) (o .change) = rw end at (o .inv .2) in
-    let legal = legal-all sizes marks (rw (start .pre .1, ← end) (o .inv .3)) in
-    rw (w .1, w .2, w .3, w .4, final) (tells sizes pages marks _ _ _ _ U legal))
+    rw (w .1, w .2, w .3, w .4, final) (tells sizes pages marks _ _ _ _ U))
     (λ w. ⊎-elim
     (λ v.
     let l = v .3 in
-    rw (v .10, v .9 .taken)
+    rw (v .8, v .7 .taken)
     (tells-second sizes pages marks _ _ _
     (page-second sizes pages marks (o .block) (l .page) _ _ (room (record { before = t; search-test = v .0 })) (v .4 .taken)
-    (l .inv .1) (o .inv .2) (omega arith) (v .9 .taken) (v .8 .taken))))
+    (l .inv .1) (o .inv .2) (omega arith) (v .7 .taken) (v .6 .taken))))
     (λ v.
     let l = v .3 in
     let h : o .block ≤ a .sizes .n = omega arith in
@@ -256,11 +224,8 @@ returns-3 c =
     let rest : (j : ℕ) → o .block + 1 ≤ j → j < a .sizes .n + 1 → isFull (a .sizes .m) marks j
     (getD marks (o .block * a .sizes .m) 0) ≡ true = λ j low high.
     all-in (λ b. isFull (a .sizes .m) marks b (getD marks (o .block * a .sizes .m) 0)) (o .block + 1) _ all j low (omega arith) in
-    let so-far : LegalBelow sizes marks ((o .block + 1) * a .sizes .m) = λ i k. l .inv .2 i (omega arith) in
-    let over = legal-over sizes pages marks _ (o .block + 1) (a .sizes .n + 1) (U .upper-is h .1) (omega (arith, start .pre .1)) so-far rest in
     rw (v .9, v .10, v .11, v .12, final)
-    (tells sizes pages marks _ _ _ _ (upto-rest sizes pages marks _ _ _ _ _ U (omega arith) h rest)
-    (legal-all sizes marks (rw (start .pre .1) over))))
+    (tells sizes pages marks _ _ _ _ (upto-rest sizes pages marks _ _ _ _ _ U (omega arith) h rest)))
     w)
     (c .before .before .search-test .came))
 
@@ -282,13 +247,11 @@ read-marks-spec =
     loop-holds
     add-mark
     shared-slice-read-mark
-    is-mark-requires
-    returns
     add-unfinished
     add-page
     loop-less
     loop-again
-    returns-2
+    returns
     add-are-full
     are-full-requires
     add-block
@@ -296,4 +259,4 @@ read-marks-spec =
     search-again
     letter-after-requires-2
     moment-requires
-    returns-3)
+    returns-2)
