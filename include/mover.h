@@ -4,8 +4,8 @@
  * own, by a list. It is a row of 2 * n * (m + 1) steps; a step writes one page or erases one block. Power may fail at any moment:
  * recovery brings the move to a place from which it goes on, and every original page can be read all the time.
  *
- * Besides the flash, these must outlast a power cut until the move is finished: the list, the pins, n, m, page_bytes and s; the sets
- * too, unless mover_split makes them again from the same list. A page's mark must be programmed last, or together with the page: a
+ * Besides the flash, these must outlast a power cut until the move is finished: the list, n, m, page_bytes and s; the sets too,
+ * unless mover_split makes them again from the same list. A page's mark must be programmed last, or together with the page: a
  * page whose write was cut must not show a letter, but 255 or a half-written mark, 3 to 254. What else a cut may leave: pages of a
  * block that was being erased, each as it was, or with such a mark and any bytes.
  *
@@ -26,7 +26,7 @@
  * Lent parts: a pointer and a length in bytes, which must be exact. NULL goes with length 0.
  *   list         2 * n * m bytes: entry k, two bytes, low byte first, is the page number 0 to n * m - 1 where original k goes
  *   pins         n * m bytes: where byte k is not 0, original k is pinned: it must end at its old address, and a list that sends it
- *                elsewhere is refused. Without pins: n * m zeros. The same through the whole move
+ *                elsewhere is refused. Without pins: n * m zeros. They do nothing else: a move may go on with others
  *   sets         n * m bytes: the set of each original, 0 to m - 1, as mover_split fills them; the same through the whole move
  *   store        (n + 1) * m * page_bytes bytes: the pages, block after block, the spare first
  *   marks        (n + 1) * m bytes, one a page in the same order: 0, 1 or 2 where a page is written, 255 where none is; 3 to 254 only
@@ -36,7 +36,7 @@
  *
  * Before a move the pages of blocks 1 to n have mark s, and those of block 0 have mark 255 and bytes 255 throughout.
  *
- * WHAT MUST SURVIVE A POWER CUT: list and pins (or how to make them again), the sizes and s, outside the blocks that move, and a note of
+ * WHAT MUST SURVIVE A POWER CUT: the list (or how to make it again), the sizes and s, outside the blocks that move, and a note of
  * your own that a move is pending. The sets can be made again by mover_split. At start-up, if a move is pending: mover_split, mover_mend,
  * mover_run; after the finish the note is cleared and s moves on. A wrong s, list or split is not noticed, and gives nonsense. Without a
  * pending move mover_mend is not called: it would erase the blank spare.

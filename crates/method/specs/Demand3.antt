@@ -22,11 +22,11 @@ use Rattle.method.specs.Events.{Call, run, mend, read, CutPoint, uncut, 
 use Rattle.method.specs.Events.{stepsOf, chipAfter, starting, after, moments}
 
 -- ---- the premises, a line for each sentence; the first is `Start` of Runs.antt
--- rule 8.2
+-- rule 8.2: the same sizes, list and split; the pins, which only refuse, may be others
 abbrev pub Shares : Request → Call → Type 0
-Shares R (run N work place budget) = N ≡ R
+Shares R (run N work place budget) = move N ≡ move R
 Shares R (mend Z) = Z ≡ R .sizes
-Shares R (read N work k) = N ≡ R
+Shares R (read N work k) = move N ≡ move R
 
 -- rule 8.4
 abbrev pub Mended : Call → History → Type 0

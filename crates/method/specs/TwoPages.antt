@@ -7,7 +7,7 @@ use Prim.Native.Nat.{ℕ}
 use lib.ListN.{length, take, drop}
 use Rattle.flash.specs.Lists.{range, count}
 use Rattle.flash.specs.Chip.{Chip}
-use Rattle.split.specs.Request.{Request, unpinned}
+use Rattle.split.specs.Request.{Request, requestOf, unpinned}
 use Rattle.method.specs.Move.{move}
 use Rattle.method.specs.State.{stateOf}
 use Rattle.method.specs.Step.{isErase}
@@ -21,6 +21,10 @@ use Rattle.method.specs.Example.{whole, cutInside}
 -- the same request for a chip of three blocks
 abbrev otherSizes : Request
 otherSizes = unpinned (record { n = 3; m = 2; p = 1; s = 0 }) (two .list) (two .sets)
+
+-- the same move with its first and its last page pinned, which stay
+abbrev pinnedEnds : Request
+pinnedEnds = requestOf (two .sizes) (two .list) (1 ∷ 0 ∷ 0 ∷ 1 ∷ []) (two .sets)
 
 -- before page 0 of block 1 is written, and before block 2 is erased
 abbrev at3 : Chip
@@ -87,9 +91,9 @@ module _ (byte : ℕ) where
       ∷ whole (mend (two .sizes))
       ∷ cutInside (run two (junk 1) 5 1) 0 lowerTorn
       ∷ whole (mend (two .sizes))
-      -- the finish, and what comes after it
-      ∷ whole (run two (junk 1) 6 99)
-      ∷ whole (read two (junk 1) 2)
+      -- the finish, and what comes after it; pins need not be those of the calls before
+      ∷ whole (run pinnedEnds (junk 1) 6 99)
+      ∷ whole (read pinnedEnds (junk 1) 2)
       ∷ cutInside (mend (two .sizes)) 0 spareTorn
       ∷ whole (mend (two .sizes))
       ∷ []

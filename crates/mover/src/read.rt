@@ -43,8 +43,8 @@ pub fn read(
     k: usize,
 ) -> ReadResult
     ensures { λ r. ⌜ readAs r (now (work .exit))
-        ≡ readAnswer (requestOf sizes (now (list .entry)) (now (pins .entry)) (now (sets .entry))) (record { store = now (store .entry); marks = now (marks .entry) })
-        (now (work .entry)) k ⌝ }
+        ≡ readAnswer (requestOf sizes (now (list .entry)) (now (pins .entry)) (now (sets .entry)))
+        (record { store = now (store .entry); marks = now (marks .entry) }) (now (work .entry)) k ⌝ }
 {
     let mut table = [0u8; TABLE];
     let number = move_refusal(sizes, list, pins, sets, store, marks, work, &mut table);

@@ -224,8 +224,8 @@ pub fn run(
     budget: u32,
 ) -> RunResult
     ensures { λ r. ⌜ ranAs r (now (store .exit)) (now (marks .exit)) (now (work .exit))
-        ≡ runAnswer (requestOf sizes (now (list .entry)) (now (pins .entry)) (now (sets .entry))) (record { store = now (store .entry); marks = now (marks .entry) })
-        (now (work .entry)) place budget ⌝ }
+        ≡ runAnswer (requestOf sizes (now (list .entry)) (now (pins .entry)) (now (sets .entry)))
+        (record { store = now (store .entry); marks = now (marks .entry) }) (now (work .entry)) place budget ⌝ }
 {
     let mut table = [0u8; TABLE];
     let number = move_refusal(sizes, list, pins, sets, store, marks, work, &mut table);

@@ -160,7 +160,8 @@ pub fn step(
         × ((tally .steps ≤ 8320) × (tally .writes ≤ 8320) × (tally .erases ≤ 8320) × (tally .bytes ≤ 8320 * 4096)) ⌝ }
     ensures { λ r. ⌜ (let after = method.step (moveOf sizes (now (list .entry)) (now (sets .entry))) (place .at)
         (runningOf (now (store .entry)) (now (marks .entry)) []) in
-        (record { store = now (store .exit); marks = now (marks .exit) } ≡ after .chip) × (r ≡ tallied (operationAt sizes (place .at)) (after .work) tally)) ⌝ }
+        (record { store = now (store .exit); marks = now (marks .exit) } ≡ after .chip)
+        × (r ≡ tallied (operationAt sizes (place .at)) (after .work) tally)) ⌝ }
     ensures { λ _. ⌜ length (now (slots .exit)) ≡ slotsLength ⌝ }
 {
     match place.operation(sizes) {

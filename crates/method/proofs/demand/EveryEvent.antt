@@ -1,9 +1,10 @@
 -- Demand 3: every list of events keeps what is kept, so the claim holds at each of its moments.
 use Rattle.flash.proofs.Kit.{_≡_, refl, sym, ap, subst, ⊎-elim, _≢_, Bool, true, false, cond, true≢false, List, [], _∷_, _++_, map, Option}
-use Rattle.flash.proofs.Kit.{none as nothing, some, ℕ, zero, suc, _+_, _≤_, _<_, zero-mod, arith, eqb, length, eqb-false, ne-eqb}
+use Rattle.flash.proofs.Kit.{none as nothing, some, ℕ, zero, suc, _+_, _*_, _≤_, _<_, zero-mod, arith, eqb, length, eqb-false, ne-eqb}
 use Rattle.flash.specs.Lists.{range, count}
 use Rattle.flash.specs.Tables.{refusal}
 use Rattle.flash.specs.declared.sizes.Sizes.{Sizes}
+use Rattle.flash.specs.Geometry.{originalCount}
 use Rattle.flash.specs.PageSum.{sum}
 use Rattle.flash.specs.Chip.{Chip, pageAt}
 use Rattle.flash.proofs.Bools.{bool-cases}
@@ -92,12 +93,15 @@ module _ (R : Request) (chip₀ : Chip) (S : Start R chip₀) where
     unfolding stepsOf chipAfter chipReturned returnsFinished
     read-idle N work k = idle M originals h K (read N work k) refl refl refl refl
 
-    run-shared : (N : Request) → N ≡ R → (work : List ℕ) (place budget : ℕ)
+    run-shared : (N : Request) → move N ≡ M → (work : List ℕ) (place budget : ℕ)
         → numberOf (run N work place budget) (h .chip) ≡ 0 → h .unmended ≡ false → EventsKept (run N work place budget)
     unfolding numberOf
-    run-shared N e work place budget ok mended =
-        subst (λ (N : Request). numberOf (run N work place budget) (h .chip) ≡ 0 → EventsKept (run N work place budget)) (sym e)
-        (λ ok. run-kept R A originals (start-full R chip₀ S) h K work place budget (run-number R (h .chip) work place budget ok) mended) ok
+    run-shared N e work place budget ok mended cut obeys =
+        let full = subst (λ (M : Move). length originals ≡ originalCount (M .sizes) * M .sizes .p) (sym e) (start-full R chip₀ S) in
+        let kept = subst (λ (M : Move). Kept M originals h) (sym e) K in
+        let number = run-number N (h .chip) work place budget ok in
+        subst (λ (M : Move). EventKept M originals h (run N work place budget) cut) e
+        (run-kept N (subst AcceptedMove (sym e) A) originals full h kept work place budget number mended cut obeys)
 
     mend-shared : (Z : Sizes) → Z ≡ R .sizes → EventsKept (mend Z)
     mend-shared Z e = subst (λ (Z : Sizes). EventsKept (mend Z)) (sym e) (mend-kept M A originals h K)
