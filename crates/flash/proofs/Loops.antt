@@ -2,7 +2,7 @@
 use Rattle.flash.proofs.Kit.{[], _≡_, sym, ap, _∙_, _≢_, ⊎-elim, Bool, false, cond, _&&_, and-true, List, _∷_, _++_, ℕ, suc, _+_, _≤_, _<_}
 use Rattle.flash.proofs.Kit.{add-one, arith, bitOr, bitXor, or-add-and, or-zero-l, or-zero-r, and-le-l, and-le-r, xor-self, eqb, ltb, length}
 use Rattle.flash.proofs.Kit.{getD, set, take, drop, take-suc, drop-cons, append-snoc, getD-at, length-take-le, drop-set-lt, drop-drop}
-use Rattle.flash.proofs.Kit.{eqb-true, eq-eqb, ne-eqb, lt-ltb, le-ltb, set-at}
+use Rattle.flash.proofs.Kit.{eqb-true, eq-eqb, ne-eqb, lt-ltb, le-ltb, set-at, append-assoc, append-nil, take-at, drop-at, take-add, take-all, drop-of-length-le}
 use Rattle.flash.specs.Lists.{all}
 use Rattle.flash.proofs.Bools.{bool-eq, both, and-both}
 use Rattle.flash.proofs.Comparisons.{eq-cases, lt-cases}
@@ -21,6 +21,21 @@ module _ (new old : List ℕ) (i : ℕ) (e : length new ≡ length old) (l : i <
 
   pub front-more : set (take i new ++ drop i old) i (getD new i 0) ≡ take (i + 1) new ++ drop (i + 1) old
   front-more = over-more (take i new) old i (getD new i 0) (length-take-le i new (omega arith)) l ∙ rw (add-one i, take-suc new i 0 (omega arith))
+
+pub front-all : (new old : List ℕ) (i : ℕ) → length new ≡ length old → length old ≤ i → take i new ++ drop i old ≡ new
+front-all new old i e l = rw (take-all i new (omega arith), drop-of-length-le old {i = i} l, append-nil)
+
+-- The same, a piece of n elements a turn: what stands at the piece, and the list once the piece is put there.
+module _ (new old area : List ℕ) (i n : ℕ) (e : length new ≡ length old) (l : i ≤ length old) (is : area ≡ take i new ++ drop i old) where
+  from : drop i area ≡ drop i old
+  from = rw is (drop-at (take i new) (drop i old) i (length-take-le i new (omega arith)))
+
+  pub piece-at : take n (drop i area) ≡ take n (drop i old)
+  piece-at = rw from
+
+  pub piece-put : take i area ++ (take n (drop i new) ++ drop n (drop i area)) ≡ take (i + n) new ++ drop (i + n) old
+  piece-put =
+      rw (from, is, take-at (take i new) (drop i old) i (length-take-le i new (omega arith)), take-add i n new, append-assoc, drop-drop)
 
 -- what lies behind the element that is written stays
 pub rest-more : (area old : List ℕ) (i value : ℕ) → drop i area ≡ drop i old → drop (i + 1) (set area i value) ≡ drop (i + 1) old

@@ -3,7 +3,7 @@ use Rattle.flash.proofs.Kit.{_≡_, sym, ap, _∙_, ⊎-elim, List, [],
 use Rattle.flash.proofs.Kit.{suc-mul, add-mul, mul-assoc, mul-zero, mul-le-mul-right, mod-lt, div-add-mod', div-lt-iff-lt-mul, arith, length}
 use Rattle.flash.proofs.Kit.{getD, take, drop, replicate, length-append, length-take, length-drop, length-replicate}
 use Rattle.flash.proofs.Kit.{replicate-append-replicate, length-take-le, getD-take, getD-drop, drop-drop, ext-getD, take-append-le}
-use Rattle.flash.proofs.Kit.{drop-append-le, drop-append-add, take-append-drop, take-at, drop-at, take-take, zero-sub, unary-clauses, take-nil}
+use Rattle.flash.proofs.Kit.{drop-append-le, drop-append-add, take-append-drop, take-at, drop-at, take-add, take-take, zero-sub, unary-clauses, take-nil}
 use Rattle.flash.specs.Lists.{part, setPart}
 use Rattle.flash.proofs.Comparisons.{ne-lt}
 
@@ -123,6 +123,24 @@ module _ (size i : ℕ) (xs : List ℕ) where
   lent-back new =
       let k : i * size + size - i * size ≡ size = omega arith in
       rw (k, drop-drop)
+
+-- A piece of such a part, of n elements from its element k on.
+module _ (size i k n : ℕ) (xs : List ℕ) (inside : k + n ≤ size) where
+  pub lent-piece : take n (drop (i * size + k) xs) ≡ take n (drop k (part size i xs))
+  unfolding part
+  lent-piece = rw (drop-take k size, take-take n (size - k) (drop k (drop (i * size) xs)) (omega arith), drop-drop)
+
+  pub piece-back : (new : List ℕ) → take (i * size + k) xs ++ (new ++ drop n (drop (i * size + k) xs))
+      ≡ setPart size i xs (take k (part size i xs) ++ (new ++ drop n (drop k (part size i xs))))
+  unfolding part setPart
+  piece-back new =
+      let behind : List ℕ = drop (k + n) (drop (i * size) xs) in
+      let rest : drop n (drop (i * size + k) xs) ≡ behind = rw (drop-drop, drop-drop) (let s : i * size + k + n ≡ i * size + (k + n) = omega arith in rw s) in
+      let left : drop n (drop k (take size (drop (i * size) xs))) ≡ take (size - (k + n)) behind = rw (drop-drop, drop-take) in
+      let last : drop (i * size + size) xs ≡ drop (size - (k + n)) behind =
+      rw (drop-drop, drop-drop) (let s : i * size + size ≡ i * size + (k + n + (size - (k + n))) = omega arith in rw s) in
+      rw (rest, left, last, take-add (i * size) k xs, take-take k size (drop (i * size) xs) (omega arith), append-assoc, append-assoc, append-assoc)
+      (ap (λ (t : List ℕ). take (i * size) xs ++ (take k (drop (i * size) xs) ++ (new ++ t))) (sym (take-append-drop (size - (k + n)) behind)))
 
 -- a lent part that came back filled
 pub filled-back : (size i value : ℕ) (xs back : List ℕ) → i * size + size ≤ length xs

@@ -1,22 +1,13 @@
--- A pass of a sum turn by turn, and a sum that goes into a slot of the store that its pages lie in: the summed pages stay.
-use Rattle.flash.proofs.Kit.{_≡_, _≢_, sym, ap, _∙_, Bool, cond, List, [], _++_, append-nil, ℕ, _+_, _-_, _*_, _≤_, _<_, arith, bitXor, length}
-use Rattle.flash.proofs.Kit.{getD, set, take, drop, length-append, length-take, length-drop, length-take-le, getD-take, getD-drop, drop-drop}
-use Rattle.flash.proofs.Kit.{drop-of-length-le, take-append-drop, take-at, drop-at, take-all, take-set-le, drop-set-add, set-append-left}
+-- A sum that goes into a slot of the store that its pages lie in.
+use Rattle.flash.proofs.Kit.{_≡_, _≢_, sym, ap, _∙_, Bool, cond, List, [], _++_, ℕ, _+_, _*_, _≤_, _<_, arith, length, set, take, drop, length-append}
+use Rattle.flash.proofs.Kit.{length-take, length-drop, length-take-le, drop-drop, take-append-drop, take-at, drop-at, take-set-le, drop-set-add}
+use Rattle.flash.proofs.Kit.{set-append-left}
 use Rattle.flash.specs.Lists.{part, setPart}
-use Rattle.flash.specs.PageSum.{_⊕_, writtenBytes}
+use Rattle.flash.specs.PageSum.{_⊕_}
 use Rattle.flash.specs.declared.slots.Terms.{Terms}
-use Rattle.flash.specs.inner.Terms.{termsOf, sumAt}
-use Rattle.flash.proofs.Loops.{front-at, front-more}
-use Rattle.flash.proofs.Parts.{part-setPart-other}
-use Rattle.flash.proofs.PassLaws.{passed, length-passed, passed-at}
-use Rattle.flash.proofs.Sums.{sum-same}
-
--- what holds of the first n of a list holds of those from i on
-pub rest-each : (P : ℕ → Type 0) (i n : ℕ) (xs : List ℕ) → n ≤ length xs → ((j : ℕ) → j < n → P (getD xs j 0))
-    → (j : ℕ) → j < length (take (n - i) (drop i xs)) → P (getD (take (n - i) (drop i xs)) j 0)
-rest-each P i n xs short each j h =
-    let size = simp length-drop at (length-take (n - i) (drop i xs)) in
-    rw (getD-take (n - i) (drop i xs) j 0 (omega arith), getD-drop) (each (i + j) (omega arith))
+use Rattle.flash.specs.inner.Terms.{EachTerm, sumOf, passed}
+use Rattle.flash.proofs.Parts.{length-part, part-setPart, lent-piece, piece-back}
+use Rattle.flash.proofs.PassLaws.{length-sumOf, length-passed, sumOf-kept, passed-rest, Made, made}
 
 -- a part written over by itself
 pub setPart-self : (size i : ℕ) (xs : List ℕ) → setPart size i xs (part size i xs) ≡ xs
@@ -44,45 +35,66 @@ module _ (size i : ℕ) (xs new now : List ℕ) (fits : i * size + size ≤ leng
   unfolding setPart
   setPart-twice other = rw (← drop-drop size (i * size) now, front, behind, drop-at new (drop (i * size + size) xs) size whole)
 
-  -- a pass sums the same pages, whatever stands in a slot that is none of theirs
-  pub passed-kept : (slots page : List ℕ) (add : Bool) → ((j : ℕ) → j < length slots → getD slots j 0 ≢ i)
-      → passed now size slots page add ≡ passed xs size slots page add
-  passed-kept slots page add apart =
-      let count = length-take 4 slots in
-      ap (λ (s : List ℕ). cond add page [] ⊕ s)
-      (sum-same (λ t. part size t now) (λ t. part size t xs) (take 4 slots)
-      (λ j h. rw (getD-take 4 slots j 0 (omega arith), e) (part-setPart-other size i xs new fits whole (getD slots j 0) (apart j (omega arith)))))
+-- A whole pass into a slot, of a store in which only that slot has changed.
+module _ (p to : ℕ) (store now : List ℕ) (terms : Terms) (add : Bool) (fits : to * p + p ≤ length store) (same : length now ≡ length store)
+    (apart : EachTerm (λ t. t ≢ to) terms) (is : now ≡ setPart p to store (part p to now)) where
+  own : length (part p to now) ≡ p
+  own = length-part p to now (omega arith)
 
--- the page after i turns of a pass
-abbrev pub turned : (store : List ℕ) (p : ℕ) (slots page : List ℕ) (add : Bool) (i : ℕ) → List ℕ
-turned store p slots page add i = take i (passed store p slots page add) ++ drop i page
+  pub slot-passed : passed now p terms add (part p to now) ≡ cond add (part p to now) [] ⊕ sumOf store p terms
+  slot-passed = ap (λ (s : List ℕ). cond add (part p to now) [] ⊕ s) (sumOf-kept p to store (part p to now) now terms fits own is apart)
 
-module _ (store : List ℕ) (p : ℕ) (slots page : List ℕ) (add : Bool) (some : 1 ≤ length slots) (whole : length page ≡ p)
-    (each : (j : ℕ) → j < length slots → getD slots j 0 * p + p ≤ length store) where
-  size : length (passed store p slots page add) ≡ length page
-  size = length-passed store p slots page add some whole each
+  pub slot-part : part p to (setPart p to now (passed now p terms add (part p to now))) ≡ passed now p terms add (part p to now)
+  slot-part = part-setPart p to now (passed now p terms add (part p to now)) (omega arith) (length-passed now p terms add (part p to now) own ∙ own)
 
-  pub length-turned : (i : ℕ) → length (turned store p slots page add i) ≡ p
-  length-turned i = simp (length-append, length-take, length-drop) (omega (arith, size))
+  pub slot-over : setPart p to now (passed now p terms add (part p to now)) ≡ setPart p to store (passed now p terms add (part p to now))
+  slot-over = setPart-twice p to store (part p to now) now fits own is (passed now p terms add (part p to now))
 
-  pub turned-all : (i : ℕ) → p ≤ i → turned store p slots page add i ≡ passed store p slots page add
-  turned-all i h = rw (take-all i (passed store p slots page add) (omega (arith, size)), drop-of-length-le page {i = i} (omega arith), append-nil)
+-- A pass into a slot after i bytes of its page are made: the next piece, and the rest at once.
+module _ (p to : ℕ) (store now : List ℕ) (terms : Terms) (add : Bool) (i : ℕ) (fits : to * p + p ≤ length store) (apart : EachTerm (λ t. t ≢ to) terms)
+    (inside : i ≤ p)
+    (is : now ≡ setPart p to store (take i (passed store p terms add (part p to store)) ++ drop i (part p to store))) where
+  abbrev page : List ℕ
+  page = part p to store
 
-  -- a turn more: the bytes are read in a store that has the same pages
-  pub turned-more : (now : List ℕ) (terms : Terms) (i old added byte : ℕ) → passed now p slots page add ≡ passed store p slots page add
-      → terms ≡ termsOf slots → i < p
-      → old ≡ getD (turned store p slots page add i) i 0
-      → added ≡ sumAt now p terms i
-      → byte ≡ bitXor (cond add old 0) added
-      → set (turned store p slots page add i) i byte ≡ turned store p slots page add (i + 1)
-  turned-more now terms i old added byte same a h e f g =
-      let new : List ℕ = passed store p slots page add in
-      let byte-is : byte ≡ getD new i 0 = g
-      ∙ rw (e, f, a, front-at new page i size (omega arith)) (passed-at now p slots page add some i h)
-      ∙ ap (λ (s : List ℕ). getD s i 0) same in
-      rw byte-is (front-more new page i size (omega arith))
+  abbrev new : List ℕ
+  new = passed store p terms add page
 
--- the bytes of a slot's page, cut out by its first and last
-pub counted : (p to : ℕ) (store : List ℕ) → writtenBytes (take (to * p + p - to * p) (drop (to * p) store)) ≡ writtenBytes (part p to store)
-unfolding part
-counted p to store = (let all : to * p + p - to * p ≡ p = omega arith in rw all)
+  abbrev mid : List ℕ
+  mid = take i new ++ drop i page
+
+  abbrev sum : List ℕ
+  sum = sumOf store p terms
+
+  whole : length page ≡ p
+  whole = length-part p to store fits
+
+  size : length mid ≡ p
+  size = simp (length-append, length-take, length-drop) (omega (arith, whole, length-passed store p terms add page whole))
+
+  mid-is : part p to now ≡ mid
+  mid-is = ap (part p to) is ∙ part-setPart p to store mid fits size
+
+  kept : sumOf now p terms ≡ sum
+  kept = sumOf-kept p to store mid now terms fits size is apart
+
+  pub slot-piece : (n : ℕ) (piece : List ℕ) → i + n ≤ p
+      → piece ≡ cond add (take n (drop (to * p + i) now)) [] ⊕ take n (drop i (sumOf now p terms))
+      → Made add page sum (part p to now) piece i n
+  slot-piece n piece h e = made add page sum (part p to now) piece i n (length-sumOf store p terms ∙ sym whole) (omega (arith, whole)) mid-is
+      (e ∙ rw (lent-piece p to i n now h, kept))
+
+  pub slot-put : (n : ℕ) (piece : List ℕ) → i + n ≤ p → Made add page sum (part p to now) piece i n
+      → take (to * p + i) now ++ (piece ++ drop n (drop (to * p + i) now)) ≡ setPart p to store (take (i + n) new ++ drop (i + n) page)
+  slot-put n piece h m =
+      piece-back p to i n now h piece
+      ∙ ap (setPart p to now) (m .put)
+      ∙ setPart-twice p to store mid now fits size is (take (i + n) new ++ drop (i + n) page)
+
+  pub slot-rest : setPart p to now (take i (part p to now) ++ drop i (passed now p terms add (part p to now))) ≡ setPart p to store new
+  slot-rest =
+      let before : length (take i new) ≡ i = length-take-le i new (omega (arith, whole, length-passed store p terms add page whole)) in
+      let behind : drop i (passed now p terms add mid) ≡ drop i new = passed-rest add mid (sumOf now p terms) i
+      ∙ rw (kept, drop-at (take i new) (drop i page) i before) (sym (passed-rest add page sum i)) in
+      rw (mid-is, behind, take-at (take i new) (drop i page) i before, take-append-drop)
+      (setPart-twice p to store mid now fits size is new)

@@ -1,6 +1,6 @@
 -- Laws of the page sum. `⊕` fills the shorter page up with zeros, so most of them ask nothing of lengths.
 use Rattle.flash.proofs.Kit.{_≡_, refl, sym, ap, ap₂, _∙_, List, [], _∷_, _++_, ℕ, zero, suc, _≤_, _<_, max, not-suc-le-zero, le-of-suc-le-suc}
-use Rattle.flash.proofs.Kit.{arith, length, getD, bitXor, xor-comm, xor-zero-r}
+use Rattle.flash.proofs.Kit.{arith, length, getD, take, drop, bitXor, xor-comm, xor-zero-r}
 use Rattle.flash.specs.PageSum.{_⊕_, sum}
 use Rattle.flash.proofs.Xor.{xor-assoc, xor-cancel}
 
@@ -43,6 +43,21 @@ unfolding _⊕_
 ⊕-at (x ∷ xs) [] i = sym (xor-zero-r (getD (x ∷ xs) i 0))
 ⊕-at (x ∷ xs) (y ∷ ys) zero = refl
 ⊕-at (x ∷ xs) (y ∷ ys) (suc i) = ⊕-at xs ys i
+
+-- a part of a sum is the sum of the parts
+pub take-⊕ : (n : ℕ) (a b : List ℕ) → take n (a ⊕ b) ≡ take n a ⊕ take n b
+unfolding _⊕_
+take-⊕ zero a b = refl
+take-⊕ (suc n) [] b = refl
+take-⊕ (suc n) (x ∷ xs) [] = refl
+take-⊕ (suc n) (x ∷ xs) (y ∷ ys) = ap (λ (t : List ℕ). bitXor x y ∷ t) (take-⊕ n xs ys)
+
+pub drop-⊕ : (n : ℕ) (a b : List ℕ) → drop n (a ⊕ b) ≡ drop n a ⊕ drop n b
+unfolding _⊕_
+drop-⊕ zero a b = refl
+drop-⊕ (suc n) [] b = refl
+drop-⊕ (suc n) (x ∷ xs) [] = sym (⊕-nil (drop n xs))
+drop-⊕ (suc n) (x ∷ xs) (y ∷ ys) = drop-⊕ n xs ys
 
 module _ (page : ℕ → List ℕ) where
   pub sum-append : (xs ys : List ℕ) → sum page (xs ++ ys) ≡ sum page xs ⊕ sum page ys

@@ -9,10 +9,9 @@ ghost use Rattle.flash.specs.Lists.{all};
 ghost use Rattle.flash.specs.PageSum.{writtenBytes};
 use crate::ERASED;
 use crate::casts::narrow;
-use crate::casts::wide;
 
 // As many bytes as are counted in a byte at once.
-const FEW: usize = 128;
+pub const FEW: usize = 128;
 
 // Every byte of the part becomes `value`.
 pub fn fill(part: &mut [u8], value: u8)
@@ -87,7 +86,7 @@ pub fn copy(target: &mut [u8], source: &[u8])
 }
 
 // How many of a few bytes are not erased. They are counted in a byte, since vector instructions add as many at once as they compare.
-fn count_few(bytes: &[u8]) -> u8
+pub fn count_few(bytes: &[u8]) -> u8
     requires { ⌜ length (now bytes) ≤ 128 ⌝ }
     ensures { λ r. ⌜ r ≡ writtenBytes (now (bytes .entry)) ⌝ }
 {
@@ -98,18 +97,4 @@ fn count_few(bytes: &[u8]) -> u8
         i += 1;
     }
     count
-}
-
-// How many bytes of a page are not erased.
-pub fn count_written(page: &[u8]) -> usize
-    ensures { λ r. ⌜ r ≡ writtenBytes (now (page .entry)) ⌝ }
-{
-    let mut count = 0;
-    let mut i = 0;
-    while FEW <= page.len() - i {
-        let end = i + FEW;
-        count += wide(count_few(&page[i..end]));
-        i = end;
-    }
-    count + wide(count_few(&page[i..page.len()]))
 }

@@ -1,10 +1,12 @@
 -- The sum as the code takes it, four pages a pass.
-use mathlib.Core.Bool.{cond}
-use mathlib.Core.List.{List}
-use Prim.Native.Nat.{ℕ, _+_, _*_, _≤_}
+use mathlib.Core.Bool.{Bool, cond}
+use mathlib.Core.List.{List, [], map}
+use Prim.Native.Nat.{ℕ, _+_, _*_}
 use lib.Bits.{bitXor}
 use lib.Dec.{ltb}
 use lib.ListN.{length, getD}
+use Rattle.flash.specs.Lists.{range}
+use Rattle.flash.specs.PageSum.{_⊕_}
 use Rattle.flash.specs.declared.slots.Terms.{Terms}
 
 -- the slot at an index, or the first behind the last
@@ -14,12 +16,12 @@ slotAt slots at = getD slots at (getD slots 0 0)
 abbrev pub termsOf : (slots : List ℕ) → Terms
 termsOf slots = record { count = length slots; one = slotAt slots 0; two = slotAt slots 1; three = slotAt slots 2; four = slotAt slots 3 }
 
--- the pages of all four lie in the store
-pub record TermsFit (p : ℕ) (terms : Terms) (size : ℕ) : Type 0 where
-  pub one-fits : terms .one * p + p ≤ size
-  pub two-fits : terms .two * p + p ≤ size
-  pub three-fits : terms .three * p + p ≤ size
-  pub four-fits : terms .four * p + p ≤ size
+-- what holds of all four slots
+pub record EachTerm (P : ℕ → Type 0) (terms : Terms) : Type 0 where
+  pub first : P (terms .one)
+  pub second : P (terms .two)
+  pub third : P (terms .three)
+  pub fourth : P (terms .four)
 
 -- the sum of the first of four bytes
 abbrev pub byteSum : (terms a b c d : ℕ) → ℕ
@@ -31,3 +33,11 @@ abbrev pub sumAt : (store : List ℕ) (p : ℕ) (terms : Terms) (i : ℕ) → �
 sumAt store p terms i =
     byteSum (terms .count)
     (getD store (terms .one * p + i) 0) (getD store (terms .two * p + i) 0) (getD store (terms .three * p + i) 0) (getD store (terms .four * p + i) 0)
+
+-- the sum of the terms' pages
+unfoldable pub sumOf : (store : List ℕ) (p : ℕ) (terms : Terms) → List ℕ
+sumOf store p terms = map (λ i. sumAt store p terms i) (range 0 p)
+
+-- what a pass makes of a page: that sum, or the page with it added
+abbrev pub passed : (store : List ℕ) (p : ℕ) (terms : Terms) (add : Bool) (page : List ℕ) → List ℕ
+passed store p terms add page = cond add page [] ⊕ sumOf store p terms
