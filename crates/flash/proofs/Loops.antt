@@ -1,8 +1,8 @@
 -- What one turn of a loop over bytes does.
 use Rattle.flash.proofs.Kit.{[], _≡_, sym, ap, _∙_, _≢_, ⊎-elim, Bool, false, cond, _&&_, and-true, List, _∷_, _++_, ℕ, suc, _+_, _≤_, _<_}
-use Rattle.flash.proofs.Kit.{add-one, arith, bitOr, bitXor, or-add-and, or-zero-l, or-zero-r, and-le-l, and-le-r, xor-self, eqb, ltb, length}
+use Rattle.flash.proofs.Kit.{add-one, arith, bitOr, bitXor, or-add-and, or-lt, or-zero-l, or-zero-r, and-le-l, and-le-r, xor-self, eqb, ltb, length}
 use Rattle.flash.proofs.Kit.{getD, set, take, drop, take-suc, drop-cons, append-snoc, getD-at, length-take-le, drop-set-lt, drop-drop}
-use Rattle.flash.proofs.Kit.{eqb-true, eq-eqb, ne-eqb, lt-ltb, le-ltb, set-at, append-assoc, append-nil, take-at, drop-at, take-add, take-all, drop-of-length-le}
+use Rattle.flash.proofs.Kit.{eqb-true, eq-eqb, ne-eqb, ltb-true, lt-ltb, le-ltb, _^_, set-at, append-assoc, append-nil, take-at, drop-at, take-add, take-all, drop-of-length-le}
 use Rattle.flash.specs.Lists.{all}
 use Rattle.flash.proofs.Bools.{bool-eq, both, and-both}
 use Rattle.flash.proofs.Comparisons.{eq-cases, lt-cases}
@@ -45,6 +45,24 @@ rest-more area old i value e = drop-set-lt (i + 1) area i value (omega arith) �
 pub all-more : (test : ℕ → Bool) (xs : List ℕ) (i : ℕ) → i < length xs → all test (take (i + 1) xs) ≡ (all test (take i xs) && test (getD xs i 0))
 unfolding all
 all-more test xs i h = rw (add-one i, take-suc xs i 0, all-append test (take i xs), and-true)
+
+-- A loop that gathers the bits of bytes: they are below a power of two while each byte is.
+or-below : (k limit a b : ℕ) → limit ≡ 2 ^ k → ltb (bitOr a b) limit ≡ (ltb a limit && ltb b limit)
+or-below k limit a b e =
+    bool-eq _ _
+    (λ q.
+    let small : bitOr a b < limit = ltb-true (bitOr a b) limit q in
+    let sum = or-add-and a b in
+    and-both _ _ (lt-ltb a limit (omega (arith, and-le-r a b))) (lt-ltb b limit (omega (arith, and-le-l a b))))
+    (λ q.
+    let h = both _ _ q in
+    lt-ltb (bitOr a b) limit (rw e (or-lt k a b (rw e at (ltb-true a limit (h .0))) (rw e at (ltb-true b limit (h .1))))))
+
+pub bits-more : (k limit : ℕ) (bytes : List ℕ) (bits i : ℕ) → limit ≡ 2 ^ k → i < length bytes
+    → ltb bits limit ≡ all (λ byte. ltb byte limit) (take i bytes)
+    → ltb (bitOr bits (getD bytes i 0)) limit ≡ all (λ byte. ltb byte limit) (take (i + 1) bytes)
+bits-more k limit bytes bits i e h f =
+    or-below k limit bits (getD bytes i 0) e ∙ rw f (sym (all-more (λ byte. ltb byte limit) bytes i h))
 
 -- A loop that gathers the bits in which bytes differ from a value: they are none while each byte is that value.
 or-none : (a b : ℕ) → eqb (bitOr a b) 0 ≡ (eqb a 0 && eqb b 0)

@@ -2,7 +2,7 @@
 
 ghost use mathlib.Core.Path.{_≡_};
 ghost use mathlib.Core.Bool.{cond};
-ghost use Prim.Native.Nat.{ℕ, _≤_, _<_};
+ghost use Prim.Native.Nat.{ℕ, _^_, _≤_, _<_};
 ghost use lib.Dec.{eqb, ltb};
 ghost use lib.ListN.{length, getD, replicate};
 ghost use Rattle.flash.specs.Lists.{all};
@@ -38,17 +38,18 @@ pub fn is_filled(bytes: &[u8], value: u8) -> bool
     different == 0
 }
 
-// Whether each of the bytes is below `limit`, gathered likewise.
+// Whether each of the bytes is below `limit`, a power of two: then so are the bits of all together, gathered likewise.
 pub fn are_below(bytes: &[u8], limit: u8) -> bool
+    requires { ⌜ ((k : ℕ) × (limit ≡ 2 ^ k)) ⌝ }
     ensures { λ r. ⌜ r ≡ all (λ byte. ltb byte limit) (now (bytes .entry)) ⌝ }
 {
-    let mut below = true;
+    let mut bits: u8 = 0;
     let mut i = 0;
     while i < bytes.len() {
-        below = below & (bytes[i] < limit);
+        bits = bits | bytes[i];
         i += 1;
     }
-    below
+    bits < limit
 }
 
 // A number, or 0.

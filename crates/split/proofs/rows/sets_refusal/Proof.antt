@@ -1,5 +1,5 @@
 -- `sets_refusal` tells whether the list is one-to-one and the sets a split of it, and then leaves the sets by destination.
-use Rattle.flash.proofs.Kit.{_≡_, sym, ap₂, _∙_, _&&_, _-_, _*_, _≤_, needs, not-true, not-false, arith}
+use Rattle.flash.proofs.Kit.{_≡_, refl, sym, ap₂, _∙_, _&&_, _-_, _*_, _≤_, needs, not-true, not-false, arith}
 use Rattle.flash.proofs.Bounds.{product-le}
 use Rattle.split.specs.OneToOne.{isOneToOne}
 use Rattle.split.specs.Split.{isSplit}
@@ -32,7 +32,7 @@ part-are-below-end c =
     omega (arith, few (f .before .before .before .before .before), f .sets-by-destination .kept)
 
 are-below-requires : tie.Need-are-below-requires
-are-below-requires c κs = search needs
+are-below-requires c κs = (7, refl)
 
 same-length : tie.Need-same-length
 same-length c = search needs
@@ -56,7 +56,7 @@ returns c =
     (rw no, λ z. absurd (omega arith))
 
 are-below-requires-2 : tie.Need-are-below-requires-2
-are-below-requires-2 c κs = search needs
+are-below-requires-2 c κs = (6, refl)
 
 rows-have-each-requires : tie.Need-rows-have-each-requires
 rows-have-each-requires c κs =
