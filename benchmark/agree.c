@@ -36,6 +36,9 @@ static void spoil(struct scene *z, uint64_t *random)
     case 18: memset(z->pins, 1, z->pins_len); z->list[0] ^= 1; break;
     case 19: memset(z->pins, 1, z->pins_len); z->sets[0] = 255; break;
     case 20: memset(z->pins, 1, z->pins_len); memset(z->marks, 3, z->marks_len); break;
+    case 21: mover_drop(z->list, random_below(random, z->n * z->m)); break;
+    case 22: memset(z->list, 255, z->list_len); break;
+    case 23: mover_send(z->list, random_below(random, z->n * z->m), 65534 - random_below(random, 2)); break;
     default: break;
     }
 }
@@ -79,12 +82,26 @@ static void pin_some(struct scene *z, uint64_t *random)
             z->pins[k] = (uint8_t)(1 + random_below(random, 255));
 }
 
+/* Half of the lists drop one page in so many, from all to one in seven, and one dropped page in two is pinned. */
+static void drop_some(struct scene *z, uint64_t *random)
+{
+    uint32_t count = z->n * z->m, in = 1 + random_below(random, 7);
+    if (random_below(random, 2) == 0)
+        return;
+    for (uint32_t k = 0; k < count; k++)
+        if (random_below(random, in) == 0) {
+            mover_drop(z->list, k);
+            z->pins[k] = (uint8_t)random_below(random, 2);
+        }
+}
+
 /* Makes a move that stands somewhere. */
 static void make_standing(struct scene *z, const struct mover *mover, uint32_t place, uint32_t n, uint32_t m, uint64_t *random)
 {
     scene_make(z, n, m, any_length(n * m, random), random_below(random, 8) == 0 ? CYCLE_UP : RANDOM, random);
     mix_erased(z, random);
     pin_some(z, random);
+    drop_some(z, random);
     z->s = random_below(random, 3);
     memset(z->marks + m, (int)z->s, (size_t)n * m);
     call_split(mover, z);

@@ -241,7 +241,7 @@ static void print_stack(void)
     static const char *const names[] = {"split", "run", "mend", "read", "hex read, of records that do not rise", "hex write"};
     static uint8_t text[4096];
     struct scene standing, at_rest;
-    make_standing(&standing, 64, 64, 4096, RANDOM, 4160);
+    make_standing(&standing, 64, 64, 4096, DROPPING, 4160);
     make_standing(&at_rest, 1, 1, 1024, RANDOM, 0);
     at_rest.text = text;
     at_rest.text_len = mover_hex_bytes(1, 1, 1024);
@@ -279,8 +279,10 @@ int main(int count, char **words)
     compare();
     printf("library / plain C, best of %" PRIu32 " rounds\n", rounds);
     line("split, n = m = 64, random lists", 64, 1, RANDOM, 0, 20, split_job);
+    line("split, n = m = 64, random lists, every tenth page dropped", 64, 1, DROPPING, 0, 20, split_job);
     line("split, n = m = 64, page p of block i to block p", 64, 1, TRANSPOSED, 0, 1, split_job);
     whole_move("whole move, n = m = 64, P = 4096, random list", RANDOM);
+    whole_move("whole move, every tenth page dropped, random list", DROPPING);
     whole_move("whole move, one cycle of all blocks in each set, up", CYCLE_UP);
     whole_move("whole move, one cycle of all blocks in each set, down", CYCLE_DOWN);
     line("whole move in one call, n = m = 16, P = 512", 16, 512, RANDOM, 0, 1, move_job);
@@ -288,6 +290,7 @@ int main(int count, char **words)
     line("read, n = m = 64, P = 4096, random list, a quarter of the move done", 64, 4096, RANDOM, 65 * 32 + 7, 8, read_job);
     line("read, half of it", 64, 4096, RANDOM, 65 * 64 + 7, 8, read_job);
     line("read, three quarters of it", 64, 4096, RANDOM, 65 * 96 + 7, 8, read_job);
+    line("read, every tenth page dropped, a quarter of it", 64, 4096, DROPPING, 65 * 32 + 7, 7, read_job);
     line("read, one cycle of all blocks in each set, a quarter of it", 64, 4096, CYCLE_UP, 65 * 32 + 7, 8, read_job);
     line("read, one cycle of all blocks in each set, three quarters of it", 64, 4096, CYCLE_UP, 65 * 96 + 7, 8, read_job);
     line("mend, n = m = 64, P = 4096, a block to erase", 64, 4096, RANDOM, 65 * 30 + 20, 50, mend_job);

@@ -1,4 +1,4 @@
-/* By hand: is the list one-to-one, does it keep what is pinned, are the sets a split of it, and the sets as tables. */
+/* By hand: is the list one-to-one, or can be completed to be; does it keep what is pinned; are the sets a split of it; the sets as tables. */
 #include "plain_inner.h"
 
 /* Numbers below 4,096 may index a table. */
@@ -18,26 +18,65 @@ static uint8_t highest(const uint8_t *bytes, size_t count)
     return high;
 }
 
+/* The places of kept pages; 0 if one is out of range or met twice. */
+static int meet_kept(const uint8_t *lent, size_t originals, uint8_t *met)
+{
+    memset(met, 0, originals);
+    for (size_t k = 0; k < originals; k++) {
+        uint32_t number = entry(lent, k);
+        if (number == DROPPED)
+            continue;
+        if (number >= originals || met[number])
+            return 0;
+        met[number] = 1;
+    }
+    return 1;
+}
+
+/* Lists without dropped pages, which most are, have small numbers only, and are not yet looked at for numbers met twice. */
+int plain_complete(struct list *list, const uint8_t *lent, uint32_t originals)
+{
+    uint8_t met[ORIGINALS];
+    size_t place = 0;
+    list->lent = list->whole = lent;
+    if (numbers_small(lent, originals))
+        return 1;
+    if (!meet_kept(lent, originals, met))
+        return 0;
+    memcpy(list->room, lent, 2 * (size_t)originals);
+    list->whole = list->room;
+    for (size_t k = 0; k < originals; k++)
+        if (entry(lent, k) == DROPPED) {
+            while (met[place])
+                place++;
+            list->room[2 * k] = (uint8_t)(place & 255);
+            list->room[2 * k + 1] = (uint8_t)(place >> 8);
+            place++;
+        }
+    return 1;
+}
+
 /* As many numbers as places: none is met twice, nor out of range, if every place is met. */
 int plain_one_to_one(const uint8_t *list, uint32_t originals)
 {
     uint8_t met[ORIGINALS];
-    if (!numbers_small(list, originals))
-        return 0;
     memset(met, 0, originals);
     for (size_t k = 0; k < originals; k++)
         met[entry(list, k)] = 1;
     return all_are(met, originals, 1);
 }
 
-/* Most stores have no pins, which memcmp sees soonest. Else a loop of 16 bits without a branch, which vectors take. */
+/* Most stores have no pins, which memcmp sees soonest. Else a loop of 16 bits without a branch, which vectors take. A dropped page is not
+ * sent anywhere. */
 int plain_moves_pinned(const uint8_t *list, const uint8_t *pins, uint32_t originals)
 {
     uint16_t moved = 0;
     if (all_are(pins, originals, 0))
         return 0;
-    for (uint32_t k = 0; k < originals; k++)
-        moved |= (uint16_t)((uint16_t)(entry(list, k) ^ k) & (pins[k] == 0 ? 0 : 0xFFFF));
+    for (uint32_t k = 0; k < originals; k++) {
+        uint16_t number = (uint16_t)entry(list, k);
+        moved |= (uint16_t)((number ^ k) & (pins[k] == 0 ? 0 : 0xFFFF) & (number == DROPPED ? 0 : 0xFFFF));
+    }
     return moved != 0;
 }
 
@@ -60,7 +99,7 @@ static int carries(const struct sizes *z, const uint8_t *list, const uint8_t *se
 {
     size_t originals = z->n * z->m, m = z->m;
     uint64_t all = ~UINT64_C(0) >> (64 - m), lacking = 0;
-    if (highest(sets, originals) >= m || !numbers_small(list, originals))
+    if (highest(sets, originals) >= m)
         return 0;
     memset(set_of, NONE, originals);
     for (size_t k = 0; k < originals;) {
@@ -81,7 +120,7 @@ static int carries(const struct sizes *z, const uint8_t *list, const uint8_t *se
 
 uint32_t plain_refusal(const struct sizes *z, const uint8_t *list, uint64_t list_len, const uint8_t *pins, uint64_t pins_len,
                        const uint8_t *sets, uint64_t sets_len, uint64_t store_len, uint64_t marks_len, uint64_t work_len,
-                       uint8_t *set_of)
+                       struct list *completed, uint8_t *set_of)
 {
     uint32_t originals, slots;
     int good;
@@ -92,8 +131,10 @@ uint32_t plain_refusal(const struct sizes *z, const uint8_t *list, uint64_t list
     if (list_len != 2 * originals || pins_len != originals || sets_len != originals || store_len != (uint64_t)slots * z->p
         || marks_len != slots || work_len != z->p)
         return 2;
-    good = carries(z, list, sets, set_of);
-    if (!good && !plain_one_to_one(list, originals))
+    if (!plain_complete(completed, list, originals))
+        return 3;
+    good = carries(z, completed->whole, sets, set_of);
+    if (!good && !plain_one_to_one(completed->whole, originals))
         return 3;
     if (plain_moves_pinned(list, pins, originals))
         return 11;

@@ -6,7 +6,7 @@
 #include <stdint.h>
 #include <string.h>
 
-enum { BLOCKS = 64, PAGES = 64, ORIGINALS = BLOCKS * PAGES, ERASED = 255, NONE = 255 };
+enum { BLOCKS = 64, PAGES = 64, ORIGINALS = BLOCKS * PAGES, ERASED = 255, NONE = 255, DROPPED = 65535 };
 
 struct sizes {
     uint32_t n, m, p, s;
@@ -59,13 +59,25 @@ struct row {
     uint8_t page[BLOCKS], to[BLOCKS], from[BLOCKS];
 };
 
-/* plain_check.c: lists, pins, sets, and the refusals 1, 2, 3, 11 and 4 of run and read. set_of gets the set of the original that goes to
- * each number. */
+/* A list as lent, and with places for its dropped pages: the lent one itself if it has none. */
+struct list {
+    const uint8_t *lent, *whole;
+    uint8_t room[2 * ORIGINALS];
+};
+
+static inline int drops(const struct list *list, uint32_t k)
+{
+    return list->whole != list->lent && entry(list->lent, k) == DROPPED;
+}
+
+/* plain_check.c: lists, pins, sets, and the refusals 1, 2, 3, 11 and 4 of run and read. The list is completed, and set_of gets the set of the
+ * original that goes to each number. */
+int plain_complete(struct list *list, const uint8_t *lent, uint32_t originals);
 int plain_one_to_one(const uint8_t *list, uint32_t originals);
 int plain_moves_pinned(const uint8_t *list, const uint8_t *pins, uint32_t originals);
 uint32_t plain_refusal(const struct sizes *z, const uint8_t *list, uint64_t list_len, const uint8_t *pins, uint64_t pins_len,
                        const uint8_t *sets, uint64_t sets_len, uint64_t store_len, uint64_t marks_len, uint64_t work_len,
-                       uint8_t *set_of);
+                       struct list *completed, uint8_t *set_of);
 void plain_row(struct row *row, const struct sizes *z, const uint8_t *list, const uint8_t *sets, uint32_t set);
 void plain_rows(struct row *rows, const struct sizes *z, const uint8_t *list, const uint8_t *sets);
 
@@ -79,7 +91,8 @@ struct moment {
 int plain_moment(const struct sizes *z, const uint8_t *marks, struct moment *found);
 void plain_erase(const struct sizes *z, uint8_t *store, uint8_t *marks, uint32_t block);
 
-/* plain_sum.c: `to` becomes the sum of the pages, which are 1 or more and lie elsewhere. Returns how many of its bytes are not 255. */
-uint32_t plain_sum(uint8_t *to, const uint8_t *const *pages, uint32_t count, uint32_t bytes);
+/* plain_sum.c: `to` becomes the sum of the pages, which lie elsewhere, turned over if 255s are to be added. Returns how many of its bytes
+ * are not 255. */
+uint32_t plain_sum(uint8_t *to, const uint8_t *const *pages, uint32_t count, int turned, uint32_t bytes);
 
 #endif

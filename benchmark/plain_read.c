@@ -3,8 +3,10 @@
 #include "plain_inner.h"
 
 struct reading {
-    const uint8_t *store, *list, *pages[BLOCKS + 1];
+    const uint8_t *store, *pages[BLOCKS + 1];
     uint32_t n, m, p, set;
+    int turned;                            /* whether 255s are in the sum */
+    struct list list;
     struct row row;
 };
 
@@ -25,10 +27,10 @@ static const uint8_t *plain(const struct reading *r, uint32_t v)
 
 static const uint8_t *final(const struct reading *r, uint32_t v)
 {
-    return slot(r, r->m + entry(r->list, v * r->m + r->row.page[v]));
+    return slot(r, r->m + entry(r->list.whole, v * r->m + r->row.page[v]));
 }
 
-/* Back from v to a block from `whole` on, which is plain, or to the top, which is known once the walk has come round. */
+/* Back from v to a block from `whole` on, which is plain or dropped, or to the top, which is known once the walk has come round. */
 static uint32_t back(struct reading *r, uint32_t v, uint32_t whole)
 {
     uint32_t u = v, count = 0, top = 0, to_top = 0;
@@ -40,8 +42,9 @@ static uint32_t back(struct reading *r, uint32_t v, uint32_t whole)
         }
         u = r->row.from[u];
         if (u >= whole) {
-            r->pages[count++] = plain(r, u);
-            return count;
+            r->turned = drops(&r->list, u * r->m + r->row.page[u]);
+            r->pages[count] = plain(r, u);
+            return count + !r->turned;
         }
     } while (u != v);
     return to_top;
@@ -97,7 +100,7 @@ uint32_t plain_read(uint32_t n, uint32_t m, uint32_t page_bytes, uint32_t s,
     struct moment at;
     struct reading r;
     uint8_t set_of[ORIGINALS];
-    uint32_t number = plain_refusal(&z, list, list_len, pins, pins_len, sets, sets_len, store_len, marks_len, work_len, set_of);
+    uint32_t number = plain_refusal(&z, list, list_len, pins, pins_len, sets, sets_len, store_len, marks_len, work_len, &r.list, set_of);
     *count = *written_bytes = 0;
     if (number != 0)
         return number;
@@ -105,14 +108,18 @@ uint32_t plain_read(uint32_t n, uint32_t m, uint32_t page_bytes, uint32_t s,
         return 6;
     if (original >= n * m)
         return 7;
+    if (drops(&r.list, original)) {
+        memset(work, ERASED, page_bytes);
+        return 0;
+    }
     r.store = store;
-    r.list = list;
+    r.turned = 0;
     r.n = n;
     r.m = m;
     r.p = page_bytes;
     r.set = sets[original];
-    plain_row(&r.row, &z, list, sets, r.set);
+    plain_row(&r.row, &z, r.list.whole, sets, r.set);
     *count = gather(&r, &at, original / m);
-    *written_bytes = plain_sum(work, r.pages, *count, page_bytes);
+    *written_bytes = plain_sum(work, r.pages, *count, r.turned, page_bytes);
     return 0;
 }

@@ -4,12 +4,14 @@
 
 struct running {
     struct sizes z;
-    const uint8_t *list, *sets;
+    const uint8_t *sets;
     uint8_t *store, *marks;
     uint32_t turn, filled;                 /* the place: turns of m + 1 steps, and the pages written in this one */
     int all_rows;                          /* whether all rows are made; if not, each write makes its own */
     const uint8_t *last;                   /* the page written last */
     uint32_t bytes;                        /* of all pages written, those that are not 255 */
+    int turned;                            /* whether the page to be written has 255s in its sum */
+    struct list list;
     uint8_t set_of[ORIGINALS];
     struct row rows[PAGES];
 };
@@ -22,7 +24,7 @@ static uint8_t *slot(const struct running *r, uint32_t number)
 static const struct row *row_of(struct running *r, uint32_t set)
 {
     if (!r->all_rows)
-        plain_row(&r->rows[set], &r->z, r->list, r->sets, set);
+        plain_row(&r->rows[set], &r->z, r->list.whole, r->sets, set);
     return &r->rows[set];
 }
 
@@ -44,19 +46,37 @@ static int stands(const struct running *r)
         && all_are(slot(r, blank), (uint64_t)(above - blank) * z->p, ERASED);
 }
 
+static int dropped(const struct running *r, const struct row *row, uint32_t v)
+{
+    return drops(&r->list, v * r->z.m + row->page[v]);
+}
+
+/* The plain page of data block v is one more, unless it is dropped. */
+static uint32_t add_plain(struct running *r, const struct row *row, uint32_t v, const uint8_t **pages, uint32_t count)
+{
+    if (dropped(r, row, v)) {
+        r->turned = !r->turned;
+        return count;
+    }
+    pages[count] = slot(r, (v + 1) * r->z.m + row->page[v]);
+    return count + 1;
+}
+
 /* The pages of the sum that block f gets for a set in the first pass: the plain page of data block f, and its predecessor's, back
- * over coded pages to a plain one. If the walk comes round to f, that is the top. */
+ * over coded pages to a plain one. If the walk comes round to f, that is the top. Of a predecessor that is dropped nothing is looked at. */
 static uint32_t coded_pages(struct running *r, uint32_t f, uint32_t set, const uint8_t **pages)
 {
     const struct row *row = row_of(r, set);
-    uint32_t m = r->z.m, count = 1, v;
-    pages[0] = slot(r, (f + 1) * m + row->page[f]);
+    uint32_t m = r->z.m, own = add_plain(r, row, f, pages, 0), count = own, v;
     for (v = row->from[f]; v < f; v = row->from[v])
         pages[count++] = slot(r, v * m + set);
     if (v == f)
-        return 1;
-    pages[count++] = slot(r, (v + 1) * m + row->page[v]);
-    return count;
+        return own;
+    if (dropped(r, row, row->from[f])) {
+        r->turned = !r->turned;
+        return own;
+    }
+    return add_plain(r, row, v, pages, count);
 }
 
 /* Those of the final page of data block b: coded pages on from b to a block above it, and the final page there. If the walk comes
@@ -65,13 +85,17 @@ static uint32_t final_pages(struct running *r, uint32_t b, uint32_t set, const u
 {
     const struct row *row = row_of(r, set);
     uint32_t m = r->z.m, count = 0, v = b, last;
+    if (dropped(r, row, row->from[b])) {
+        r->turned = 1;
+        return 0;
+    }
     do {
         pages[count++] = slot(r, v * m + set);
         last = v;
         v = row->to[v];
     } while (v < b);
     if (v > b)
-        pages[count++] = slot(r, m + entry(r->list, last * m + row->page[last]));
+        pages[count++] = slot(r, m + entry(r->list.whole, last * m + row->page[last]));
     return count;
 }
 
@@ -83,10 +107,10 @@ static void write_pages(struct running *r, uint32_t stop)
     int forward = r->turn < r->z.n;
     uint8_t mark = letter(&r->z, forward ? 1 : 2);
     for (; r->filled < stop; r->filled++) {
-        uint32_t at = first + r->filled;
-        uint32_t count = forward ? coded_pages(r, block, r->filled, pages)
-                                 : final_pages(r, block - 1, r->set_of[at - r->z.m], pages);
-        r->bytes += plain_sum(slot(r, at), pages, count, r->z.p);
+        uint32_t at = first + r->filled, count;
+        r->turned = 0;
+        count = forward ? coded_pages(r, block, r->filled, pages) : final_pages(r, block - 1, r->set_of[at - r->z.m], pages);
+        r->bytes += plain_sum(slot(r, at), pages, count, r->turned, r->z.p);
         r->marks[at] = mark;
         r->last = slot(r, at);
     }
@@ -122,13 +146,13 @@ uint32_t plain_run(uint32_t n, uint32_t m, uint32_t page_bytes, uint32_t s,
     uint32_t end, taken, number;
     *place_reached = *steps = *writes = *erases = *finished = *written_bytes = 0;
     r.z = (struct sizes){n, m, page_bytes, s};
-    number = plain_refusal(&r.z, list, list_len, pins, pins_len, sets, sets_len, store_len, marks_len, work_len, r.set_of);
+    number = plain_refusal(&r.z, list, list_len, pins, pins_len, sets, sets_len, store_len, marks_len, work_len, &r.list,
+                           r.set_of);
     if (number != 0)
         return number;
     end = 2 * n * (m + 1);
     if (place > end)
         return 5;
-    r.list = list;
     r.sets = sets;
     r.store = store;
     r.marks = marks;
@@ -141,7 +165,7 @@ uint32_t plain_run(uint32_t n, uint32_t m, uint32_t page_bytes, uint32_t s,
     taken = budget < end - place ? budget : end - place;
     r.all_rows = taken > m / 8 + 1;
     if (r.all_rows)
-        plain_rows(r.rows, &r.z, list, sets);
+        plain_rows(r.rows, &r.z, r.list.whole, sets);
     *erases = take_steps(&r, taken);
     if (r.last != NULL)
         memcpy(work, r.last, page_bytes);

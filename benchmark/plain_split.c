@@ -73,14 +73,15 @@ uint32_t plain_split(uint32_t n, uint32_t m, uint32_t page_bytes, uint32_t s,
                      uint8_t *sets, uint64_t sets_len)
 {
     struct sizes z = {n, m, page_bytes, s};
+    struct list completed;
     if (!sizes_fit(&z))
         return 1;
     if (list_len != 2 * n * m || pins_len != n * m || sets_len != n * m)
         return 2;
-    if (!plain_one_to_one(list, n * m))
+    if (!plain_complete(&completed, list, n * m) || !plain_one_to_one(completed.whole, n * m))
         return 3;
     if (plain_moves_pinned(list, pins, n * m))
         return 11;
-    colour(n, m, list, sets);
+    colour(n, m, completed.whole, sets);
     return 0;
 }

@@ -93,12 +93,12 @@ static void make_list(struct scene *z, enum order order, uint64_t *random)
 {
     uint32_t numbers[64 * 64], count = z->n * z->m;
     for (uint32_t k = 0; k < count; k++) {
-        uint32_t other = order == RANDOM ? random_below(random, k + 1) : k;
+        uint32_t other = order == RANDOM || order == DROPPING ? random_below(random, k + 1) : k;
         numbers[k] = numbers[other];
         numbers[other] = number_of(z, order, k);
     }
     for (uint32_t k = 0; k < count; k++)
-        mover_send(z->list, k, numbers[k]);
+        mover_send(z->list, k, order == DROPPING && k % 10 == 0 ? MOVER_DROPPED : numbers[k]);
 }
 
 void scene_make(struct scene *z, uint32_t n, uint32_t m, uint32_t page_bytes, enum order order, uint64_t *random)

@@ -39,9 +39,9 @@ struct answer call_read(const struct mover *mover, struct scene *scene, uint32_t
 struct answer call_hex_read(const struct mover *mover, struct scene *scene);
 struct answer call_hex_write(const struct mover *mover, struct scene *scene);
 
-/* Lists: random; every page to the next block or to the one before, which makes one cycle of all blocks in each set; page p of
+/* Lists: random; random with every tenth page dropped; every page to the next block or to the one before, which makes one cycle of all blocks in each set; page p of
  * block i to block p, for n = m. */
-enum order { RANDOM, CYCLE_UP, CYCLE_DOWN, TRANSPOSED };
+enum order { RANDOM, DROPPING, CYCLE_UP, CYCLE_DOWN, TRANSPOSED };
 
 /* Memory; ends the program if there is none. */
 uint8_t *take(uint64_t bytes);

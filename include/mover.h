@@ -1,8 +1,8 @@
 /* The proved page mover, for C.
  *
  * A flash has n data blocks and one spare block, m pages a block. A move sends every page of the data blocks to a place of its
- * own, by a list. It is a row of 2 * n * (m + 1) steps; a step writes one page or erases one block. Power may fail at any moment:
- * recovery brings the move to a place from which it goes on, and every original page can be read all the time.
+ * own, by a list, or throws it away. It is a row of 2 * n * (m + 1) steps; a step writes one page or erases one block. Power may fail at any moment:
+ * recovery brings the move to a place from which it goes on, and every original page that is kept can be read all the time.
  *
  * Besides the flash, these must outlast a power cut until the move is finished: the list, n, m, page_bytes and s; the sets too,
  * unless mover_split makes them again from the same list. A page's mark must be programmed last, or together with the page: a
@@ -24,9 +24,10 @@
  *   original     an original page, 0 to n * m - 1: number k is page k % m of block k / m + 1 before the move
  *
  * Lent parts: a pointer and a length in bytes, which must be exact. NULL goes with length 0.
- *   list         2 * n * m bytes: entry k, two bytes, low byte first, is the page number 0 to n * m - 1 where original k goes
+ *   list         2 * n * m bytes: entry k, two bytes, low byte first, is the page number 0 to n * m - 1 where original k goes, or
+ *                MOVER_DROPPED: then it is thrown away, see below
  *   pins         n * m bytes: where byte k is not 0, original k is pinned: it must end at its old address, and a list that sends it
- *                elsewhere is refused. Without pins: n * m zeros. They do nothing else: a move may go on with others
+ *                elsewhere is refused; one that drops it is not. Without pins: n * m zeros. They do nothing else: a move may go on with others
  *   sets         n * m bytes: the set of each original, 0 to m - 1, as mover_split fills them; the same through the whole move
  *   store        (n + 1) * m * page_bytes bytes: the pages, block after block, the spare first
  *   marks        (n + 1) * m bytes, one a page in the same order: 0, 1 or 2 where a page is written, 255 where none is; 3 to 254 only
@@ -34,10 +35,16 @@
  *   work         page_bytes bytes to work in
  *   text         an Intel HEX file; mover_hex_write fills exactly mover_hex_bytes, mover_hex_read takes any length
  *
+ * A DROPPED PAGE, whose entry is MOVER_DROPPED, is 255s throughout from the first call that takes the list: read gives them at once, while
+ * its old bytes may still lie in the store, and they cannot be had back. At the end the first dropped page, by number, has left its 255s at the
+ * first page number that no entry names, the second at the second, and so on. They are written, marked like any other page, and no byte of
+ * them counts as a load. Any number of pages may be dropped, also all. The list is never changed.
+ *
  * Before a move the pages of blocks 1 to n have mark s, and those of block 0 have mark 255 and bytes 255 throughout.
  *
  * WHAT MUST SURVIVE A POWER CUT: the list (or how to make it again), the sizes and s, outside the blocks that move, and a note of
- * your own that a move is pending. The sets can be made again by mover_split. At start-up, if a move is pending: mover_split, mover_mend,
+ * your own that a move is pending. Erased flash reads as entries of MOVER_DROPPED, and a list that was not written to its end is not refused
+ * for them: keep a checksum with it. The sets can be made again by mover_split. At start-up, if a move is pending: mover_split, mover_mend,
  * mover_run; after the finish the note is cleared and s moves on. A wrong s, list or split is not noticed, and gives nonsense. Without a
  * pending move mover_mend is not called: it would erase the blank spare.
  *
@@ -64,15 +71,20 @@ enum mover_refusal {
     MOVER_DONE = 0,          /* carried out */
     MOVER_BAD_SIZES = 1,     /* n, m, page_bytes or s out of its range */
     MOVER_BAD_LENGTH = 2,    /* the length of a lent part is wrong */
-    MOVER_BAD_LIST = 3,      /* a list entry at or above n * m, or met twice */
-    MOVER_BAD_SPLIT = 4,     /* the sets aren't a split of the list */
+    MOVER_BAD_LIST = 3,      /* a list entry at or above n * m other than MOVER_DROPPED, or one below n * m met twice */
+    MOVER_BAD_SPLIT = 4,     /* the sets aren't a split of the list, each dropped page taken to go where its 255s go */
     MOVER_BAD_PLACE = 5,     /* place above 2 * n * (m + 1), marks other than that place has, or a page marked 255 not blank */
     MOVER_BAD_MARKS = 6,     /* marks fit no moment of the move: see mover_mend */
     MOVER_BAD_ORIGINAL = 7,  /* original number at or above n * m */
     MOVER_BAD_RECORD = 8,    /* a HEX record of another form or type, or with a wrong checksum */
     MOVER_BAD_ADDRESS = 9,   /* a HEX data byte outside the image, or a record that runs over a 64 KiB span */
     MOVER_BAD_TEXT = 10,     /* a HEX data byte given twice, no end record, or anything after it */
-    MOVER_BAD_PINS = 11      /* the list sends a pinned page elsewhere; this comes between 3 and 4 */
+    MOVER_BAD_PINS = 11      /* the list sends a pinned page to another address and does not drop it; this comes between 3 and 4 */
+};
+
+/* The list entry of a page that is thrown away. */
+enum mover_entry {
+    MOVER_DROPPED = 65535
 };
 
 /* What the step at a place does. */
@@ -96,7 +108,8 @@ uint32_t mover_split(uint32_t n, uint32_t m, uint32_t page_bytes, uint32_t s,
  *   *written_bytes  how many bytes of the pages written, all together, are not 255: the load of programming them. 0 to *writes * page_bytes,
  *                   and never above 2 * n * m * page_bytes, which is at most 33554432
  * Changes `store`, `marks` and `work`; `work` is left with the last page written, or as it was if none was. A pinned page travels
- * like any other and lies at its old address again only from when it is written there in the second pass.
+ * like any other and lies at its old address again only from when it is written there in the second pass. A dropped page adds 255s
+ * to the pages that are written, whatever bytes it has left.
  * Returns 0, or 1, 2, 3, 11, 4 or 5. */
 uint32_t mover_run(uint32_t n, uint32_t m, uint32_t page_bytes, uint32_t s,
                    const uint8_t *list, uint64_t list_len, const uint8_t *pins, uint64_t pins_len, const uint8_t *sets, uint64_t sets_len,
@@ -122,9 +135,9 @@ uint32_t mover_mend(uint32_t n, uint32_t m, uint32_t page_bytes, uint32_t s,
                     uint8_t *store, uint64_t store_len, uint8_t *marks, uint64_t marks_len,
                     uint32_t *place, uint32_t *erases);
 
-/* Reads an original at any moment of the move, also after a cut and before recovery: puts it into `work`.
- *   *count          how many stored pages were summed for it, 1 to n
- *   *written_bytes  how many bytes of it are not 255, 0 to page_bytes
+/* Reads an original at any moment of the move, also after a cut and before recovery: puts it into `work`. A dropped one is 255s.
+ *   *count          how many stored pages were summed for it, 1 to n; 0 for a dropped one
+ *   *written_bytes  how many bytes of it are not 255, 0 to page_bytes; 0 for a dropped one
  * Changes only `work`.
  * Returns 0, or 1, 2, 3, 11, 4, 6 or 7. */
 uint32_t mover_read(uint32_t n, uint32_t m, uint32_t page_bytes, uint32_t s,
@@ -201,11 +214,17 @@ static inline uint32_t mover_last_place(uint32_t n, uint32_t m)
     return 2 * n * (m + 1);
 }
 
-/* Entry k of a list becomes `number`: original k is to go to page number % m of block number / m + 1. */
+/* Entry k of a list becomes `number`: original k is to go to page number % m of block number / m + 1, or nowhere if it is MOVER_DROPPED. */
 static inline void mover_send(uint8_t *list, uint32_t k, uint32_t number)
 {
     list[2 * (uint64_t)k] = (uint8_t)(number & 255);
     list[2 * (uint64_t)k + 1] = (uint8_t)(number >> 8 & 255);
+}
+
+/* Original k of a list is to be thrown away. */
+static inline void mover_drop(uint8_t *list, uint32_t k)
+{
+    mover_send(list, k, MOVER_DROPPED);
 }
 
 /* The sizes and lent parts of a move, gathered once. Each part must have the length that the functions above give; the pins, n * m zeros

@@ -133,7 +133,8 @@ static enum outcome go_on(struct demo *demo)
     return outcome;
 }
 
-/* The start of a move: random pages at rest on the chip, some of them pinned, and a list that has the others in random order. */
+/* The start of a move: random pages at rest on the chip, some of them pinned, and a list that has the others in random order, but for some
+ * that are old wear logs and dropped. */
 
 static void pin_some(struct demo *demo)
 {
@@ -161,26 +162,68 @@ static void shuffle(struct demo *demo)
         mover_send(demo->list, moving[i], moving[order[i]]);
 }
 
+static void drop_some(struct demo *demo)
+{
+    uint32_t count = demo->options.blocks * demo->options.pages;
+    for (uint32_t i = 0; i <= count / 32; i++) {
+        uint32_t k = random_below(&demo->random, count);
+        if (demo->pins[k] == 0)
+            mover_drop(demo->list, k);
+    }
+}
+
+static uint32_t entry_of(const struct demo *demo, uint32_t k)
+{
+    return demo->list[2 * k] + 256 * (uint32_t)demo->list[2 * k + 1];
+}
+
+/* Dropped pages lie on the chip like the others, but from the first call on nobody gets to see them. */
 static void fill_chip(struct demo *demo)
 {
     const struct options *o = &demo->options;
-    random_bytes(&demo->random, demo->originals, (uint64_t)o->blocks * o->pages * o->page_bytes);
+    uint32_t count = o->blocks * o->pages;
+    random_bytes(&demo->random, demo->originals, (uint64_t)count * o->page_bytes);
     chip_fill(&demo->chip, demo->originals, demo->move.s);
+    for (uint32_t k = 0; k < count; k++)
+        if (entry_of(demo, k) == MOVER_DROPPED)
+            memset(demo->originals + (uint64_t)k * o->page_bytes, 255, o->page_bytes);
 }
 
-/* The end of a move: every page on the chip, read as after a power-up, is compared with its original. */
-static uint32_t pages_out_of_place(struct demo *demo)
+/* The end of a move: the page at a number is as given, and marked. */
+static int holds(const struct demo *demo, uint32_t number, const uint8_t *page)
+{
+    const struct mover_move *move = &demo->move;
+    uint64_t slot = (uint64_t)move->m + number;
+    return memcmp(move->store + slot * move->page_bytes, page, move->page_bytes) == 0 && move->marks[slot] == (move->s + 2) % 3;
+}
+
+/* Every page on the chip that is kept, read as after a power-up, is compared with its original; places that are left empty get their 0. */
+static uint32_t pages_out_of_place(struct demo *demo, uint8_t *filled)
 {
     const struct options *o = &demo->options;
-    const struct mover_move *move = &demo->move;
     uint32_t bad = 0;
-    chip_load(&demo->chip, move->store, move->marks);
+    chip_load(&demo->chip, demo->move.store, demo->move.marks);
+    memset(filled, 0, (size_t)o->blocks * o->pages);
     for (uint32_t k = 0; k < o->blocks * o->pages; k++) {
-        uint64_t slot = o->pages + (uint64_t)demo->list[2 * k] + 256 * (uint64_t)demo->list[2 * k + 1];
-        bad += memcmp(move->store + slot * o->page_bytes, demo->originals + (uint64_t)k * o->page_bytes, o->page_bytes) != 0
-            || move->marks[slot] != (move->s + 2) % 3;
+        uint32_t number = entry_of(demo, k);
+        if (number == MOVER_DROPPED)
+            continue;
+        filled[number] = 1;
+        bad += !holds(demo, number, demo->originals + (uint64_t)k * o->page_bytes);
     }
     return bad;
+}
+
+/* The places that no page was sent to hold 255s: what dropped pages leave. */
+static void count_emptied(struct demo *demo, const uint8_t *filled)
+{
+    uint8_t erased[4096];
+    memset(erased, 255, sizeof erased);
+    for (uint32_t number = 0; number < demo->options.blocks * demo->options.pages; number++)
+        if (!filled[number]) {
+            demo->emptied++;
+            demo->emptied_wrong += !holds(demo, number, erased);
+        }
 }
 
 /* The pinned pages are looked for at their old addresses, whatever the list says. */
@@ -198,21 +241,25 @@ static void count_pinned(struct demo *demo)
 /* One move through all its cuts. The data blocks have the letter after next then, which is where the next move starts. */
 static void move_pages(struct demo *demo)
 {
-    uint32_t wrong_before = demo->reads_wrong, astray_before = demo->pinned_astray, bad = 0;
+    uint32_t wrong_before = demo->reads_wrong, astray_before = demo->pinned_astray, emptied_before = demo->emptied_wrong, bad = 0;
+    uint8_t filled[64 * 64];
     enum outcome outcome;
     pin_some(demo);
     shuffle(demo);
+    drop_some(demo);
     fill_chip(demo);
     while ((outcome = go_on(demo)) == POWER_CUT)
         demo->cuts++;
     if (outcome == DONE) {
-        bad = pages_out_of_place(demo);
+        bad = pages_out_of_place(demo, filled);
         count_pinned(demo);
+        count_emptied(demo, filled);
         demo->moves_ended++;
         demo->moves_with_loss += bad != 0;
         demo->pages_lost += bad;
     }
-    demo->moves_wrong += outcome == WRONG || bad != 0 || demo->pinned_astray != astray_before || demo->reads_wrong != wrong_before;
+    demo->moves_wrong += outcome == WRONG || bad != 0 || demo->pinned_astray != astray_before || demo->emptied_wrong != emptied_before
+        || demo->reads_wrong != wrong_before;
     demo->move.s = (demo->move.s + 2) % 3;
 }
 

@@ -11,7 +11,7 @@ struct demo {
     struct chip chip;
     struct mover_move move;       /* the image of the chip, the list and the pins */
     uint8_t *list, *pins;
-    uint8_t *originals;           /* kept to compare with */
+    uint8_t *originals;           /* kept to compare with: what each page is to be read as, which is 255s for one that is dropped */
     uint32_t place, last;
     uint64_t random;
 
@@ -22,6 +22,7 @@ struct demo {
     uint32_t pages_read, reads_wrong, most_summed;
     uint32_t pages_lost, moves_with_loss;   /* of moves that ended */
     uint32_t pinned, pinned_astray;         /* of these too: the pages that must stay, and those of them that did not */
+    uint32_t emptied, emptied_wrong;        /* and the places that dropped pages leave empty, and those of them that do not hold 255s */
     const char *stopped_by;                 /* what was wrong in the first move that stopped, or NULL */
 
     int live;                     /* progress is shown on a terminal */

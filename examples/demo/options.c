@@ -15,8 +15,8 @@ static const struct options usual = {1, 0, 16, 16, 512, 0, UINT32_MAX, 2, 0, 0};
 
 static void print_help(void)
 {
-    printf("Moves random pages, but for some that are pinned, on a flash chip in memory whose power fails again and again, and compares\n"
-           "every page.\n"
+    printf("Moves random pages, but for some that are pinned and some that are dropped, on a flash chip in memory whose power fails again\n"
+           "and again, and compares every page.\n"
            "\n"
            "  --seed N         the same seed gives the same run, 0 to %" PRIu64 " (1)\n"
            "  --moves N        moves to make, each on a chip that is filled anew, 1 to 1000 (1; with --raw 20)\n"

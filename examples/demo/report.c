@@ -43,7 +43,7 @@ void print_start(const struct demo *demo)
         printf("  move        ");
     else
         printf("  moves       %" PRIu32 ", each of ", o->moves);
-    printf("%" PRIu32 " page%s in random order but for pinned ones, %" PRIu32 " steps, seed %" PRIu64 "\n", pages, s(pages), demo->last,
+    printf("%" PRIu32 " page%s in random order but for pinned and dropped ones, %" PRIu32 " steps, seed %" PRIu64 "\n", pages, s(pages), demo->last,
            o->seed);
     if (o->cut_within == 0)
         printf("  power       never fails\n\n");
@@ -100,7 +100,7 @@ static void print_reads(const struct demo *demo)
 {
     printf("  read        %" PRIu32 " page%s in mid-move, ", demo->pages_read, s(demo->pages_read));
     if (demo->reads_wrong == 0)
-        printf("each as it was");
+        printf("each as it was, or 255s if dropped");
     else
         printf("%" PRIu32 " of them WRONG", demo->reads_wrong);
     printf("; at most %" PRIu32 " stored page%s summed for one\n", demo->most_summed, s(demo->most_summed));
@@ -122,10 +122,12 @@ static void print_work(const struct demo *demo)
 
 static void print_losses(const struct demo *demo)
 {
-    uint32_t pages = demo->moves_ended * demo->options.blocks * demo->options.pages;
+    uint32_t pages = demo->moves_ended * demo->options.blocks * demo->options.pages - demo->emptied;
     printf("  in place    %" PRIu32 " of %" PRIu32 " page%s%s\n", pages - demo->pages_lost, pages, s(pages),
            demo->moves_stopped == 0 ? "" : " of the moves that came to their end");
     printf("  stayed      %" PRIu32 " of %" PRIu32 " pinned page%s\n", demo->pinned - demo->pinned_astray, demo->pinned, s(demo->pinned));
+    printf("  dropped     %" PRIu32 " of %" PRIu32 " old wear-log page%s: 255s in the place paired with each\n", demo->emptied - demo->emptied_wrong,
+           demo->emptied, s(demo->emptied));
     if (demo->pages_lost != 0)
         printf("  LOST        %" PRIu32 " page%s in %" PRIu32 " of %" PRIu32 " move%s\n", demo->pages_lost, s(demo->pages_lost),
                demo->moves_with_loss, demo->options.moves, s(demo->options.moves));
@@ -146,7 +148,7 @@ static int print_verdict(const struct demo *demo)
         printf("\nThere were more erases than there may be: something is WRONG.\n");
         return 0;
     }
-    printf("\nEvery page is in its place.\n");
+    printf("\nEvery page that was kept is in its place.\n");
     return 1;
 }
 

@@ -1,4 +1,5 @@
 /* The library from C: the worked cases of the calls, and their refusals. */
+#include "calls.h"
 #include "mover.h"
 
 #include <stdio.h>
@@ -6,7 +7,7 @@
 
 static unsigned passed, failed;
 
-static void check(const char *what, int good)
+void check(const char *what, int good)
 {
     if (good) {
         passed++;
@@ -413,6 +414,7 @@ int main(void)
     reads_checked();
     pins_checked();
     pins_travel_checked();
+    drops_checked();
     bytes_checked();
     most_bytes_checked();
     tells_checked();

@@ -21,6 +21,29 @@ uint32_t __wrap_mover_read(uint32_t n, uint32_t m, uint32_t page_bytes, uint32_t
 }
 #endif
 
+#ifdef FAULTY_RUN
+/* A page of 255s, which dropped pages leave, has a byte of another. */
+uint32_t __real_mover_run(uint32_t n, uint32_t m, uint32_t page_bytes, uint32_t s, const uint8_t *list, uint64_t list_len,
+                          const uint8_t *pins, uint64_t pins_len, const uint8_t *sets, uint64_t sets_len, uint8_t *store,
+                          uint64_t store_len, uint8_t *marks, uint64_t marks_len, uint8_t *work, uint64_t work_len, uint32_t place,
+                          uint32_t budget, uint32_t *place_reached, uint32_t *steps, uint32_t *writes, uint32_t *erases,
+                          uint32_t *finished, uint32_t *written_bytes);
+
+uint32_t __wrap_mover_run(uint32_t n, uint32_t m, uint32_t page_bytes, uint32_t s, const uint8_t *list, uint64_t list_len,
+                          const uint8_t *pins, uint64_t pins_len, const uint8_t *sets, uint64_t sets_len, uint8_t *store,
+                          uint64_t store_len, uint8_t *marks, uint64_t marks_len, uint8_t *work, uint64_t work_len, uint32_t place,
+                          uint32_t budget, uint32_t *place_reached, uint32_t *steps, uint32_t *writes, uint32_t *erases,
+                          uint32_t *finished, uint32_t *written_bytes)
+{
+    uint32_t number = __real_mover_run(n, m, page_bytes, s, list, list_len, pins, pins_len, sets, sets_len, store, store_len, marks,
+                                       marks_len, work, work_len, place, budget, place_reached, steps, writes, erases, finished,
+                                       written_bytes);
+    if (number == MOVER_DONE && *writes == 1 && *written_bytes == 0)
+        work[page_bytes - 1] = 0;
+    return number;
+}
+#endif
+
 #ifdef FAULTY_MEND
 /* Recovery leaves the unfinished block as it is. */
 uint32_t __wrap_mover_mend(uint32_t n, uint32_t m, uint32_t page_bytes, uint32_t s, uint8_t *store, uint64_t store_len,

@@ -51,6 +51,28 @@ impl Random {
         list
     }
 
+    /// The list with pages to throw away: in half the lists none, else one,
+    /// some, most or all.
+    pub fn dropping(&mut self, list: Vec<u16>) -> Vec<u16> {
+        match self.one_in(2) {
+            true => self.with_drops(list),
+            false => list,
+        }
+    }
+
+    /// The same with at least one such page.
+    pub fn with_drops(&mut self, mut list: Vec<u16>) -> Vec<u16> {
+        let at = self.below(list.len());
+        list[at] = u16::MAX;
+        let of_four = *self.pick(&[0, 0, 1, 1, 3, 4]);
+        for entry in &mut list {
+            if self.below(4) < of_four {
+                *entry = u16::MAX;
+            }
+        }
+        list
+    }
+
     pub fn permutation(&mut self, len: usize) -> Vec<u16> {
         let mut list: Vec<u16> = (0..len as u16).collect();
         for last in (1..len).rev() {
@@ -89,6 +111,38 @@ pub fn all_permutations(len: usize) -> Vec<Vec<u16>> {
             .flat_map(|begun| extensions(begun, len))
             .collect();
     }
+    found
+}
+
+/// All lists of this many pages: those without drops, and those with drops, or
+/// where there are more than `few` pages one of these for each without.
+pub fn small_lists(len: usize, few: usize, random: &mut Random) -> Vec<Vec<u16>> {
+    let mut lists = all_permutations(len);
+    let dropping = match len <= few {
+        true => all_with_drops(len),
+        false => {
+            let with_drops = |list: &Vec<u16>| random.with_drops(list.clone());
+            lists.iter().map(with_drops).collect()
+        }
+    };
+    lists.extend(dropping);
+    lists
+}
+
+/// All lists of this many pages that drop at least one, each place named once at
+/// most.
+pub fn all_with_drops(len: usize) -> Vec<Vec<u16>> {
+    let mut found = vec![vec![]];
+    for _ in 0..len {
+        found = found
+            .iter()
+            .flat_map(|begun: &Vec<u16>| {
+                let dropped = [&begun[..], &[u16::MAX]].concat();
+                extensions(begun, len).into_iter().chain([dropped])
+            })
+            .collect();
+    }
+    found.retain(|list| list.contains(&u16::MAX));
     found
 }
 

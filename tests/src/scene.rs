@@ -1,13 +1,16 @@
 //! A move with its flash, from which calls are asked.
 
 use crate::simulator::calls::answer;
+use crate::simulator::dropping::{completed, DROPPED};
 use crate::simulator::flash::Flash;
 use crate::simulator::request::{Answer, Call, Parts, Request};
+use crate::simulator::rules::Correct;
 use crate::simulator::sizes::Sizes;
 
 #[derive(Clone)]
 pub struct Scene {
     pub sizes: Sizes,
+    /// As the caller lends it.
     pub list: Vec<u16>,
     pub pins: Vec<u8>,
     pub sets: Vec<u8>,
@@ -93,9 +96,27 @@ impl Scene {
         answer
     }
 
-    pub fn original(&self, k: usize) -> &[u8] {
+    pub fn is_dropped(&self, k: usize) -> bool {
+        self.list[k] as usize == DROPPED
+    }
+
+    pub fn has_drops(&self) -> bool {
+        (0..self.list.len()).any(|k| self.is_dropped(k))
+    }
+
+    /// Where the completed list sends each original.
+    pub fn destinations(&self) -> Vec<usize> {
+        let entries: Vec<usize> = self.list.iter().map(|&entry| entry as usize).collect();
+        completed::<Correct>(&entries)
+    }
+
+    /// What original k counts as: its bytes, or 255s if it is dropped.
+    pub fn page(&self, k: usize) -> Vec<u8> {
         let bytes = self.sizes.bytes();
-        &self.originals[k * bytes..(k + 1) * bytes]
+        match self.is_dropped(k) {
+            true => vec![255; bytes],
+            false => self.originals[k * bytes..(k + 1) * bytes].to_vec(),
+        }
     }
 }
 

@@ -31,7 +31,7 @@ pub extern "C" fn mover_read(
     let length = decode(list, &mut entries);
     let rebuilt = read(
         sizes_of(n, m, p, s),
-        &entries[..length],
+        &mut entries[..length],
         pins,
         sets,
         store,

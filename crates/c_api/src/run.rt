@@ -42,7 +42,7 @@ pub extern "C" fn mover_run(
     let count = decode(list, &mut entries);
     let ran = run(
         sizes_of(n, m, p, s),
-        &entries[..count],
+        &mut entries[..count],
         pins,
         sets,
         store,

@@ -22,5 +22,5 @@ pub extern "C" fn mover_split(
 {
     let mut entries = [0u16; MOST_ENTRIES];
     let count = decode(list, &mut entries);
-    split(sizes_of(n, m, p, s), &entries[..count], pins, sets)
+    split(sizes_of(n, m, p, s), &mut entries[..count], pins, sets)
 }

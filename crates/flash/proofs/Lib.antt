@@ -4,6 +4,7 @@ pub mod Bools
 pub mod Comparisons
 pub mod Tables
 pub mod Searches
+pub mod Filters
 pub mod Ranges
 pub mod Same
 pub mod Parts
@@ -16,3 +17,4 @@ pub mod Loops
 pub mod Bounds
 pub mod PassLaws
 pub mod SlotLaws
+pub mod TotalLaws

@@ -1,12 +1,12 @@
 -- What one turn of a loop over bytes does.
-use Rattle.flash.proofs.Kit.{[], _≡_, sym, ap, _∙_, _≢_, ⊎-elim, Bool, false, cond, _&&_, and-true, List, _∷_, _++_, ℕ, suc, _+_, _≤_, _<_}
+use Rattle.flash.proofs.Kit.{[], _≡_, sym, ap, _∙_, _≢_, ⊎-elim, Bool, false, cond, _&&_, _||_, and-true, or-false, List, _∷_, _++_, ℕ, suc, _+_, _≤_, _<_}
 use Rattle.flash.proofs.Kit.{add-one, arith, bitOr, bitXor, or-add-and, or-lt, or-zero-l, or-zero-r, and-le-l, and-le-r, xor-self, eqb, ltb, length}
 use Rattle.flash.proofs.Kit.{getD, set, take, drop, take-suc, drop-cons, append-snoc, getD-at, length-take-le, drop-set-lt, drop-drop}
 use Rattle.flash.proofs.Kit.{eqb-true, eq-eqb, ne-eqb, ltb-true, lt-ltb, le-ltb, _^_, set-at, append-assoc, append-nil, take-at, drop-at, take-add, take-all, drop-of-length-le}
-use Rattle.flash.specs.Lists.{all}
+use Rattle.flash.specs.Lists.{all, any}
 use Rattle.flash.proofs.Bools.{bool-eq, both, and-both}
 use Rattle.flash.proofs.Comparisons.{eq-cases, lt-cases}
-use Rattle.flash.proofs.Searches.{all-append}
+use Rattle.flash.proofs.Searches.{all-append, any-append}
 use Rattle.flash.proofs.Xor.{xor-zero-eq}
 
 -- one more element written behind a front that lies over an area
@@ -45,6 +45,11 @@ rest-more area old i value e = drop-set-lt (i + 1) area i value (omega arith) �
 pub all-more : (test : ℕ → Bool) (xs : List ℕ) (i : ℕ) → i < length xs → all test (take (i + 1) xs) ≡ (all test (take i xs) && test (getD xs i 0))
 unfolding all
 all-more test xs i h = rw (add-one i, take-suc xs i 0, all-append test (take i xs), and-true)
+
+-- A loop that gathers whether it holds of some element.
+pub any-more : (test : ℕ → Bool) (xs : List ℕ) (i : ℕ) → i < length xs → any test (take (i + 1) xs) ≡ (any test (take i xs) || test (getD xs i 0))
+unfolding any
+any-more test xs i h = rw (add-one i, take-suc xs i 0, any-append test (take i xs), or-false)
 
 -- A loop that gathers the bits of bytes: they are below a power of two while each byte is.
 or-below : (k limit a b : ℕ) → limit ≡ 2 ^ k → ltb (bitOr a b) limit ≡ (ltb a limit && ltb b limit)

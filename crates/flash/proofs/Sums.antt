@@ -1,6 +1,6 @@
 -- Laws of the page sum. `⊕` fills the shorter page up with zeros, so most of them ask nothing of lengths.
-use Rattle.flash.proofs.Kit.{_≡_, refl, sym, ap, ap₂, _∙_, List, [], _∷_, _++_, ℕ, zero, suc, _≤_, _<_, max, not-suc-le-zero, le-of-suc-le-suc}
-use Rattle.flash.proofs.Kit.{arith, length, getD, take, drop, bitXor, xor-comm, xor-zero-r}
+use Rattle.flash.proofs.Kit.{_≡_, refl, sym, ap, ap₂, _∙_, List, [], _∷_, _++_, map, ℕ, zero, suc, _≤_, _<_, max, not-suc-le-zero, le-of-suc-le-suc}
+use Rattle.flash.proofs.Kit.{arith, length, getD, take, drop, replicate, bitXor, xor-comm, xor-self, xor-zero-l, xor-zero-r}
 use Rattle.flash.specs.PageSum.{_⊕_, sum}
 use Rattle.flash.proofs.Xor.{xor-assoc, xor-cancel}
 
@@ -37,6 +37,19 @@ length-⊕ [] b = omega arith
 length-⊕ (x ∷ xs) [] = omega arith
 length-⊕ (x ∷ xs) (y ∷ ys) = omega (arith, length-⊕ xs ys)
 
+-- zeros add nothing to a page of as many bytes
+pub ⊕-zeros : (P : ℕ) (a : List ℕ) → P ≤ length a → replicate P 0 ⊕ a ≡ a
+unfolding _⊕_
+⊕-zeros zero a h = refl
+⊕-zeros (suc P) [] h = absurd (not-suc-le-zero h)
+⊕-zeros (suc P) (x ∷ xs) h = ap₂ (λ (h : ℕ) (t : List ℕ). h ∷ t) (xor-zero-l x) (⊕-zeros P xs (le-of-suc-le-suc h))
+
+-- a page added to itself leaves zeros
+pub ⊕-self : (P byte : ℕ) → replicate P byte ⊕ replicate P byte ≡ replicate P 0
+unfolding _⊕_
+⊕-self zero byte = refl
+⊕-self (suc P) byte = ap₂ (λ (h : ℕ) (t : List ℕ). h ∷ t) (xor-self byte) (⊕-self P byte)
+
 pub ⊕-at : (a b : List ℕ) (i : ℕ) → getD (a ⊕ b) i 0 ≡ bitXor (getD a i 0) (getD b i 0)
 unfolding _⊕_
 ⊕-at [] b i = refl
@@ -59,20 +72,25 @@ drop-⊕ (suc n) [] b = refl
 drop-⊕ (suc n) (x ∷ xs) [] = sym (⊕-nil (drop n xs))
 drop-⊕ (suc n) (x ∷ xs) (y ∷ ys) = drop-⊕ n xs ys
 
-module _ (page : ℕ → List ℕ) where
-  pub sum-append : (xs ys : List ℕ) → sum page (xs ++ ys) ≡ sum page xs ⊕ sum page ys
+module _ {A : Type 0} (page : A → List ℕ) where
+  pub sum-append : (xs ys : List A) → sum page (xs ++ ys) ≡ sum page xs ⊕ sum page ys
   unfolding sum _⊕_
   sum-append [] ys = refl
   sum-append (t ∷ ts) ys =
       ap (λ (s : List ℕ). page t ⊕ s) (sum-append ts ys) ∙ sym (⊕-assoc (page t) (sum page ts) (sum page ys))
 
-  pub sum-one : (t : ℕ) → sum page (t ∷ []) ≡ page t
+  pub sum-one : (t : A) → sum page (t ∷ []) ≡ page t
   unfolding sum
   sum-one t = ⊕-nil (page t)
 
   -- pages added one after another from the left: one page more
-  pub sum-more : (ts : List ℕ) (t : ℕ) → sum page (ts ++ (t ∷ [])) ≡ sum page ts ⊕ page t
+  pub sum-more : (ts : List A) (t : A) → sum page (ts ++ (t ∷ [])) ≡ sum page ts ⊕ page t
   sum-more ts t = sum-append ts (t ∷ []) ∙ ap (λ (s : List ℕ). sum page ts ⊕ s) (sum-one t)
+
+  pub sum-map : {B : Type 0} (f : B → A) (ts : List B) → sum page (map f ts) ≡ sum (λ t. page (f t)) ts
+  unfolding sum
+  sum-map f [] = refl
+  sum-map f (t ∷ ts) = ap (λ (s : List ℕ). page (f t) ⊕ s) (sum-map f ts)
 
 -- sums of the same pages are equal
 pub sum-same : (page other : ℕ → List ℕ) (ts : List ℕ)

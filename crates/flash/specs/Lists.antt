@@ -36,6 +36,11 @@ module _ {A : Type 0} where
   count test [] = 0
   count test (x ∷ xs) = cond (test x) (suc (count test xs)) (count test xs)
 
+  -- the elements that pass the test
+  unfoldable pub filter : (A → Bool) → List A → List A
+  filter test [] = []
+  filter test (x ∷ xs) = cond (test x) (x ∷ filter test xs) (filter test xs)
+
   -- the first element that passes the test, or `otherwise`
   unfoldable pub first : (A → Bool) → List A → (otherwise : A) → A
   first test [] otherwise = otherwise

@@ -14,8 +14,8 @@ _⊕_ [] ys = ys
 _⊕_ (x ∷ xs) [] = x ∷ xs
 _⊕_ (x ∷ xs) (y ∷ ys) = bitXor x y ∷ (xs ⊕ ys)
 
--- the sum of the pages that `page` gives for the numbers of a list
-unfoldable pub sum : (page : ℕ → List ℕ) → List ℕ → List ℕ
+-- the sum of the pages that `page` gives for the elements of a list
+unfoldable pub sum : {A : Type 0} → (page : A → List ℕ) → List A → List ℕ
 sum page [] = []
 sum page (t ∷ ts) = page t ⊕ sum page ts
 

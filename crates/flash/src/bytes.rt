@@ -6,9 +6,10 @@ ghost use Prim.Native.Nat.{ℕ, _^_, _≤_, _<_};
 ghost use lib.Dec.{eqb, ltb};
 ghost use lib.ListN.{length, getD, replicate};
 ghost use Rattle.flash.specs.Lists.{all};
-ghost use Rattle.flash.specs.PageSum.{writtenBytes};
+ghost use Rattle.flash.specs.PageSum.{_⊕_, writtenBytes};
 use crate::ERASED;
 use crate::casts::narrow;
+use crate::casts::wide;
 
 // As many bytes as are counted in a byte at once.
 pub const FEW: usize = 128;
@@ -20,6 +21,17 @@ pub fn fill(part: &mut [u8], value: u8)
     let mut i = 0;
     while i < part.len() {
         part[i] = value;
+        i += 1;
+    }
+}
+
+// A page of 255s is added to a page.
+pub fn invert(page: &mut [u8])
+    ensures { λ _. ⌜ now (page .exit) ≡ replicate (length (now (page .entry))) 255 ⊕ now (page .entry) ⌝ }
+{
+    let mut i = 0;
+    while i < page.len() {
+        page[i] = ERASED ^ page[i];
         i += 1;
     }
 }
@@ -98,4 +110,18 @@ pub fn count_few(bytes: &[u8]) -> u8
         i += 1;
     }
     count
+}
+
+// How many bytes of a page are not erased.
+pub fn count_written(page: &[u8]) -> usize
+    ensures { λ r. ⌜ r ≡ writtenBytes (now (page .entry)) ⌝ }
+{
+    let mut count = 0;
+    let mut i = 0;
+    while FEW <= page.len() - i {
+        let end = i + FEW;
+        count += wide(count_few(&page[i..end]));
+        i = end;
+    }
+    count + wide(count_few(&page[i..page.len()]))
 }

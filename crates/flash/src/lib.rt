@@ -7,6 +7,7 @@ pub mod casts;
 pub mod quotient;
 pub mod sizes;
 pub mod slots;
+pub mod totals;
 
 // A byte or a mark that is not written.
 pub const ERASED: u8 = 255;

@@ -1,5 +1,7 @@
 -- Cases and examples, by computing.
 pub mod ExampleCuts
+pub mod Largest
 pub mod Cases
+pub mod DropCases
 pub mod Example
 pub mod TwoPages

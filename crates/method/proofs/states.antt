@@ -1,6 +1,7 @@
 -- Runs lead from place to place, and keep what pages hold.
 pub mod NextPlace
 pub mod PagesWritten
+pub mod Undropped
 pub mod StepsKeepPages
 pub mod StepsLeadOn
 pub mod StatesOfPlaces

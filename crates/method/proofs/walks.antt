@@ -2,6 +2,7 @@
 pub mod WalkSlots
 pub mod WalkBounds
 pub mod StoredPages
+pub mod Terms
 pub mod CodedWalks
 pub mod ReadsOriginals
 pub mod WalksEnd

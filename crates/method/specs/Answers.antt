@@ -16,9 +16,9 @@ use Rattle.split.specs.Split.{isSplit}
 use Rattle.split.specs.Pins.{movesPinned}
 use Rattle.split.specs.Request.{Request, badRequest}
 use Rattle.method.specs.declared.tally.Tally.{Tally}
-use Rattle.method.specs.Move.{Move, move}
+use Rattle.method.specs.Move.{Plan, move, plan}
 use Rattle.method.specs.Place.{lastPlace, marksOf}
-use Rattle.method.specs.Read.{readSlots, readPage}
+use Rattle.method.specs.Read.{readTerms, storedSlots, readPage}
 use Rattle.method.specs.Step.{Running, steps, nothingDone, tallyOf}
 use Rattle.method.specs.Mend.{Reading, seen, reading}
 
@@ -59,7 +59,7 @@ moveRows R chip work rest =
     ∷ record { fits = badParts R chip work; gives = 2 }
     ∷ record { fits = badList (originalCount (R .sizes)) (R .list); gives = 3 }
     ∷ record { fits = movesPinned (R .pins) (R .list); gives = 11 }
-    ∷ record { fits = not (isSplit (R .sizes .n) (R .sizes .m) (R .list) (R .sets)); gives = 4 }
+    ∷ record { fits = not (isSplit (R .sizes .n) (R .sizes .m) (move R .list) (R .sets)); gives = 4 }
     ∷ rest
 
 unfoldable pub runRows : Request → Chip → (work : List ℕ) → (place : ℕ) → List (Row ℕ)
@@ -93,15 +93,15 @@ unfoldable pub stepsTaken : Sizes → (place budget : ℕ) → ℕ
 stepsTaken Z place budget = min budget (lastPlace Z - place)
 
 -- a run that takes so many steps
-unfoldable pub runCarriedOut : Move → Chip → (work : List ℕ) → (place taken : ℕ) → RunAnswer
-runCarriedOut M chip work place taken =
+unfoldable pub runCarriedOut : Plan → Chip → (work : List ℕ) → (place taken : ℕ) → RunAnswer
+runCarriedOut X chip work place taken =
     let start : Running = record { chip = chip; work = work } in
-    let after = steps M taken place start in
+    let after = steps X taken place start in
     record {
       number = 0;
       place = place + taken;
-      tally = tallyOf M taken place start;
-      finished = cond (eqb (place + taken) (lastPlace (M .sizes))) 1 0;
+      tally = tallyOf X taken place start;
+      finished = cond (eqb (place + taken) (lastPlace (X .move .sizes))) 1 0;
       chip = after .chip;
       work = after .work;
     }
@@ -113,7 +113,7 @@ runRefused number chip work = record { number = number; place = 0; tally = nothi
 unfoldable pub runAnswer : Request → Chip → (work : List ℕ) → (place budget : ℕ) → RunAnswer
 runAnswer R chip work place budget =
     let number = refusal (runRows R chip work place) in
-    cond (eqb number 0) (runCarriedOut (move R) chip work place (stepsTaken (R .sizes) place budget)) (runRefused number chip work)
+    cond (eqb number 0) (runCarriedOut (plan R) chip work place (stepsTaken (R .sizes) place budget)) (runRefused number chip work)
 
 -- rule 7.4: what mend returns and leaves
 pub record MendAnswer : Type 0 where
@@ -153,4 +153,4 @@ unfoldable pub readAnswer : Request → Chip → (work : List ℕ) → (k : ℕ)
 readAnswer R chip work k =
     let number = refusal (readRows R chip work k) in
     let view : Chip = record { store = chip .store; marks = seen (chip .marks) } in
-    cond (eqb number 0) (readGives (length (readSlots (move R) (view .marks) k)) (readPage (move R) view k)) (readRefused number work)
+    cond (eqb number 0) (readGives (length (storedSlots (readTerms (plan R) (view .marks) k))) (readPage (plan R) view k)) (readRefused number work)

@@ -12,10 +12,11 @@ use Rattle.split.specs.OneToOne.{isOneToOne}
 use Rattle.split.specs.Request.{Request, requestOf, unpinned}
 use Rattle.split.specs.Answer.{splitAnswer}
 use Rattle.method.specs.declared.tally.Tally.{Tally}
-use Rattle.method.specs.Move.{Move, move}
+use Rattle.method.specs.Move.{Plan, plan}
 use Rattle.method.specs.Place.{Operation, write, erase, done, operationAt, marksOf}
+use Rattle.method.specs.Read.{storedSlots}
 use Rattle.method.specs.State.{atRest, stateOf}
-use Rattle.method.specs.Step.{Running, originalsOf, writeSlots, step}
+use Rattle.method.specs.Step.{Running, originalsOf, writeTerms, step}
 use Rattle.method.specs.Cut.{CutInside}
 use Rattle.method.specs.Answers.{RunAnswer, runAnswer, mendAnswer, readAnswer}
 
@@ -30,11 +31,11 @@ lineOf place (erase block) after = E place block ∷ []
 lineOf place done after = []
 
 -- the lines of `count` steps from a place on
-unfoldable pub listing : Move → (count place : ℕ) → Running → List Line
-listing M zero place run = []
-listing M (suc count) place run =
-    let after = step M place run in
-    lineOf place (operationAt (M .sizes) place) after ++ listing M count (suc place) after
+unfoldable pub listing : Plan → (count place : ℕ) → Running → List Line
+listing X zero place run = []
+listing X (suc count) place run =
+    let after = step X place run in
+    lineOf place (operationAt (X .move .sizes) place) after ++ listing X count (suc place) after
 
 -- A row of the paper's Fig. 2, which has one page a block: the block written, the originals that its page is the sum
 -- of, and the blocks that the page is made from.
@@ -42,28 +43,29 @@ pub data Written : Type 0 where
   written : (block : ℕ) → (originals blocks : List ℕ) → Written
 
 -- The figure calls the original from block i by i.
-unfoldable pub writtenAt : Move → (place : ℕ) → Operation → List Written
-writtenAt M place (write pass block page) =
-    written block (map (λ k. k + 1) (originalsOf M pass block page)) (writeSlots M pass block page (marksOf (M .sizes) place)) ∷ []
-writtenAt M place (erase block) = []
-writtenAt M place done = []
+unfoldable pub writtenAt : Plan → (place : ℕ) → Operation → List Written
+writtenAt X place (write pass block page) =
+    written block (map (λ k. k + 1) (originalsOf (X .move) pass block page))
+    (storedSlots (writeTerms X pass block page (marksOf (X .move .sizes) place))) ∷ []
+writtenAt X place (erase block) = []
+writtenAt X place done = []
 
-unfoldable pub figure : Move → (count place : ℕ) → List Written
-figure M zero place = []
-figure M (suc count) place = writtenAt M place (operationAt (M .sizes) place) ++ figure M count (suc place)
+unfoldable pub figure : Plan → (count place : ℕ) → List Written
+figure X zero place = []
+figure X (suc count) place = writtenAt X place (operationAt (X .move .sizes) place) ++ figure X count (suc place)
 
 -- the chip after 0, 1, .. steps from a place on
-unfoldable pub chipsFrom : Move → (count place : ℕ) → Running → List Chip
-chipsFrom M zero place run = run .chip ∷ []
-chipsFrom M (suc count) place run = run .chip ∷ chipsFrom M count (suc place) (step M place run)
+unfoldable pub chipsFrom : Plan → (count place : ℕ) → Running → List Chip
+chipsFrom X zero place run = run .chip ∷ []
+chipsFrom X (suc count) place run = run .chip ∷ chipsFrom X count (suc place) (step X place run)
 
 -- from rest on, the steps lead to the state of each place
-abbrev Reaches : Request → (originals : List ℕ) → (count : ℕ) → Type 0
+abbrev pub Reaches : Request → (originals : List ℕ) → (count : ℕ) → Type 0
 Reaches R originals count =
-    chipsFrom (move R) count 0 (record { chip = atRest (R .sizes) originals; work = [] }) ≡ map (stateOf (move R) originals) (range 0 (count + 1))
+    chipsFrom (plan R) count 0 (record { chip = atRest (R .sizes) originals; work = [] }) ≡ map (stateOf (plan R) originals) (range 0 (count + 1))
 
 -- short forms for what the cases are made of
-abbrev sizes : (n m : ℕ) → Sizes
+abbrev pub sizes : (n m : ℕ) → Sizes
 sizes n m = record { n = n; m = m; p = 1; s = 0 }
 
 abbrev pub chip : (store marks : List ℕ) → Chip
@@ -73,14 +75,14 @@ chip store marks = record { store = store; marks = marks }
 abbrev pub junk : ℕ → List ℕ
 junk length = replicate length 7
 
-abbrev counts : (steps writes erases bytes : ℕ) → Tally
+abbrev pub counts : (steps writes erases bytes : ℕ) → Tally
 counts steps writes erases bytes = record { steps = steps; writes = writes; erases = erases; bytes = bytes }
 
-abbrev ran : (place : ℕ) → Tally → (finished : ℕ) → Chip → (work : List ℕ) → RunAnswer
+abbrev pub ran : (place : ℕ) → Tally → (finished : ℕ) → Chip → (work : List ℕ) → RunAnswer
 ran place tally finished chip work = record { number = 0; place = place; tally = tally; finished = finished; chip = chip; work = work }
 
 -- what a refusal gives: zeros, and all that was lent as it was
-abbrev refusedRun : (number : ℕ) → Chip → (work : List ℕ) → RunAnswer
+abbrev pub refusedRun : (number : ℕ) → Chip → (work : List ℕ) → RunAnswer
 refusedRun number lent work = record { number = number; place = 0; tally = counts 0 0 0 0; finished = 0; chip = lent; work = work }
 
 -- the move of P1 to P3
@@ -97,14 +99,14 @@ abbrev pub twoFinished : Chip
 twoFinished = chip (255 ∷ 255 ∷ 1 ∷ 4 ∷ 2 ∷ 8 ∷ []) (255 ∷ 255 ∷ 2 ∷ 2 ∷ 2 ∷ 2 ∷ [])
 
 -- one page a block
-abbrev small : (n : ℕ) → (list : List ℕ) → Request
+abbrev pub small : (n : ℕ) → (list : List ℕ) → Request
 small n list = unpinned (sizes n 1) list (replicate n 0)
 
-abbrev resting : (n : ℕ) → Chip
+abbrev pub resting : (n : ℕ) → Chip
 resting n = chip (255 ∷ range 1 n) (255 ∷ replicate n 0)
 
 -- the calls that are given a list refuse this one
-abbrev ListRefused : (number n : ℕ) → (list : List ℕ) → Type 0
+abbrev pub ListRefused : (number n : ℕ) → (list : List ℕ) → Type 0
 ListRefused number n list =
     (splitAnswer (unpinned (sizes n 1) list (junk n)) ≡ record { number = number; sets = junk n })
     × (runAnswer (small n list) (resting n) (junk 1) 0 9 ≡ refusedRun number (resting n) (junk 1))
@@ -238,12 +240,12 @@ pub record CasesHold (byte : ℕ) : Type 0 where
       × (readAnswer (twoPinned (0 ∷ 2 ∷ 1 ∷ 3 ∷ []) (0 ∷ 0 ∷ 1 ∷ 0 ∷ []) (junk 4)) twoAtRest (junk 1) 9
       ≡ record { number = 11; count = 0; bytes = 0; work = junk 1 })
   -- the program's case, with its end line
-  pub program : listing (move three) 12 0 (record { chip = threeAtRest; work = [] })
+  pub program : listing (plan three) 12 0 (record { chip = threeAtRest; work = [] })
       ≡ W 0 0 0 (5 ∷ []) ∷ E 1 1 ∷ W 2 1 0 (3 ∷ []) ∷ E 3 2 ∷ W 4 2 0 (4 ∷ []) ∷ E 5 3
       ∷ W 6 3 0 (2 ∷ []) ∷ E 7 2 ∷ W 8 2 0 (1 ∷ []) ∷ E 9 1 ∷ W 10 1 0 (4 ∷ []) ∷ E 11 0 ∷ []
   pub program-end : runAnswer three threeAtRest (junk 1) 0 99 ≡ ran 12 (counts 12 6 6 6) 1 threeFinished (4 ∷ [])
   -- the paper's Fig. 2: each page written, and what it is made from, in the forward pass and in the backward pass
-  pub figure-2 : figure (move eight) 32 0
+  pub figure-2 : figure (plan eight) 32 0
       ≡ written 0 (1 ∷ 4 ∷ []) (1 ∷ 4 ∷ []) ∷ written 1 (2 ∷ 5 ∷ []) (2 ∷ 5 ∷ [])
       ∷ written 2 (3 ∷ 1 ∷ []) (3 ∷ 0 ∷ 4 ∷ []) ∷ written 3 (4 ∷ 7 ∷ []) (4 ∷ 7 ∷ [])
       ∷ written 4 (5 ∷ 6 ∷ []) (5 ∷ 6 ∷ []) ∷ written 5 (6 ∷ []) (6 ∷ [])

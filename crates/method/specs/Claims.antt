@@ -27,9 +27,11 @@ use Rattle.method.specs.Runs.{RunsAddUp, StatesReached}
 use Rattle.method.specs.Counts.{RunsCount}
 use Rattle.method.specs.Demand3.{Demand3}
 use Rattle.method.specs.PinsStay.{PinsStay}
+use Rattle.method.specs.NoDrops.{NoDrops}
 use Rattle.method.specs.Example.{ExampleHolds, BoundsMet}
 use Rattle.method.specs.TwoPages.{TwoPagesHold}
 use Rattle.method.specs.Cases.{CasesHold}
+use Rattle.method.specs.DropCases.{DropCasesHold}
 
 -- rule 4.3: there are as many steps as the last place says
 unfoldable pub StepsCounted : Type 0
@@ -137,6 +139,7 @@ pub record FirstReturned : Type 0 where
 
 pub record Claims : Type 0 where
   pub cases : (byte : ℕ) → CasesHold byte
+  pub drop-cases : DropCasesHold
   pub runs : RunsAddUp
   pub states : StatesReached
   pub counts : RunsCount
@@ -153,6 +156,7 @@ pub record Claims : Type 0 where
   pub first : FirstReturned
   pub demand-3 : Demand3
   pub pins : PinsStay
+  pub no-drops : NoDrops
   pub bounds : BoundsMet
   pub example : ExampleHolds
   pub two-pages : (byte : ℕ) → TwoPagesHold byte

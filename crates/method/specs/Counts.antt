@@ -11,7 +11,7 @@ use Rattle.flash.specs.PageSum.{writtenBytes}
 use Rattle.flash.specs.Chip.{Chip, pageAt}
 use Rattle.split.specs.Request.{Request}
 use Rattle.method.specs.declared.tally.Tally.{Tally}
-use Rattle.method.specs.Move.{move}
+use Rattle.method.specs.Move.{plan}
 use Rattle.method.specs.Place.{Operation, write, erase, done, operationAt, lastPlace}
 use Rattle.method.specs.State.{originalsIn, stateOf}
 use Rattle.method.specs.Step.{isWrite, isErase, operationsFrom}
@@ -53,4 +53,4 @@ pub record RunsCount : Type 0 where
   -- from rest: what the states of the places hold
   pub from-rest : (R : Request) (chip : Chip) → Start R chip → (work : List ℕ) → length work ≡ workLength (R .sizes)
       → (t : ℕ) → t ≤ lastPlace (R .sizes)
-      → runAnswer R chip work 0 t .tally .bytes ≡ bytesOfSteps (R .sizes) 0 t (stateOf (move R) (originalsIn (R .sizes) chip))
+      → runAnswer R chip work 0 t .tally .bytes ≡ bytesOfSteps (R .sizes) 0 t (stateOf (plan R) (originalsIn (R .sizes) chip))

@@ -1,18 +1,20 @@
 -- Demand 3: one claim over any list of runs, recoveries and reads, with cuts anywhere.
 use mathlib.Core.Bool.{true, false}
 use mathlib.Core.Path.{_≡_}
+use mathlib.Core.Logic.{_⊎_}
 use mathlib.Core.List.{List, [], _∷_}
 use Prim.Native.Nat.{ℕ, _+_, _*_, _≤_, _<_}
 use lib.ListN.{length, getD}
 use Rattle.flash.specs.Lists.{count}
 use Rattle.flash.specs.Tables.{refusal}
 use Rattle.flash.specs.Geometry.{slotOf, originalCount, slotCount, workLength}
-use Rattle.flash.specs.PageSum.{sum}
+use Rattle.flash.specs.PageSum.{_⊕_, sum}
 use Rattle.flash.specs.Chip.{Chip, pageAt, isWhole}
+use Rattle.split.specs.Drops.{isDropped}
 use Rattle.split.specs.Request.{Request}
-use Rattle.method.specs.Move.{move}
+use Rattle.method.specs.Move.{move, plan}
 use Rattle.method.specs.Place.{done, lastPlace}
-use Rattle.method.specs.Read.{readSlots}
+use Rattle.method.specs.Read.{Term, fillerPage, termPage, storedSlots, readTerms}
 use Rattle.method.specs.State.{originalsIn, stateOf}
 use Rattle.method.specs.Step.{isErase, erasesBlock}
 use Rattle.method.specs.Runs.{Start}
@@ -24,9 +26,9 @@ use Rattle.method.specs.Events.{stepsOf, chipAfter, starting, after, mom
 -- ---- the premises, a line for each sentence; the first is `Start` of Runs.antt
 -- rule 8.2: the same sizes, list and split; the pins, which only refuse, may be others
 abbrev pub Shares : Request → Call → Type 0
-Shares R (run N work place budget) = move N ≡ move R
+Shares R (run N work place budget) = plan N ≡ plan R
 Shares R (mend Z) = Z ≡ R .sizes
-Shares R (read N work k) = move N ≡ move R
+Shares R (read N work k) = plan N ≡ plan R
 
 -- rule 8.4
 abbrev pub Mended : Call → History → Type 0
@@ -53,28 +55,39 @@ AllAllowed R [] h = Unit {0}
 AllAllowed R (event ∷ events) h = Allowed R event h × AllAllowed R events (after event h)
 
 -- ---- the claim
--- Of one original, whose bytes are `page`, at a moment: it is the sum of at most n whole pages, and a read gives it.
+-- the stored pages that a read of k sums
+abbrev pub slotsRead : Request → Chip → (k : ℕ) → List ℕ
+slotsRead R chip k = storedSlots (readTerms (plan R) (chip .marks) k)
+
+-- Of one original that is kept, whose bytes are `page`, at a moment: it is the sum of at most n whole pages, or of these and a page of 255s, and a
+-- read gives it.
 pub record Stays (R : Request) (chip : Chip) (k : ℕ) (page : List ℕ) : Type 0 where
-  pub few : length (readSlots (move R) (chip .marks) k) ≤ R .sizes .n
-  pub stored : (i : ℕ) → i < length (readSlots (move R) (chip .marks) k) → getD (readSlots (move R) (chip .marks) k) i 0 < slotCount (R .sizes)
-  pub whole : (i : ℕ) → i < length (readSlots (move R) (chip .marks) k) → isWhole (chip .marks) (getD (readSlots (move R) (chip .marks) k) i 0) ≡ true
-  pub total : sum (pageAt (R .sizes .p) chip) (readSlots (move R) (chip .marks) k) ≡ page
-  pub read-gives : (work : List ℕ) → length work ≡ workLength (R .sizes)
-      → readAnswer R chip work k ≡ readGives (length (readSlots (move R) (chip .marks) k)) page
+  pub few : length (slotsRead R chip k) ≤ R .sizes .n
+  pub stored : (i : ℕ) → i < length (slotsRead R chip k) → getD (slotsRead R chip k) i 0 < slotCount (R .sizes)
+  pub whole : (i : ℕ) → i < length (slotsRead R chip k) → isWhole (chip .marks) (getD (slotsRead R chip k) i 0) ≡ true
+  pub total : (sum (pageAt (R .sizes .p) chip) (slotsRead R chip k) ≡ page)
+      ⊎ (sum (pageAt (R .sizes .p) chip) (slotsRead R chip k) ⊕ fillerPage (R .sizes .p) ≡ page)
+  pub read-gives : (work : List ℕ) → length work ≡ workLength (R .sizes) → readAnswer R chip work k ≡ readGives (length (slotsRead R chip k)) page
 
 -- what holds at every moment; the pages of `chip₀`, the store at rest, are the originals
 pub record Keeps (R : Request) (chip₀ : Chip) (h : History) : Type 0 where
-  pub stays : (k : ℕ) → k < originalCount (R .sizes) → Stays R (h .chip) k (pageAt (R .sizes .p) chip₀ (slotOf (R .sizes .m) k))
+  pub stays : (k : ℕ) → k < originalCount (R .sizes) → isDropped (R .list) k ≡ false
+      → Stays R (h .chip) k (pageAt (R .sizes .p) chip₀ (slotOf (R .sizes .m) k))
+  -- a dropped original is read as 255s, and nothing is summed for it
+  pub dropped : (k : ℕ) → k < originalCount (R .sizes) → isDropped (R .list) k ≡ true
+      → (work : List ℕ) → length work ≡ workLength (R .sizes) → readAnswer R (h .chip) work k ≡ readGives 0 (fillerPage (R .sizes .p))
   -- at most 2 × n erases, and one more for each recovery call
   pub erases : count isErase (h .begun) ≤ 2 * R .sizes .n + h .mends
   -- where there was neither cut nor recovery, no block is erased three times
   pub block-erases : h .cuts ≡ 0 → h .mends ≡ 0 → (b : ℕ) → count (erasesBlock b) (h .begun) ≤ 2
-  -- once finished, every page stays where the list sends it
-  pub final : h .finished ≡ true → (k : ℕ) → k < originalCount (R .sizes)
-      → pageAt (R .sizes .p) (h .chip) (slotOf (R .sizes .m) (getD (move R .list) k 0)) ≡ pageAt (R .sizes .p) chip₀ (slotOf (R .sizes .m) k)
+  -- once finished, every page that is kept stays where the list sends it, and 255s stay where the dropped ones are sent
+  pub final : h .finished ≡ true → (k : ℕ) → k < originalCount (R .sizes) → isDropped (R .list) k ≡ false
+      → pageAt (R .sizes .p) (h .chip) (slotOf (R .sizes .m) (getD (R .list) k 0)) ≡ pageAt (R .sizes .p) chip₀ (slotOf (R .sizes .m) k)
+  pub final-dropped : h .finished ≡ true → (k : ℕ) → k < originalCount (R .sizes) → isDropped (R .list) k ≡ true
+      → pageAt (R .sizes .p) (h .chip) (slotOf (R .sizes .m) (getD (move R .list) k 0)) ≡ fillerPage (R .sizes .p)
   -- whenever a run is not refused, store and marks are those of its place (demand 2 along the list)
   pub placed : (work : List ℕ) (place : ℕ) → refusal (runRows R (h .chip) work place) ≡ 0
-      → h .chip ≡ stateOf (move R) (originalsIn (R .sizes) chip₀) place
+      → h .chip ≡ stateOf (plan R) (originalsIn (R .sizes) chip₀) place
   -- recovery always succeeds, the run after it is accepted, and with budget enough it reaches the finish
   pub recovers : mendAnswer (R .sizes) (h .chip) .number ≡ 0
   pub goes-on : (work : List ℕ) → length work ≡ workLength (R .sizes) → (budget : ℕ) → lastPlace (R .sizes) ≤ budget
@@ -88,8 +101,8 @@ AtEach P (h ∷ hs) = P h × AtEach P hs
 pub record Demand3 : Type 0 where
   pub kept : (R : Request) (chip₀ : Chip) → Start R chip₀ → (events : List Event) → AllAllowed R events (starting chip₀)
       → AtEach (Keeps R chip₀) (moments events (starting chip₀))
-  -- The slots are chosen by the move, the marks and k alone, before any store is seen; a read of every chip with these marks sums them.
+  -- The terms are chosen by the plan, the marks and k alone, before any store is seen; a read of every chip with these marks sums them.
   pub same-slots : (R : Request) (marks : List ℕ) (k : ℕ)
-      → (slots : List ℕ)
+      → (terms : List Term)
       × ((chip : Chip) → chip .marks ≡ marks → (work : List ℕ) → readAnswer R chip work k .number ≡ 0
-      → readAnswer R chip work k ≡ readGives (length slots) (sum (pageAt (R .sizes .p) chip) slots))
+      → readAnswer R chip work k ≡ readGives (length (storedSlots terms)) (sum (termPage (R .sizes .p) chip) terms))

@@ -13,7 +13,9 @@ pub mod Counts
 pub mod Events
 pub mod Demand3
 pub mod PinsStay
+pub mod NoDrops
 pub mod Cases
+pub mod DropCases
 pub mod Example
 pub mod TwoPages
 pub mod Claims

@@ -1,16 +1,17 @@
--- Rules 6.1 to 6.5: the slots whose pages are summed for an original. They follow from the sizes, the marks, the
+-- Rules 6.1 to 6.6: the slots whose pages are summed for an original, and what each of them adds. They follow from the sizes, the marks, the
 -- list, the split, s and k alone.
-use mathlib.Core.Bool.{Bool, cond, _||_}
-use mathlib.Core.List.{List, [], _∷_}
+use mathlib.Core.Bool.{Bool, cond, _&&_, _||_}
+use mathlib.Core.List.{List, [], _∷_, map}
 use Prim.Native.Nat.{ℕ, zero, suc, _+_, _-_}
-use lib.ListN.{getD}
+use lib.Dec.{eqb}
+use lib.ListN.{getD, replicate}
 use Rattle.flash.specs.Lists.{range, any}
 use Rattle.flash.specs.declared.sizes.Sizes.{Sizes}
 use Rattle.flash.specs.Geometry.{slot, blockOf, slotOf, letter}
 use Rattle.flash.specs.PageSum.{sum}
-use Rattle.flash.specs.Chip.{Chip, pageAt, isFull}
+use Rattle.flash.specs.Chip.{Chip, erased, pageAt, markAt, isFull}
 use Rattle.split.specs.Split.{setOf}
-use Rattle.method.specs.Move.{Move}
+use Rattle.method.specs.Move.{Move, Plan}
 use Rattle.method.specs.Cycle.{D, dest, pred, top, isTop}
 
 module _ (M : Move) (marks : List ℕ) where
@@ -60,6 +61,35 @@ module _ (M : Move) (marks : List ℕ) where
       -- 6.4
       (goOn set n v)))
 
+-- A term of a sum: the page of a slot, or the page of 255s that a dropped original counts as.
+pub data Term : Type 0 where
+  stored : (t : ℕ) → Term
+  filler : Term
+
+unfoldable pub fillerPage : (P : ℕ) → List ℕ
+fillerPage P = replicate P erased
+
+unfoldable pub termPage : (P : ℕ) → Chip → Term → List ℕ
+termPage P chip (stored t) = pageAt P chip t
+termPage P chip filler = fillerPage P
+
+-- the slots among the terms: how many there are is the count of stored pages summed
+unfoldable pub storedSlots : List Term → List ℕ
+storedSlots [] = []
+storedSlots (stored t ∷ terms) = t ∷ storedSlots terms
+storedSlots (filler ∷ terms) = storedSlots terms
+
+module _ (X : Plan) (marks : List ℕ) where
+  open Sizes (X .move .sizes) using (m)
+
+  -- Rule 6.6: a slot adds its page; but while it is marked s, it holds an original of its own, which counts as 255s if it is dropped.
+  unfoldable pub termAt : (t : ℕ) → Term
+  termAt t = cond (eqb (markAt marks t) (letter (X .move .sizes) 0) && X .isDropped (t - m)) filler (stored t)
+
+  -- rule 6.6: an original that is dropped is not looked for
+  unfoldable pub readTerms : (k : ℕ) → List Term
+  readTerms k = cond (X .isDropped k) (filler ∷ []) (map termAt (readSlots (X .move) marks k))
+
 -- rule 7.5: what read leaves in the work page
-unfoldable pub readPage : Move → Chip → (k : ℕ) → List ℕ
-readPage M chip k = sum (pageAt (M .sizes .p) chip) (readSlots M (chip .marks) k)
+unfoldable pub readPage : Plan → Chip → (k : ℕ) → List ℕ
+readPage X chip k = sum (termPage (X .move .sizes .p) chip) (readTerms X (chip .marks) k)

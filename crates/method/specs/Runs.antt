@@ -1,5 +1,5 @@
 -- What is claimed of runs: they add up, and from rest they lead through the states of the places.
-use mathlib.Core.Bool.{true}
+use mathlib.Core.Bool.{true, false}
 use mathlib.Core.Path.{_≡_}
 use mathlib.Core.List.{List}
 use Prim.Native.Nat.{ℕ, zero, suc, _+_, _≤_, _<_}
@@ -7,11 +7,13 @@ use lib.ListN.{length, getD}
 use Rattle.flash.specs.Tables.{refusal}
 use Rattle.flash.specs.Geometry.{slot, slotOf, originalCount, storeLength, marksLength, workLength}
 use Rattle.flash.specs.Chip.{Chip, pageAt, isBlank}
+use Rattle.split.specs.Drops.{isDropped}
 use Rattle.split.specs.Split.{isSplit}
 use Rattle.split.specs.Answer.{splitAnswer}
 use Rattle.split.specs.Request.{Request}
-use Rattle.method.specs.Move.{move}
+use Rattle.method.specs.Move.{move, plan}
 use Rattle.method.specs.Place.{Pass, write, operationAt, lastPlace}
+use Rattle.method.specs.Read.{fillerPage}
 use Rattle.method.specs.State.{isAtRest, originalsIn, stateOf}
 use Rattle.method.specs.Step.{added}
 use Rattle.method.specs.Answers.{RunAnswer, runRows, runAnswer}
@@ -56,16 +58,17 @@ pub record Start (R : Request) (chip : Chip) : Type 0 where
   pub marks-length : length (chip .marks) ≡ marksLength (R .sizes)
   pub at-rest : isAtRest (R .sizes) chip ≡ true
   pub list-accepted : splitAnswer R .number ≡ 0
-  pub split-correct : isSplit (R .sizes .n) (R .sizes .m) (R .list) (R .sets) ≡ true
+  pub split-correct : isSplit (R .sizes .n) (R .sizes .m) (move R .list) (R .sets) ≡ true
 
 -- Demand 2: from rest, after t steps, store and marks are the state of place t: the coded pages, originals, final pages and blanks
--- of rule 4.5. At the end every page is where the list sends it.
+-- of rule 4.5. At the end every page is where the completed list sends it, a dropped one as 255s.
 pub record StatesReached : Type 0 where
   pub after-steps : (R : Request) (chip : Chip) → Start R chip → (work : List ℕ) → length work ≡ workLength (R .sizes)
       → (t : ℕ) → t ≤ lastPlace (R .sizes)
       → (runAnswer R chip work 0 t .number ≡ 0) × (runAnswer R chip work 0 t .place ≡ t)
-      × (runAnswer R chip work 0 t .chip ≡ stateOf (move R) (originalsIn (R .sizes) chip) t)
+      × (runAnswer R chip work 0 t .chip ≡ stateOf (plan R) (originalsIn (R .sizes) chip) t)
   pub at-end : (R : Request) (chip : Chip) → Start R chip → (work : List ℕ) → length work ≡ workLength (R .sizes)
       → (k : ℕ) → k < originalCount (R .sizes)
-      → pageAt (R .sizes .p) (runAnswer R chip work 0 (lastPlace (R .sizes)) .chip) (slotOf (R .sizes .m) (getD (move R .list) k 0))
-      ≡ pageAt (R .sizes .p) chip (slotOf (R .sizes .m) k)
+      → (let there = pageAt (R .sizes .p) (runAnswer R chip work 0 (lastPlace (R .sizes)) .chip) (slotOf (R .sizes .m) (getD (move R .list) k 0)) in
+      (isDropped (R .list) k ≡ false → there ≡ pageAt (R .sizes .p) chip (slotOf (R .sizes .m) k))
+      × (isDropped (R .list) k ≡ true → there ≡ fillerPage (R .sizes .p)))

@@ -1,5 +1,5 @@
 -- Rules 1.16 and 4.5: the store at rest, and the store and marks that each place of a move from rest has.
-use mathlib.Core.Bool.{Bool, _&&_}
+use mathlib.Core.Bool.{Bool, cond, _&&_}
 use mathlib.Core.List.{List, [], _∷_, _++_}
 use Prim.Native.Nat.{ℕ, _+_, _*_, _/_, _%_}
 use lib.ListN.{drop, replicate}
@@ -8,9 +8,10 @@ use Rattle.flash.specs.declared.sizes.Sizes.{Sizes}
 use Rattle.flash.specs.Geometry.{slot, numberAt, originalCount, slotCount}
 use Rattle.flash.specs.PageSum.{sum}
 use Rattle.flash.specs.Chip.{Chip, erased, isBlank, isFull}
-use Rattle.method.specs.Move.{Move}
+use Rattle.method.specs.Move.{Move, Plan}
 use Rattle.method.specs.Cycle.{coded, sentTo}
 use Rattle.method.specs.Place.{Held, blank, plain, code, final, heldAt, marksOf}
+use Rattle.method.specs.Read.{fillerPage}
 
 -- rule 1.16
 unfoldable pub isAtRest : Sizes → Chip → Bool
@@ -36,15 +37,20 @@ heldOriginals M plain block page = numberAt (M .sizes .m) block page ∷ []
 heldOriginals M code block page = coded M page (block + 1)
 heldOriginals M final block page = sentTo M (numberAt (M .sizes .m) block page) ∷ []
 
-module _ (M : Move) (originals : List ℕ) where
+module _ (X : Plan) (originals : List ℕ) where
+  open Plan X using (move as M)
   open Sizes (M .sizes) using (m, p as P)
 
-  -- the bytes of a page from the originals
+  -- rule 1.19: what an original counts as in coded and final pages
+  unfoldable pub countsAs : (k : ℕ) → List ℕ
+  countsAs k = cond (X .isDropped k) (fillerPage P) (part P k originals)
+
+  -- the bytes of a page from the originals: a plain page has its own, dropped or not
   unfoldable pub heldPage : Held → (block page : ℕ) → List ℕ
   heldPage blank block page = replicate P erased
   heldPage plain block page = sum (λ k. part P k originals) (heldOriginals M plain block page)
-  heldPage code block page = sum (λ k. part P k originals) (heldOriginals M code block page)
-  heldPage final block page = sum (λ k. part P k originals) (heldOriginals M final block page)
+  heldPage code block page = sum countsAs (heldOriginals M code block page)
+  heldPage final block page = sum countsAs (heldOriginals M final block page)
 
   -- the state of a place: the bytes and the mark of every slot
   unfoldable pub stateOf : (place : ℕ) → Chip

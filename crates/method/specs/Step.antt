@@ -8,11 +8,11 @@ use Rattle.flash.specs.Lists.{concatMap}
 use Rattle.flash.specs.declared.sizes.Sizes.{Sizes}
 use Rattle.flash.specs.Geometry.{slot}
 use Rattle.flash.specs.PageSum.{sum, writtenBytes}
-use Rattle.flash.specs.Chip.{Chip, pageAt, eraseBlock, writePage}
+use Rattle.flash.specs.Chip.{Chip, eraseBlock, writePage}
 use Rattle.method.specs.declared.tally.Tally.{Tally}
-use Rattle.method.specs.Move.{Move}
+use Rattle.method.specs.Move.{Move, Plan}
 use Rattle.method.specs.Place.{Pass, Operation, write, erase, done, markOf, written, operations, operationAt}
-use Rattle.method.specs.Read.{readSlots}
+use Rattle.method.specs.Read.{Term, termPage, readTerms}
 use Rattle.method.specs.State.{heldOriginals}
 
 -- what a run changes: the store and the marks, and the work page
@@ -23,17 +23,19 @@ pub record Running : Type 0 where
 abbrev pub runningOf : (store marks work : List ℕ) → Running
 runningOf store marks work = record { chip = record { store = store; marks = marks }; work = work }
 
-module _ (M : Move) where
-  -- rules 4.1 and 4.2: the originals whose sum is written
-  unfoldable pub originalsOf : Pass → (block page : ℕ) → List ℕ
-  originalsOf pass block page = heldOriginals M (written pass) block page
+-- rules 4.1 and 4.2: the originals whose sum is written
+unfoldable pub originalsOf : Move → Pass → (block page : ℕ) → List ℕ
+originalsOf M pass block page = heldOriginals M (written pass) block page
 
-  -- rule 4.4: the slots that are summed for a write
-  unfoldable pub writeSlots : Pass → (block page : ℕ) → (marks : List ℕ) → List ℕ
-  writeSlots pass block page marks = concatMap (readSlots M marks) (originalsOf pass block page)
+module _ (X : Plan) where
+  open Plan X using (move as M)
+
+  -- rule 4.4: what is summed for a write
+  unfoldable pub writeTerms : Pass → (block page : ℕ) → (marks : List ℕ) → List Term
+  writeTerms pass block page marks = concatMap (readTerms X marks) (originalsOf M pass block page)
 
   unfoldable pub writtenPage : Pass → (block page : ℕ) → Chip → List ℕ
-  writtenPage pass block page chip = sum (pageAt (M .sizes .p) chip) (writeSlots pass block page (chip .marks))
+  writtenPage pass block page chip = sum (termPage (M .sizes .p) chip) (writeTerms pass block page (chip .marks))
 
   -- rule 7.2: a write leaves its page in the work page
   unfoldable pub perform : Operation → Running → Running
@@ -87,11 +89,11 @@ tallied (erase block) work t = record { steps = t .steps + 1; writes = t .writes
 tallied done work t = t
 
 -- of as many steps as `count` says, each from the next place
-unfoldable pub tallyOf : Move → (count place : ℕ) → Running → Tally
-tallyOf M zero place run = nothingDone
-tallyOf M (suc count) place run =
-    let after = step M place run in
-    tallied (operationAt (M .sizes) place) (after .work) (tallyOf M count (suc place) after)
+unfoldable pub tallyOf : Plan → (count place : ℕ) → Running → Tally
+tallyOf X zero place run = nothingDone
+tallyOf X (suc count) place run =
+    let after = step X place run in
+    tallied (operationAt (X .move .sizes) place) (after .work) (tallyOf X count (suc place) after)
 
 -- two tallies together
 abbrev pub added : Tally → Tally → Tally

@@ -8,7 +8,7 @@ use lib.ListN.{length, take, drop}
 use Rattle.flash.specs.Lists.{range, count}
 use Rattle.flash.specs.Chip.{Chip}
 use Rattle.split.specs.Request.{Request, requestOf, unpinned}
-use Rattle.method.specs.Move.{move}
+use Rattle.method.specs.Move.{plan}
 use Rattle.method.specs.State.{stateOf}
 use Rattle.method.specs.Step.{isErase}
 use Rattle.method.specs.Runs.{Start}
@@ -131,8 +131,8 @@ module _ (byte : ℕ) where
         ≡ 0 ∷ 1 ∷ 2 ∷ 3 ∷ 3 ∷ 3 ∷ 3 ∷ 4 ∷ 5 ∷ 5 ∷ 6 ∷ 7 ∷ 7 ∷ 8 ∷ 8 ∷ 9 ∷ 10 ∷ 10 ∷ 10 ∷ 11
         ∷ 12 ∷ 12 ∷ 13 ∷ 14 ∷ 15 ∷ 16 ∷ 17 ∷ 18 ∷ 18 ∷ 18 ∷ 19 ∷ 20 ∷ 20 ∷ []
     -- inside the first call, and inside the run to the finish, the chip goes through the states of the places
-    pub first-call : map (λ h. h .chip) (take 3 all-moments) ≡ map (stateOf (move two) (1 ∷ 2 ∷ 4 ∷ 8 ∷ [])) (range 0 3)
-    pub last-run : map (λ h. h .chip) (take 7 (drop 21 all-moments)) ≡ map (stateOf (move two) (1 ∷ 2 ∷ 4 ∷ 8 ∷ [])) (range 6 7)
+    pub first-call : map (λ h. h .chip) (take 3 all-moments) ≡ map (stateOf (plan two) (1 ∷ 2 ∷ 4 ∷ 8 ∷ [])) (range 0 3)
+    pub last-run : map (λ h. h .chip) (take 7 (drop 21 all-moments)) ≡ map (stateOf (plan two) (1 ∷ 2 ∷ 4 ∷ 8 ∷ [])) (range 6 7)
     -- a read while page 1 of block 1 is torn: it sums n pages, which is the bound
     pub read-torn : readAnswer two upperTorn (junk 1) 1 ≡ record { number = 0; count = two .sizes .n; bytes = 1; work = 2 ∷ [] }
 

@@ -1,5 +1,6 @@
 -- Laws of the mover's definitions, used by the proofs of its functions.
 pub mod StepLaws
 pub mod RunLaws
+pub mod PlanLaws
 pub mod RefusalLaws
 pub mod ReadLaws

@@ -1,15 +1,17 @@
 -- Rows 1, 2, 3, 11 and 4 of the table, and what a move is given that they do not refuse.
-use Rattle.flash.proofs.Kit.{_≡_, refl, _∙_, _≢_, Bool, true, false, cond, _&&_, not, List, [], _∷_, ℕ, arith, eqb, length, ne-eqb}
+use Rattle.flash.proofs.Kit.{_≡_, refl, _∙_, _≢_, Bool, true, false, cond, _&&_, not, List, [], _∷_, ℕ, _*_, arith, eqb, length, ne-eqb}
+use Rattle.flash.specs.Lists.{any}
 use Rattle.flash.specs.Tables.{Row, firstFit, numberOr0, refusal}
 use Rattle.flash.specs.declared.sizes.Sizes.{Sizes}
 use Rattle.flash.specs.Geometry.{inRange, originalCount}
 use Rattle.flash.specs.Chip.{Chip}
 use Rattle.flash.proofs.Tables.{refusal-nil}
-use Rattle.split.specs.OneToOne.{badList, isOneToOne}
+use Rattle.split.specs.OneToOne.{dropped, badList, isOneToOne}
 use Rattle.split.specs.Split.{isSplit}
 use Rattle.split.specs.Pins.{movesPinned}
 use Rattle.split.specs.Request.{Request}
-use Rattle.method.specs.Move.{move}
+use Rattle.split.proofs.DropLaws.{undropped-completed, undropped-bad}
+use Rattle.method.specs.Move.{move, plan}
 use Rattle.method.specs.Step.{nothingDone}
 use Rattle.method.specs.Answers.{badParts, isElsewhere, moveRows, runRows, RunAnswer, stepsTaken, runCarriedOut, runRefused, runAnswer}
 use Rattle.method.proofs.basics.AcceptedCalls.{parts-ok}
@@ -39,7 +41,7 @@ module _ (R : Request) (chip : Chip) (work : List ℕ) where
 
   pub move-number : number
       ≡ cond (not (inRange (R .sizes))) 1 (cond (badParts R chip work) 2 (cond (badList (originalCount (R .sizes)) (R .list)) 3
-      (cond (movesPinned (R .pins) (R .list)) 11 (cond (not (isSplit n m (R .list) (R .sets))) 4 0))))
+      (cond (movesPinned (R .pins) (R .list)) 11 (cond (not (isSplit n m (move R .list) (R .sets))) 4 0))))
   unfolding moveRows
   move-number = rw (row-first, row-first, row-first, row-first, row-first, refusal-nil)
 
@@ -49,7 +51,7 @@ module _ (R : Request) (chip : Chip) (work : List ℕ) where
     move-then =
         rw (move-number, row-first, row-first, row-first, row-first, row-first)
         (first-rows (not (inRange (R .sizes))) (badParts R chip work) (badList (originalCount (R .sizes)) (R .list))
-        (movesPinned (R .pins) (R .list)) (not (isSplit n m (R .list) (R .sets))) (refusal rest))
+        (movesPinned (R .pins) (R .list)) (not (isSplit n m (move R .list) (R .sets))) (refusal rest))
 
     pub by-move : (x : ℕ) → x ≡ number → x ≢ 0 → refusal (moveRows R chip work rest) ≡ x
     by-move x e ne = move-then ∙ rw (← e, ne-eqb x 0 ne)
@@ -57,24 +59,62 @@ module _ (R : Request) (chip : Chip) (work : List ℕ) where
     pub past-move : 0 ≡ number → refusal (moveRows R chip work rest) ≡ refusal rest
     past-move e = move-then ∙ rw (← e)
 
-  -- past rows 1 and 2 the list decides, then the pins, and then the split
-  pub by-list : inRange (R .sizes) ≡ true → badParts R chip work ≡ false
-      → (let found : ℕ = cond (isOneToOne (length (R .list)) (R .list)) (cond (isSplit n m (R .list) (R .sets)) 0 4) 3 in
-      number ≡ cond (not (eqb found 3) && movesPinned (R .pins) (R .list)) 11 found)
-  unfolding isOneToOne
-  by-list e f =
-      move-number
-      ∙ rw (e, f, parts-ok R chip work f .0)
-      (in-turn (badList (originalCount (R .sizes)) (R .list)) (movesPinned (R .pins) (R .list)) (isSplit n m (R .list) (R .sets)))
-    where
-      in-turn : (bad moved split : Bool)
-          → (let found : ℕ = cond (not bad) (cond split 0 4) 3 in
-          _≡_ {A = ℕ} (cond bad 3 (cond moved 11 (cond (not split) 4 0))) (cond (not (eqb found 3) && moved) 11 found))
-      in-turn true moved split = refl
-      in-turn false true true = refl
-      in-turn false true false = refl
-      in-turn false false true = refl
-      in-turn false false false = refl
+  -- past rows 1 and 2
+  module _ (ranged : inRange (R .sizes) ≡ true) (parts : badParts R chip work ≡ false) where
+    abbrev bad : Bool
+    bad = badList (n * m) (R .list)
+
+    abbrev split : Bool
+    split = isSplit n m (move R .list) (R .sets)
+
+    by-rows : number ≡ cond bad 3 (cond (movesPinned (R .pins) (R .list)) 11 (cond split 0 4))
+    by-rows = move-number ∙ rw (ranged, parts) (last bad (movesPinned (R .pins) (R .list)) split)
+      where
+        last : (bad moved split : Bool)
+            → _≡_ {A = ℕ} (cond bad 3 (cond moved 11 (cond (not split) 4 0))) (cond bad 3 (cond moved 11 (cond split 0 4)))
+        last true moved split = refl
+        last false true split = refl
+        last false false true = refl
+        last false false false = refl
+
+    -- a list without drops is judged with the split, and the pins come in between
+    pub by-list : any (eqb dropped) (R .list) ≡ false
+        → (let found : ℕ = cond (isOneToOne (n * m) (R .list)) (cond (isSplit n m (R .list) (R .sets)) 0 4) 3 in
+        number ≡ cond (not (eqb found 3) && movesPinned (R .pins) (R .list)) 11 found)
+    by-list none =
+        by-rows ∙ rw (undropped-bad (R .list) none (n * m), undropped-completed (R .list) none)
+        (in-turn (isOneToOne (n * m) (R .list)) (movesPinned (R .pins) (R .list)) (isSplit n m (R .list) (R .sets)))
+      where
+        in-turn : (good moved split : Bool)
+            → (let found : ℕ = cond good (cond split 0 4) 3 in
+            _≡_ {A = ℕ} (cond (not good) 3 (cond moved 11 (cond split 0 4))) (cond (not (eqb found 3) && moved) 11 found))
+        in-turn false moved split = refl
+        in-turn true true true = refl
+        in-turn true true false = refl
+        in-turn true false true = refl
+        in-turn true false false = refl
+
+    -- one with drops is judged with the pins, and completed before the split is looked at
+    abbrev judged : ℕ
+    judged = cond bad 3 (cond (movesPinned (R .pins) (R .list)) 11 0)
+
+    pub by-drops : judged ≢ 0 → number ≡ judged
+    by-drops ne = by-rows ∙ go bad (movesPinned (R .pins) (R .list)) ne
+      where
+        go : (bad moved : Bool) → _≢_ {A = ℕ} (cond bad 3 (cond moved 11 0)) 0
+            → _≡_ {A = ℕ} (cond bad 3 (cond moved 11 (cond split 0 4))) (cond bad 3 (cond moved 11 0))
+        go true moved ne = refl
+        go false true ne = refl
+        go false false ne = absurd (ne refl)
+
+    pub past-drops : judged ≡ 0 → (bad ≡ false) × (number ≡ cond split 0 4)
+    past-drops e = (let g = go bad (movesPinned (R .pins) (R .list)) e in (g .0, by-rows ∙ g .1))
+      where
+        go : (bad moved : Bool) → _≡_ {A = ℕ} (cond bad 3 (cond moved 11 0)) 0
+            → (bad ≡ false) × _≡_ {A = ℕ} (cond bad 3 (cond moved 11 (cond split 0 4))) (cond split 0 4)
+        go true moved e = absurd (omega arith)
+        go false true e = absurd (omega arith)
+        go false false e = (refl, refl)
 
 -- ---- the answer of run
 module _ (R : Request) (chip : Chip) (work : List ℕ) (place : ℕ) where
@@ -103,6 +143,6 @@ module _ (R : Request) (chip : Chip) (work : List ℕ) (place : ℕ) where
     refused-by-place e f = refused-answer 5 (λ z. absurd (omega arith)) (by-place true e f)
 
     pub not-refused : 0 ≡ refusal (moveRows R chip work []) → false ≡ isElsewhere (R .sizes) chip place
-        → (answer : RunAnswer) → answer ≡ runCarriedOut (move R) chip work place (stepsTaken (R .sizes) place budget) → answer ≡ runAnswer R chip work place budget
+        → (answer : RunAnswer) → answer ≡ runCarriedOut (plan R) chip work place (stepsTaken (R .sizes) place budget) → answer ≡ runAnswer R chip work place budget
     unfolding runAnswer
     not-refused e f answer A = rw (by-place false e f) A

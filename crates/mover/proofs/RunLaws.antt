@@ -9,7 +9,7 @@ use Rattle.flash.proofs.Bools.{one-or-0}
 use Rattle.flash.proofs.Bounds.{block-in-marks, block-in-store, product-le}
 use Rattle.flash.proofs.Chips.{erase-page-other}
 use Rattle.method.specs.declared.tally.Tally.{Tally}
-use Rattle.method.specs.Move.{Move, AcceptedMove, Lent}
+use Rattle.method.specs.Move.{Plan, AcceptedMove, Lent}
 use Rattle.method.specs.Place.{Pass, forward, backward, Operation, write, erase, done, markOf, operationAt, lastPlace, passAt, filling, filled}
 use Rattle.method.specs.Step.{runningOf, Running, perform, step, steps, nothingDone, tallied, tallyOf}
 use Rattle.method.specs.Answers.{isElsewhere, stepsTaken, runCarriedOut}
@@ -24,87 +24,87 @@ use Rattle.places.proofs.PlaceLaws.{last-small}
 use Rattle.mover.specs.Answers.{ranAs}
 use Rattle.mover.specs.inner.Steps.{lastSlot}
 
-pub none-taken : (M : Move) (place : ℕ) (run : Running) → run .chip ≡ steps M 0 place run .chip
+pub none-taken : (X : Plan) (place : ℕ) (run : Running) → run .chip ≡ steps X 0 place run .chip
 unfolding steps
-none-taken M place run = refl
+none-taken X place run = refl
 
-pub none-counted : (M : Move) (place : ℕ) (run : Running) → nothingDone ≡ tallyOf M 0 place run
+pub none-counted : (X : Plan) (place : ℕ) (run : Running) → nothingDone ≡ tallyOf X 0 place run
 unfolding tallyOf
-none-counted M place run = refl
+none-counted X place run = refl
 
 -- what becomes of the chip does not hang on the work page
-performed : (M : Move) (run : Running) (op : Operation) → perform M op (record { chip = run .chip; work = [] }) .chip ≡ perform M op run .chip
+performed : (X : Plan) (run : Running) (op : Operation) → perform X op (record { chip = run .chip; work = [] }) .chip ≡ perform X op run .chip
 unfolding perform
-performed M run (write pass block page) = refl
-performed M run (erase block) = refl
-performed M run done = refl
+performed X run (write pass block page) = refl
+performed X run (erase block) = refl
+performed X run done = refl
 
 -- nor does what is counted: of a write its own page, of an erase none
-counted-by : (M : Move) (run : Running) (op : Operation) (t : Tally)
-    → tallied op (perform M op (record { chip = run .chip; work = [] }) .work) t ≡ tallied op (perform M op run .work) t
+counted-by : (X : Plan) (run : Running) (op : Operation) (t : Tally)
+    → tallied op (perform X op (record { chip = run .chip; work = [] }) .work) t ≡ tallied op (perform X op run .work) t
 unfolding perform tallied
-counted-by M run (write pass block page) t = refl
-counted-by M run (erase block) t = refl
-counted-by M run done t = refl
+counted-by X run (write pass block page) t = refl
+counted-by X run (erase block) t = refl
+counted-by X run done t = refl
 
-module _ (M : Move) (place i : ℕ) where
-  pub one-taken : (start : Running) (chip next : Chip) → chip ≡ steps M i place start .chip
-      → next ≡ step M (place + i) (record { chip = chip; work = [] }) .chip → next ≡ steps M (i + 1) place start .chip
+module _ (X : Plan) (place i : ℕ) where
+  pub one-taken : (start : Running) (chip next : Chip) → chip ≡ steps X i place start .chip
+      → next ≡ step X (place + i) (record { chip = chip; work = [] }) .chip → next ≡ steps X (i + 1) place start .chip
   unfolding steps step
-  one-taken start chip next e f = rw (steps-add M i 1 place start) (f ∙ rw e (performed M (steps M i place start) (operationAt (M .sizes) (place + i))))
+  one-taken start chip next e f = rw (steps-add X i 1 place start) (f ∙ rw e (performed X (steps X i place start) (operationAt (X .move .sizes) (place + i))))
 
-  pub one-counted : (start : Running) (chip : Chip) (tally next : Tally) → chip ≡ steps M i place start .chip → tally ≡ tallyOf M i place start
-      → next ≡ tallied (operationAt (M .sizes) (place + i)) (step M (place + i) (record { chip = chip; work = [] }) .work) tally
-      → next ≡ tallyOf M (i + 1) place start
+  pub one-counted : (start : Running) (chip : Chip) (tally next : Tally) → chip ≡ steps X i place start .chip → tally ≡ tallyOf X i place start
+      → next ≡ tallied (operationAt (X .move .sizes) (place + i)) (step X (place + i) (record { chip = chip; work = [] }) .work) tally
+      → next ≡ tallyOf X (i + 1) place start
   unfolding steps step
   one-counted start chip tally next c e f =
-      f ∙ rw (c, e) (counted-by M (steps M i place start) (operationAt (M .sizes) (place + i)) (tallyOf M i place start))
-      ∙ sym (rw (steps-add M i 1 place start) at (tally-next M i place start))
+      f ∙ rw (c, e) (counted-by X (steps X i place start) (operationAt (X .move .sizes) (place + i)) (tallyOf X i place start))
+      ∙ sym (rw (steps-add X i 1 place start) at (tally-next X i place start))
 
 -- ---- the answer of a run that is carried out
-pub carried : (M : Move) (store marks work : List ℕ) (place budget last taken : ℕ) (store′ marks′ work′ : List ℕ) (tally : Tally)
-    → last ≡ lastPlace (M .sizes) → taken ≡ min budget (last - place)
-    → _≡_ {A = Chip} (record { store = store′; marks = marks′ }) (steps M taken place (runningOf store marks work) .chip)
-    → work′ ≡ steps M taken place (runningOf store marks work) .work → tally ≡ tallyOf M taken place (runningOf store marks work)
+pub carried : (X : Plan) (store marks work : List ℕ) (place budget last taken : ℕ) (store′ marks′ work′ : List ℕ) (tally : Tally)
+    → last ≡ lastPlace (X .move .sizes) → taken ≡ min budget (last - place)
+    → _≡_ {A = Chip} (record { store = store′; marks = marks′ }) (steps X taken place (runningOf store marks work) .chip)
+    → work′ ≡ steps X taken place (runningOf store marks work) .work → tally ≡ tallyOf X taken place (runningOf store marks work)
     → ranAs (record { number = 0; place = place + taken; tally = tally; finished = boolByte (eqb (place + taken) last) }) store′ marks′ work′
-    ≡ runCarriedOut M (record { store = store; marks = marks }) work place (stepsTaken (M .sizes) place budget)
+    ≡ runCarriedOut X (record { store = store; marks = marks }) work place (stepsTaken (X .move .sizes) place budget)
 unfolding runCarriedOut stepsTaken
-carried M store marks work place budget last taken store′ marks′ work′ tally e f L W C =
-    let t : taken ≡ min budget (lastPlace (M .sizes) - place) = rw e at f in
+carried X store marks work place budget last taken store′ marks′ work′ tally e f L W C =
+    let t : taken ≡ min budget (lastPlace (X .move .sizes) - place) = rw e at f in
     rw (← t, ← e, C, ← L, ← W, one-or-0)
 
 -- ---- a run that goes on: after so many steps it stands at the place that they lead to
-module _ (M : Move) (A : AcceptedMove M) (run : Running) (place : ℕ) (L : Lent (M .sizes) (run .chip) (run .work))
-    (here : isElsewhere (M .sizes) (run .chip) place ≡ false) where
-  open Sizes (M .sizes) using (m, p as P)
+module _ (X : Plan) (A : AcceptedMove (X .move)) (run : Running) (place : ℕ) (L : Lent (X .move .sizes) (run .chip) (run .work))
+    (here : isElsewhere (X .move .sizes) (run .chip) place ≡ false) where
+  open Sizes (X .move .sizes) using (m, p as P)
 
   abbrev Z : Sizes
-  Z = M .sizes
+  Z = X .move .sizes
 
   abbrev after : (i : ℕ) → Running
-  after i = steps M i place run
+  after i = steps X i place run
 
-  begins : Stood M A run place
+  begins : Stood X A run place
   begins = record { lent = L; stands = stands-at Z (run .chip) place here }
 
-  stood : (i : ℕ) → place + i ≤ lastPlace Z → Stood M A (after i) (place + i)
-  stood i h = steps-stand M A i place run h begins
+  stood : (i : ℕ) → place + i ≤ lastPlace Z → Stood X A (after i) (place + i)
+  stood i h = steps-stand X A i place run h begins
 
-  pub goes-on : (i : ℕ) → place + i ≤ lastPlace Z → (chip : Chip) → chip ≡ after i .chip → Stood M A (record { chip = chip; work = after i .work }) (place + i)
+  pub goes-on : (i : ℕ) → place + i ≤ lastPlace Z → (chip : Chip) → chip ≡ after i .chip → Stood X A (record { chip = chip; work = after i .work }) (place + i)
   goes-on i h chip e = rw e (stood i h)
 
   -- ---- what it counts is small
-  pub counts-fit : (i : ℕ) (tally : Tally) → place + i ≤ lastPlace Z → tally ≡ tallyOf M i place run
+  pub counts-fit : (i : ℕ) (tally : Tally) → place + i ≤ lastPlace Z → tally ≡ tallyOf X i place run
       → (tally .steps ≤ 8320) × (tally .writes ≤ 8320) × (tally .erases ≤ 8320) × (tally .bytes ≤ 8320 * 4096)
   counts-fit i tally h e =
       let few = last-small Z (A .ranges) in
-      let counts = few-tallied M i place run h in
-      let bytes = few-bytes M A run place begins i h in
-      rw e (omega arith, omega arith, omega arith, omega (arith, bytes, product-le (tallyOf M i place run .writes) P {c = 8320} {d = 4096} (omega arith) (A .ranges .p-high)))
+      let counts = few-tallied X i place run h in
+      let bytes = few-bytes X A run place begins i h in
+      rw e (omega arith, omega arith, omega arith, omega (arith, bytes, product-le (tallyOf X i place run .writes) P {c = 8320} {d = 4096} (omega arith) (A .ranges .p-high)))
 
   -- ---- its work page: the old one where nothing was written, or else the page of the slot that was written last
   abbrev writesIn : (i : ℕ) → ℕ
-  writesIn i = tallyOf M i place run .writes
+  writesIn i = tallyOf X i place run .writes
 
   pub record WorkLeft (i : ℕ) : Type 0 where
     pub old : writesIn i ≡ 0 → after i .work ≡ run .work
@@ -132,16 +132,16 @@ module _ (M : Move) (A : AcceptedMove M) (run : Running) (place : ℕ) (L : Lent
     last-is = omega arith
 
     done-is : (op : Operation) → operationAt Z at ≡ op
-        → (after (i + 1) ≡ perform M op (after i)) × (writesIn (i + 1) ≡ tallied op (after (i + 1) .work) (tallyOf M i place run) .writes)
+        → (after (i + 1) ≡ perform X op (after i)) × (writesIn (i + 1) ≡ tallied op (after (i + 1) .work) (tallyOf X i place run) .writes)
     unfolding steps step
-    done-is op is = rw (← is) (steps-add M i 1 place run, ap (λ (t : Tally). t .writes) (tally-next M i place run))
+    done-is op is = rw (← is) (steps-add X i 1 place run, ap (λ (t : Tally). t .writes) (tally-next X i place run))
 
     work-next : Change Z at → WorkLeft (i + 1)
     unfolding perform tallied
     work-next (by-write room op W) =
         let d = done-is _ op in
         let page : min (filled Z at) (m - 1) ≡ filled Z at = omega arith in
-        record { old = λ e. absurd (omega (arith, d .1)); new = λ e. rw (last-is, page) (page-kept M A run place begins i on room op W) }
+        record { old = λ e. absurd (omega (arith, d .1)); new = λ e. rw (last-is, page) (page-kept X A run place begins i on room op W) }
     work-next (by-erase full op E) =
         let S = stood i (omega arith) in
         let d = done-is _ op in
@@ -154,12 +154,12 @@ module _ (M : Move) (A : AcceptedMove M) (run : Running) (place : ℕ) (L : Lent
           old = λ e. rw (d .0) (before .old (sym (d .1) ∙ e));
           new = λ e.
               let some : 0 < writesIn i = omega (arith, d .1) in
-              let back : suc (at - 1) ≡ at = omega (arith, few-tallied M i place run (omega arith) .1) in
+              let back : suc (at - 1) ≡ at = omega (arith, few-tallied X i place run (omega arith) .1) in
               let behind : lastSlot Z (at - 1) ≡ slot m (filling Z at) (m - 1) = rw back at (behind-full (at - 1) (omega arith) (rw back full)) in
               rw (d .0, last-is, page) (before .new some ∙ ap (pageAt P (after i .chip)) behind ∙ sym stays);
         }
 
   pub work-left : (i : ℕ) → place + i ≤ lastPlace Z → WorkLeft i
   unfolding steps
-  work-left zero h = record { old = λ e. refl; new = λ e. absurd (omega (arith, few-tallied M 0 place run h .1)) }
+  work-left zero h = record { old = λ e. refl; new = λ e. absurd (omega (arith, few-tallied X 0 place run h .1)) }
   work-left (suc i) h = rw (← add-one i) (work-next i (omega arith) (work-left i (omega arith)) (change Z (place + i) (omega arith)))

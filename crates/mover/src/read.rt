@@ -1,18 +1,20 @@
 // Read: an original page, also in mid-move and between a cut and the recovery.
 ghost use mathlib.Core.Path.{_≡_};
+ghost use Rattle.split.specs.Drops.{listLeft};
 ghost use Rattle.split.specs.Request.{requestOf};
 ghost use Rattle.method.specs.Answers.{readAnswer};
 ghost use Rattle.mover.specs.Answers.{readAs};
 use crate::refusals::move_refusal;
 use flash::sizes::Sizes;
 use flash::sizes::original_count;
-use flash::slots::sum_to_page;
+use flash::totals::total_to_page;
 use recovery::marks::MarksRead;
 use recovery::marks::read_marks;
+use split::drops::MASKS;
 use walk::moment::moment_in;
 use walk::rows::TABLE;
+use walk::terms::read_terms;
 use walk::walk::SLOTS;
-use walk::walk::read_slots;
 
 // What a read returns: the refusal number, how many stored pages were summed, and how many bytes of the sum are not erased; 0 with a refusal.
 pub struct ReadResult {
@@ -31,10 +33,10 @@ fn refused(number: u32) -> ReadResult
     }
 }
 
-// Read: checks in the table's order, then the sum. A refused read changes nothing that is lent.
+// Read: checks in the table's order, then the sum. A refused read changes nothing that is lent but the list, which is completed once it is judged.
 pub fn read(
     sizes: Sizes,
-    list: &[u16],
+    list: &mut [u16],
     pins: &[u8],
     sets: &[u8],
     store: &[u8],
@@ -45,9 +47,23 @@ pub fn read(
     ensures { λ r. ⌜ readAs r (now (work .exit))
         ≡ readAnswer (requestOf sizes (now (list .entry)) (now (pins .entry)) (now (sets .entry)))
         (record { store = now (store .entry); marks = now (marks .entry) }) (now (work .entry)) k ⌝ }
+    ensures { λ r. ⌜ now (list .exit) ≡ listLeft (r .number) (now (list .entry)) ⌝ }
 {
     let mut table = [0u8; TABLE];
-    let number = move_refusal(sizes, list, pins, sets, store, marks, work, &mut table);
+    let mut drops = [0u64; MASKS];
+    let mut places = [0u64; MASKS];
+    let number = move_refusal(
+        sizes,
+        list,
+        pins,
+        sets,
+        store,
+        marks,
+        work,
+        &mut table,
+        &mut drops,
+        &mut places,
+    );
     if number != 0 {
         return refused(number);
     }
@@ -61,9 +77,9 @@ pub fn read(
         return refused(7);
     }
     let mut slots = [0usize; SLOTS];
-    let count = read_slots(sizes, list, sets, moment, k, &mut slots);
-    let bytes = sum_to_page(store, sizes.p, &slots, count, work) as u32;
-    let count = count as u32;
+    let terms = read_terms(sizes, list, sets, &drops, moment, k, &mut slots);
+    let bytes = total_to_page(store, sizes.p, &slots, terms.count, terms.filler, work) as u32;
+    let count = terms.count as u32;
     ReadResult {
         number: 0,
         count,

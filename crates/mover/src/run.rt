@@ -5,6 +5,7 @@ ghost use Prim.Native.Nat.{min, _≤_};
 ghost use lib.ListN.{length};
 ghost use Rattle.flash.specs.Lists.{part};
 ghost use Rattle.flash.specs.Geometry.{Bounds, storeLength};
+ghost use Rattle.split.specs.Drops.{listLeft};
 ghost use Rattle.split.specs.Request.{requestOf};
 ghost use Rattle.split.specs.inner.Rows.{ByDestination};
 ghost use Rattle.method.specs.Move.{moveOf, AcceptedMove, Lent};
@@ -12,8 +13,9 @@ ghost use Rattle.method.specs.Place.{lastPlace};
 ghost use Rattle.method.specs.Step.{nothingDone};
 ghost use Rattle.method.specs.Answers.{isElsewhere, stepsTaken, runCarriedOut, runAnswer};
 ghost use Rattle.walk.specs.inner.Rows.{PagesTable};
+ghost use Rattle.walk.specs.inner.Terms.{planBy};
 ghost use Rattle.mover.specs.Answers.{ranAs};
-ghost use Rattle.mover.specs.inner.Steps.{OtherTable, lastSlot};
+ghost use Rattle.mover.specs.inner.Steps.{DropsIn, OtherTable, lastSlot};
 use crate::refusals::move_refusal;
 use crate::step::step;
 use flash::bytes::copy;
@@ -23,6 +25,7 @@ use method::tally::Tally;
 use places::place::Place;
 use places::place::last_place;
 use places::place_marks::is_elsewhere;
+use split::drops::MASKS;
 use split::rows::sets_by_destination;
 use walk::rows::TABLE;
 use walk::rows::pages_table;
@@ -101,13 +104,16 @@ fn take_steps(
     few: bool,
     pages: &[u8],
     other: &mut [u8; TABLE],
+    drops: &[u64],
+    places: &[u64],
 ) -> RunResult
     requires { ⌜ AcceptedMove (moveOf sizes (now list) (now sets)) × Lent sizes (record { store = now store; marks = now marks }) (now work)
         × (isElsewhere sizes (record { store = now store; marks = now marks }) place ≡ false) × ByDestination (now list) (now sets) (now other)
-        × (few ≡ false → PagesTable (moveOf sizes (now list) (now sets)) (now pages)) ⌝ }
+        × (few ≡ false → PagesTable (moveOf sizes (now list) (now sets)) (now pages))
+        × DropsIn (moveOf sizes (now list) (now sets)) (now drops) (now places) ⌝ }
     ensures { λ r. ⌜ ranAs r (now (store .exit)) (now (marks .exit)) (now (work .exit))
-        ≡ runCarriedOut (moveOf sizes (now (list .entry)) (now (sets .entry))) (record { store = now (store .entry); marks = now (marks .entry) })
-        (now (work .entry)) place (stepsTaken sizes place budget) ⌝ }
+        ≡ runCarriedOut (planBy sizes (now (list .entry)) (now (sets .entry)) (now (drops .entry)))
+        (record { store = now (store .entry); marks = now (marks .entry) }) (now (work .entry)) place (stepsTaken sizes place budget) ⌝ }
 {
     let mut tally = nothing_done();
     let mut slots = [0usize; SLOTS];
@@ -128,6 +134,8 @@ fn take_steps(
             few,
             pages,
             other,
+            drops,
+            places,
             &mut slots,
             store,
             marks,
@@ -161,12 +169,15 @@ fn carry_out(
     place: usize,
     budget: usize,
     other: &mut [u8; TABLE],
+    drops: &[u64],
+    places: &[u64],
 ) -> RunResult
     requires { ⌜ AcceptedMove (moveOf sizes (now list) (now sets)) × Lent sizes (record { store = now store; marks = now marks }) (now work)
-        × (isElsewhere sizes (record { store = now store; marks = now marks }) place ≡ false) × ByDestination (now list) (now sets) (now other) ⌝ }
+        × (isElsewhere sizes (record { store = now store; marks = now marks }) place ≡ false) × ByDestination (now list) (now sets) (now other)
+        × DropsIn (moveOf sizes (now list) (now sets)) (now drops) (now places) ⌝ }
     ensures { λ r. ⌜ ranAs r (now (store .exit)) (now (marks .exit)) (now (work .exit))
-        ≡ runCarriedOut (moveOf sizes (now (list .entry)) (now (sets .entry))) (record { store = now (store .entry); marks = now (marks .entry) })
-        (now (work .entry)) place (stepsTaken sizes place budget) ⌝ }
+        ≡ runCarriedOut (planBy sizes (now (list .entry)) (now (sets .entry)) (now (drops .entry)))
+        (record { store = now (store .entry); marks = now (marks .entry) }) (now (work .entry)) place (stepsTaken sizes place budget) ⌝ }
 {
     if budget <= sizes.m / 8 + 1 {
         return take_steps(
@@ -181,6 +192,8 @@ fn carry_out(
             true,
             sets,
             other,
+            drops,
+            places,
         );
     }
     let mut pages = [0u8; TABLE];
@@ -197,6 +210,8 @@ fn carry_out(
         false,
         &pages,
         other,
+        drops,
+        places,
     )
 }
 
@@ -211,10 +226,10 @@ fn refused(number: u32) -> RunResult
     }
 }
 
-// The run: checks in the table's order, then the steps. A refused run changes nothing that is lent.
+// The run: checks in the table's order, then the steps. A refused run changes nothing that is lent but the list, which is completed once it is judged.
 pub fn run(
     sizes: Sizes,
-    list: &[u16],
+    list: &mut [u16],
     pins: &[u8],
     sets: &[u8],
     store: &mut [u8],
@@ -226,9 +241,23 @@ pub fn run(
     ensures { λ r. ⌜ ranAs r (now (store .exit)) (now (marks .exit)) (now (work .exit))
         ≡ runAnswer (requestOf sizes (now (list .entry)) (now (pins .entry)) (now (sets .entry)))
         (record { store = now (store .entry); marks = now (marks .entry) }) (now (work .entry)) place budget ⌝ }
+    ensures { λ r. ⌜ now (list .exit) ≡ listLeft (r .number) (now (list .entry)) ⌝ }
 {
     let mut table = [0u8; TABLE];
-    let number = move_refusal(sizes, list, pins, sets, store, marks, work, &mut table);
+    let mut drops = [0u64; MASKS];
+    let mut places = [0u64; MASKS];
+    let number = move_refusal(
+        sizes,
+        list,
+        pins,
+        sets,
+        store,
+        marks,
+        work,
+        &mut table,
+        &mut drops,
+        &mut places,
+    );
     if number != 0 {
         return refused(number);
     }
@@ -245,5 +274,7 @@ pub fn run(
         place,
         budget as usize,
         &mut table,
+        &drops,
+        &places,
     )
 }

@@ -1,9 +1,11 @@
 -- The refusals of the split call, row by row.
-use Rattle.flash.proofs.Kit.{_≡_, _≢_, refl, Bool, true, false, not, _||_, List, ℕ, zero, suc, _≤_, arith, eqb, length, getD, replicate, eqb-true, eq-eqb, ne-eqb, not-true, not-false}
+use Rattle.flash.proofs.Kit.{_≡_, _≢_, refl, ap, _∙_, Bool, true, false, cond, not, _||_, List, [], _∷_, ℕ, zero, suc, _≤_, arith, eqb, length, getD, replicate, eqb-true, eq-eqb, ne-eqb, not-false}
+use Rattle.flash.specs.Lists.{any}
 use Rattle.flash.specs.Tables.{firstFit, numberOr0, refusal}
 use Rattle.flash.specs.declared.sizes.Sizes.{Sizes}
 use Rattle.flash.specs.Geometry.{inRange, originalCount}
-use Rattle.split.specs.OneToOne.{badList, isOneToOne}
+use Rattle.split.specs.OneToOne.{badList}
+use Rattle.split.specs.Drops.{completed, listLeft}
 use Rattle.split.specs.Pins.{isPinned, movesPinned}
 use Rattle.split.specs.Rule.{splitByRule}
 use Rattle.split.specs.Request.{Request, badRequest}
@@ -12,12 +14,31 @@ use Rattle.split.specs.inner.Rows.{Accepted}
 use Rattle.flash.proofs.Bools.{or-false-left, or-false-right}
 use Rattle.flash.proofs.Bounds.{in-range, product-le}
 use Rattle.flash.proofs.Ranges.{none-is}
-use Rattle.flash.proofs.Tables.{refusal-zero}
+use Rattle.flash.proofs.Tables.{refusal-zero, refusal-miss}
+use Rattle.split.proofs.DropLaws.{completed-length, completed-accepted}
+
+-- a number that is given is one of the table's
+among : (one two three eleven : Bool)
+    → (let number = refusal (record { fits = one; gives = 1 } ∷ record { fits = two; gives = 2 } ∷ record { fits = three; gives = 3 }
+    ∷ record { fits = eleven; gives = 11 } ∷ []) in any (eqb number) (1 ∷ 2 ∷ 3 ∷ 11 ∷ []) ≡ not (eqb number 0))
+unfolding refusal firstFit numberOr0 any
+among true two three eleven = refl
+among false true three eleven = refl
+among false false true eleven = refl
+among false false false true = refl
+among false false false false = refl
 
 pub small : (Z : Sizes) → inRange Z ≡ true → originalCount Z ≤ 4096
 small Z e = let B = in-range Z e in product-le (Z .n) (Z .m) {c = 64} {d = 64} (B .n-high) (B .m-high)
 
 -- ---- the rows
+in-turn : (bad moved : Bool)
+    → refusal (record { fits = bad; gives = 3 } ∷ record { fits = moved; gives = 11 } ∷ []) ≡ cond bad 3 (cond moved 11 0)
+unfolding refusal firstFit numberOr0
+in-turn true moved = refl
+in-turn false true = refl
+in-turn false false = refl
+
 module _ (R : Request) where
   open Request R using (sizes as Z, list, pins, sets)
 
@@ -35,22 +56,9 @@ module _ (R : Request) where
     gives-2-list ne = gives-2 (rw (ne-eqb (length list) (originalCount Z) ne))
 
     module _ (lengths : badRequest R ≡ false) where
-      pub gives-3 : isOneToOne (originalCount Z) list ≡ false → refusal (splitRows R) ≡ 3
-      unfolding refusal firstFit numberOr0 splitRows isOneToOne
-      gives-3 e = rw (in-range, lengths, not-false (badList (originalCount Z) list) e)
-
-      module _ (good : isOneToOne (originalCount Z) list ≡ true) where
-        pub gives-11 : movesPinned pins list ≡ true → refusal (splitRows R) ≡ 11
-        unfolding refusal firstFit numberOr0 splitRows isOneToOne
-        gives-11 e = rw (in-range, lengths, not-true (badList (originalCount Z) list) good, e)
-
-        pub gives-0 : movesPinned pins list ≡ false → refusal (splitRows R) ≡ 0
-        unfolding refusal firstFit numberOr0 splitRows isOneToOne
-        gives-0 e = rw (in-range, lengths, not-true (badList (originalCount Z) list) good, e)
-
-pub accept : (originals : ℕ) (list : List ℕ) → badList originals list ≡ false → isOneToOne originals list ≡ true
-unfolding isOneToOne
-accept originals list e = rw e
+      pub gives-list : refusal (splitRows R) ≡ cond (badList (originalCount Z) list) 3 (cond (movesPinned pins list) 11 0)
+      unfolding splitRows
+      gives-list = refusal-miss _ _ (ap not in-range) ∙ refusal-miss _ _ lengths ∙ in-turn (badList (originalCount Z) list) (movesPinned pins list)
 
 -- the list, the pins and the set bytes are of one length
 pub lengths-are : (R : Request) → badRequest R ≡ false
@@ -93,10 +101,21 @@ passed R e =
       stays = eleven .0;
     }
 
+-- a list that is carried out is completed
+pub left-completed : (number : ℕ) (list list′ : List ℕ) → number ≡ 0 → list′ ≡ completed list → list′ ≡ listLeft number list
+unfolding listLeft any
+left-completed number list list′ z e = rw (z, e)
+
 module _ (R : Request) where
   open Request R using (sizes as Z, list, pins, sets)
 
-  pub accepted : refusal (splitRows R) ≡ 0 → Accepted (Z .n) (Z .m) list × (length sets ≡ originalCount Z)
+  -- number 3 is ruled out
+  pub lent-good : refusal (splitRows R) ≡ 0 → (length list ≤ 4096) × (badList (length list) list ≡ false)
+  lent-good e =
+      let p = passed R e in
+      (omega (arith, p .listed, small Z (p .in-range)), rw (p .listed) (p .good))
+
+  pub accepted : refusal (splitRows R) ≡ 0 → Accepted (Z .n) (Z .m) (completed list) × (length sets ≡ originalCount Z)
   accepted e =
       let p = passed R e in
       let B = in-range Z (p .in-range) in (
@@ -104,15 +123,14 @@ module _ (R : Request) where
           some-pages = B .m-low;
           n-fits = B .n-high;
           m-fits = B .m-high;
-          listed = p .listed;
-          one-to-one = accept
-              (originalCount Z) list (p .good);
+          listed = completed-length list ∙ p .listed;
+          one-to-one = completed-accepted (originalCount Z) list (p .listed) (p .good);
         },
         p .sized,
       )
 
   pub answered-0 : (number : ℕ) (sets′ : List ℕ) → number ≡ refusal (splitRows R) → number ≡ 0
-      → sets′ ≡ splitByRule (Z .n) (Z .m) list
+      → sets′ ≡ splitByRule (Z .n) (Z .m) (completed list)
       → record { number = number; sets = sets′ } ≡ splitAnswer R
   unfolding splitAnswer
   answered-0 number sets′ e z s = rw (← e, eq-eqb number 0 z, s)
@@ -121,6 +139,12 @@ module _ (R : Request) where
       → record { number = number; sets = sets } ≡ splitAnswer R
   unfolding splitAnswer
   answered-refused number e ne = rw (← e, ne-eqb number 0 ne)
+
+  pub left-lent : (number : ℕ) → number ≡ refusal (splitRows R) → number ≢ 0 → list ≡ listLeft number list
+  unfolding listLeft splitRows
+  left-lent number e ne =
+      let given = among (not (inRange Z)) (badRequest R) (badList (originalCount Z) list) (movesPinned pins list) in
+      rw (e, given, ← e, ne-eqb number 0 ne)
 
 -- where no page is pinned, none is sent elsewhere
 pub none-pinned : (count : ℕ) (list : List ℕ) → movesPinned (replicate count 0) list ≡ false

@@ -1,6 +1,7 @@
 -- The files of laws.
 pub mod Pigeon
 pub mod OneToOneLaws
+pub mod DropLaws
 pub mod SplitLaws
 pub mod Walk
 pub mod Exchange
@@ -9,6 +10,8 @@ pub mod Turns
 pub mod Answers
 pub mod Claimed
 pub mod MaskLaws
+pub mod MarkLaws
+pub mod PairLaws
 pub mod CheckLaws
 pub mod RowsLaws
 pub mod CellsLaws

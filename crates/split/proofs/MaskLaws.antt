@@ -21,14 +21,14 @@ zeros-at (suc n) zero = refl
 zeros-at (suc n) (suc i) = zeros-at n i
 
 -- bit k + 1 of a mask is bit k of its half
-bit-suc : (mask bit : ℕ) → bitAt mask (suc bit) ≡ bitAt (mask / 2) bit
+pub bit-suc : (mask bit : ℕ) → bitAt mask (suc bit) ≡ bitAt (mask / 2) bit
 bit-suc mask bit = rw (← one-add bit, ← shr-shr)
 
 -- one digit of the complement
-comp-half : (k mask : ℕ) → mask < 2 ^ suc k → ((2 ^ suc k - 1) - mask) / 2 ≡ (2 ^ k - 1) - mask / 2
+pub comp-half : (k mask : ℕ) → mask < 2 ^ suc k → ((2 ^ suc k - 1) - mask) / 2 ≡ (2 ^ k - 1) - mask / 2
 comp-half k mask h = let e = pow-suc 2 k in omega arith
 
-comp-odd : (k mask : ℕ) → mask < 2 ^ suc k → ((2 ^ suc k - 1) - mask) % 2 ≡ 1 - mask % 2
+pub comp-odd : (k mask : ℕ) → mask < 2 ^ suc k → ((2 ^ suc k - 1) - mask) % 2 ≡ 1 - mask % 2
 comp-odd k mask h = let e = pow-suc 2 k in omega arith
 
 first-suc : (test : ℕ → Bool) (start n otherwise : ℕ)

@@ -1,8 +1,8 @@
 -- What the check of a list says: each entry is in range and none is met twice, so that a list of its length is a permutation.
-use Rattle.flash.proofs.Kit.{_≡_, refl, sym, ap, true, false, List, [], _∷_, ℕ, zero, suc, _<_, not-suc-le-zero, arith, eqb, leb, length, getD}
+use Rattle.flash.proofs.Kit.{_≡_, refl, sym, ap, true, false, _||_, List, [], _∷_, ℕ, zero, suc, _<_, not-suc-le-zero, arith, eqb, leb, length, getD}
 use Rattle.flash.proofs.Kit.{eqb-true, eq-eqb, leb-true, leb-false, not-true}
 use Rattle.flash.specs.Lists.{any}
-use Rattle.split.specs.OneToOne.{metTwice, badList, isOneToOne}
+use Rattle.split.specs.OneToOne.{metTwice, isOneToOne}
 use Rattle.flash.proofs.Bools.{never-both, fails, or-false-left, or-false-right}
 use Rattle.flash.proofs.Searches.{none-at, any-find}
 use Rattle.split.proofs.Pigeon.{onto}
@@ -38,7 +38,7 @@ distinct-of (x ∷ xs) d = rw (fresh, distinct-of xs later)
 
 module _ (originals : ℕ) (list : List ℕ) where
   pub one-to-one-of : ((k : ℕ) → k < length list → getD list k 0 < originals) → Distinct list → isOneToOne originals list ≡ true
-  unfolding isOneToOne badList
+  unfolding isOneToOne
   one-to-one-of below distinct = rw (small, distinct-of list distinct)
     where
       small : any (leb originals) list ≡ false
@@ -49,17 +49,15 @@ module _ (originals : ℕ) (list : List ℕ) where
           omega arith)
 
   module _ (one : isOneToOne originals list ≡ true) where
-    good : badList originals list ≡ false
+    good : (any (leb originals) list || metTwice list) ≡ false
     unfolding isOneToOne
-    good = not-true (badList originals list) one
+    good = not-true (any (leb originals) list || metTwice list) one
 
     pub entry-lt : (k : ℕ) → k < length list → getD list k 0 < originals
-    unfolding badList
     entry-lt k h = leb-false originals (getD list k 0)
         (none-at (leb originals) list k 0 (or-false-left (any (leb originals) list) (metTwice list) good) h)
 
     pub entry-same : Distinct list
-    unfolding badList
     entry-same = distinct-at list (or-false-right (any (leb originals) list) (metTwice list) good)
 
     pub entry-onto : length list ≡ originals → (x : ℕ) → x < originals → (k : ℕ) × (k < originals) × (getD list k 0 ≡ x)

@@ -6,6 +6,7 @@ use lib.Dec.{eqb}
 use Rattle.flash.specs.Tables.{Row, refusal}
 use Rattle.flash.specs.Geometry.{inRange, originalCount}
 use Rattle.split.specs.OneToOne.{badList}
+use Rattle.split.specs.Drops.{completed}
 use Rattle.split.specs.Pins.{movesPinned}
 use Rattle.split.specs.Rule.{splitByRule}
 use Rattle.split.specs.Request.{Request, badRequest}
@@ -28,4 +29,4 @@ unfoldable pub splitAnswer : Request → SplitAnswer
 splitAnswer R =
     let number = refusal (splitRows R) in
     -- rule 7.8: a refusal leaves them
-    record { number = number; sets = cond (eqb number 0) (splitByRule (R .sizes .n) (R .sizes .m) (R .list)) (R .sets) }
+    record { number = number; sets = cond (eqb number 0) (splitByRule (R .sizes .n) (R .sizes .m) (completed (R .list))) (R .sets) }

@@ -1,13 +1,16 @@
 -- What is claimed of the split, as types. The proofs are in proofs/, and `claims` of src/ asks for them.
 use mathlib.Core.Path.{_≡_}
-use mathlib.Core.Bool.{true, false}
+use mathlib.Core.Bool.{true, false, _&&_, _||_, not}
 use mathlib.Core.List.{List, [], _∷_}
 use Prim.Native.Nat.{ℕ, _+_, _-_, _*_, _≤_, _<_}
-use lib.ListN.{length}
+use lib.Dec.{eqb, leb}
+use lib.ListN.{length, getD}
+use Rattle.flash.specs.Lists.{range, any}
 use Rattle.flash.specs.Geometry.{originalCount, pinsLength, setsLength}
-use Rattle.split.specs.OneToOne.{badList, isOneToOne}
+use Rattle.split.specs.OneToOne.{metTwice, isOneToOne, dropped, keptEntries, badList}
+use Rattle.split.specs.Drops.{isDropped, completed}
 use Rattle.split.specs.Split.{isSplit}
-use Rattle.split.specs.Pins.{movesPinned}
+use Rattle.split.specs.Pins.{isPinned, movesPinned}
 use Rattle.split.specs.Rule.{source, destination, blockAt, lowestUnused, pagesMet, setsGiven, splitByRule}
 use Rattle.split.specs.Request.{Request}
 use Rattle.split.specs.Answer.{splitAnswer}
@@ -40,6 +43,37 @@ WalkIsShort =
 abbrev pub WalkBoundMet : Type 0
 WalkBoundMet = length (walkOf 2 (0 ∷ 2 ∷ 1 ∷ 4 ∷ 3 ∷ 5 ∷ []) 4 4) ≡ 2 * 3 - 2
 
+-- A list that is not refused as 3 is completed to a permutation of the page numbers: a page that is kept goes where it is sent, and those
+-- that are dropped, ascending, get places that no kept page is sent to, ascending.
+abbrev pub Completes : Type 0
+Completes =
+    (list : List ℕ) → badList (length list) list ≡ false
+    → (length (completed list) ≡ length list)
+    × (isOneToOne (length list) (completed list) ≡ true)
+    × ((k : ℕ) → isDropped list k ≡ false → getD (completed list) k 0 ≡ getD list k 0)
+    × ((k : ℕ) → k < length list → isDropped list k ≡ true → any (eqb (getD (completed list) k 0)) (keptEntries list) ≡ false)
+    × ((i j : ℕ) → i < j → j < length list → isDropped list i ≡ true → isDropped list j ≡ true
+    → getD (completed list) i 0 < getD (completed list) j 0)
+
+-- Of a list that drops no page all is as it was: it is complete, an entry out of range or met twice is 3, and a pinned page sent elsewhere is 11.
+abbrev pub NoDrops : Type 0
+NoDrops =
+    (list : List ℕ) → any (eqb dropped) list ≡ false
+    → (completed list ≡ list)
+    × ((originals : ℕ) → badList originals list ≡ (any (leb originals) list || metTwice list))
+    × ((pins : List ℕ) → movesPinned pins list ≡ any (λ k. isPinned pins k && not (eqb (getD list k 0) k)) (range 0 (length list)))
+
+-- Two pages of four are dropped, and both of two. Page 0 is pinned and dropped, and its place goes to page 1; kept, it is refused as 11.
+abbrev pub DropCases : Type 0
+DropCases =
+    (completed (65535 ∷ 2 ∷ 65535 ∷ 0 ∷ []) ≡ 1 ∷ 2 ∷ 3 ∷ 0 ∷ [])
+    × (completed (65535 ∷ 65535 ∷ []) ≡ 0 ∷ 1 ∷ [])
+    × (badList 2 (65535 ∷ 65535 ∷ []) ≡ false)
+    × (badList 3 (1 ∷ 65535 ∷ 1 ∷ []) ≡ true)
+    × (completed (65535 ∷ 0 ∷ []) ≡ 1 ∷ 0 ∷ [])
+    × (movesPinned (1 ∷ 0 ∷ []) (65535 ∷ 0 ∷ []) ≡ false)
+    × (movesPinned (1 ∷ 0 ∷ []) (1 ∷ 0 ∷ []) ≡ true)
+
 -- What a split call filled passes the tests of run and read: their numbers 2, 3, 11 and 4 are not given for it.
 abbrev pub FilledFits : Type 0
 FilledFits =
@@ -48,4 +82,4 @@ FilledFits =
     × (length (R .pins) ≡ pinsLength (R .sizes))
     × (badList (originalCount (R .sizes)) (R .list) ≡ false)
     × (movesPinned (R .pins) (R .list) ≡ false)
-    × (isSplit (R .sizes .n) (R .sizes .m) (R .list) (splitAnswer R .sets) ≡ true)
+    × (isSplit (R .sizes .n) (R .sizes .m) (completed (R .list)) (splitAnswer R .sets) ≡ true)

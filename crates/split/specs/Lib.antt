@@ -1,5 +1,6 @@
 -- The files of definitions.
 pub mod OneToOne
+pub mod Drops
 pub mod Split
 pub mod Rule
 pub mod Pins

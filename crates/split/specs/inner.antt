@@ -2,6 +2,7 @@
 pub mod Window
 pub mod Rows
 pub mod Mask
+pub mod Dropping
 pub mod Cells
 pub mod Inverse
 pub mod Work

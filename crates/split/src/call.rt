@@ -1,10 +1,11 @@
 // The split call: its refusals in the table's order, then the rule.
 ghost use mathlib.Core.Path.{_≡_};
 ghost use Rattle.flash.specs.Tables.{refusal};
+ghost use Rattle.split.specs.Drops.{listLeft};
 ghost use Rattle.split.specs.Request.{requestOf};
 ghost use Rattle.split.specs.Answer.{splitRows, splitAnswer};
-use crate::list::check;
-use crate::pins::moves_pinned;
+use crate::drops::complete_list;
+use crate::list::list_refusal;
 use crate::rule::fill;
 use flash::sizes::Sizes;
 use flash::sizes::in_range;
@@ -21,22 +22,18 @@ fn refusal(sizes: Sizes, list: &[u16], pins: &[u8], sets: &[u8]) -> u32
     if (list.len() != originals) | (pins.len() != originals) | (sets.len() != originals) {
         return 2;
     }
-    if !check(list, originals) {
-        return 3;
-    }
-    if moves_pinned(pins, list) {
-        return 11;
-    }
-    0
+    list_refusal(list, pins, originals)
 }
 
-// Fills the set bytes by the rule, or refuses and leaves them.
-pub fn split(sizes: Sizes, list: &[u16], pins: &[u8], sets: &mut [u8]) -> u32
+// Completes the list and fills the set bytes by the rule, or refuses and leaves both.
+pub fn split(sizes: Sizes, list: &mut [u16], pins: &[u8], sets: &mut [u8]) -> u32
     ensures { λ r. ⌜ record { number = r; sets = now (sets .exit) }
         ≡ splitAnswer (requestOf sizes (now (list .entry)) (now (pins .entry)) (now (sets .entry))) ⌝ }
+    ensures { λ r. ⌜ now (list .exit) ≡ listLeft r (now (list .entry)) ⌝ }
 {
     let number = refusal(sizes, list, pins, sets);
     if number == 0 {
+        complete_list(list);
         fill(sizes.n, sizes.m, list, sets);
     }
     number

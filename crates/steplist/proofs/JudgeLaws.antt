@@ -1,16 +1,19 @@
 -- When the list is refused, and when it is split.
-use Rattle.flash.proofs.Kit.{_≡_, refl, sym, ap, _∙_, ⊎-elim, _≢_, Bool, true, false, not, _||_, true≢false, List, [], _∷_, ℕ, _*_, _≤_, arith, leb}
-use Rattle.flash.proofs.Kit.{length, length-replicate, eq-eqb, leb-false, le-leb}
-use Rattle.flash.specs.Lists.{any, all}
+use Rattle.flash.proofs.Kit.{_≡_, sym, ap, _∙_, ⊎-elim, _≢_, true, false, not, List, ℕ, _*_, _≤_, arith, leb}
+use Rattle.flash.proofs.Kit.{length, getD, length-replicate, eq-eqb, eqb-true, le-leb}
+use Rattle.flash.specs.Lists.{all}
 use Rattle.flash.specs.declared.sizes.Sizes.{Sizes}
 use Rattle.flash.specs.Geometry.{inRange}
-use Rattle.flash.proofs.Bools.{bool-cases}
+use Rattle.flash.proofs.Bools.{bool-cases, never-both}
+use Rattle.flash.proofs.Searches.{all-of}
 use Rattle.flash.proofs.Tables.{refusal-skip, refusal-nil}
 use Rattle.flash.proofs.Bounds.{range-in}
 use Rattle.split.specs.OneToOne.{badList}
+use Rattle.split.specs.Drops.{isDropped}
 use Rattle.split.specs.Request.{unpinned, badRequest}
 use Rattle.split.specs.Answer.{splitRows, SplitAnswer, splitAnswer}
 use Rattle.split.proofs.Answers.{passed, none-pinned}
+use Rattle.split.proofs.DropLaws.{Kept, kept-of}
 use Rattle.listing.specs.Lines.{refusedLine}
 use Rattle.listing.specs.Input.{isAllowed, request}
 use Rattle.listing.proofs.InputLaws.{bounded, few-originals}
@@ -18,25 +21,25 @@ use Rattle.steplist.specs.Output.{listed, answered}
 use Rattle.steplist.specs.inner.Given.{Readable, AcceptedInput}
 use Rattle.steplist.proofs.StartLaws.{in-bounds}
 
--- an entry such as 65536 is judged before anything is cut to 16 bits: no page has that number
-large-entry : (originals : ℕ) (list : List ℕ) → originals ≤ 65536 → all (λ number. leb number 65535) list ≡ false → any (leb originals) list ≡ true
-unfolding all any
-large-entry originals [] h e = absurd (true≢false e)
-large-entry originals (entry ∷ list) h e =
-    ⊎-elim
-    (λ (k : leb entry 65535 ≡ true). rw (large-entry originals list h (rw k at e)) (or-true (leb originals entry)))
-    (λ (k : leb entry 65535 ≡ false). rw (le-leb originals entry (omega (arith, leb-false entry 65535 k))))
-    (bool-cases (leb entry 65535))
+-- an entry such as 65536 is judged before anything is cut to 16 bits: no page has that number, and none is dropped by it
+large-entry : (originals : ℕ) (list : List ℕ) → originals ≤ 65536 → all (λ number. leb number 65535) list ≡ false → badList originals list ≡ true
+unfolding isDropped
+large-entry originals list h e = ⊎-elim
+    (λ (bad : badList originals list ≡ true). bad)
+    (λ (good : badList originals list ≡ false). absurd (never-both (small (kept-of originals list good)) e))
+    (bool-cases (badList originals list))
   where
-    or-true : (t : Bool) → (t || true) ≡ true
-    or-true true = refl
-    or-true false = refl
+    small : Kept originals list → all (λ number. leb number 65535) list ≡ true
+    small K = all-of (λ number. leb number 65535) list 0 (λ k l. ⊎-elim
+        (λ (d : isDropped list k ≡ true). le-leb (getD list k 0) 65535 (omega (arith, eqb-true (getD list k 0) 65535 d)))
+        (λ (d : isDropped list k ≡ false). le-leb (getD list k 0) 65535 (omega (arith, K .below k l d)))
+        (bool-cases (isDropped list k)))
 
 module _ (Z : Sizes) (allowed : isAllowed Z ≡ true) (list bytes : List ℕ) where
   open Sizes Z using (n, m)
 
   pub too-large : all (λ number. leb number 65535) list ≡ false → answered (request Z list bytes) ≡ refusedLine 3
-  unfolding answered badList
+  unfolding answered
   too-large e =
       let l = bounded Z allowed in
       rw (large-entry (n * m) list (omega (arith, few-originals n m (l .few-blocks) (l .few-pages))) e)

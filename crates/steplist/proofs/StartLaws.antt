@@ -11,14 +11,15 @@ use Rattle.flash.proofs.Ranges.{all-is}
 use Rattle.flash.proofs.Parts.{part-fits, part-replicate}
 use Rattle.flash.proofs.Blocks.{full-of}
 use Rattle.flash.proofs.Chips.{blank-of}
-use Rattle.split.specs.OneToOne.{isOneToOne}
+use Rattle.split.specs.Drops.{completed}
 use Rattle.split.proofs.RuleLaws.{rule-split, rule-length}
 use Rattle.split.specs.Request.{Request, unpinned}
 use Rattle.split.proofs.Answers.{none-pinned}
-use Rattle.method.specs.Move.{move, AcceptedMove}
+use Rattle.split.proofs.DropLaws.{completed-length}
+use Rattle.method.specs.Move.{move, plan, AcceptedMove}
 use Rattle.method.specs.State.{isAtRest, atRest}
 use Rattle.method.specs.Step.{Running, runningOf}
-use Rattle.method.proofs.basics.AcceptedCalls.{taken-run}
+use Rattle.method.proofs.basics.AcceptedCalls.{ListFits, fits-one-to-one, taken-run}
 use Rattle.method.proofs.states.AtRest.{rest-stands}
 use Rattle.listing.specs.Area.{Written}
 use Rattle.listing.specs.Input.{isAllowed}
@@ -100,18 +101,24 @@ module _ (Z : Sizes) (list sets bytes : List ℕ) where
     limits : Bounded Z
     limits = bounded Z (A .readable .allowed)
 
-    one-to-one : isOneToOne (n * m) list ≡ true
-    unfolding isOneToOne
-    one-to-one = ap not (A .good)
+    fits : ListFits R
+    fits = record {
+      list-length = A .readable .list-length;
+      good = A .good;
+      pins-length = length-replicate {A = ℕ} (n * m) 0;
+      stay = none-pinned (n * m) list;
+    }
 
     accepted : AcceptedMove (move R)
     accepted =
+        let size : length (completed list) ≡ n * m = completed-length list ∙ A .readable .list-length in
+        let one-to-one = fits-one-to-one R fits in
         record {
           ranges = in-bounds Z (A .readable .allowed);
-          list-length = A .readable .list-length;
-          sets-length = ap length (A .sets-is) ∙ rule-length n m list (A .readable .list-length) one-to-one;
+          list-length = size;
+          sets-length = ap length (A .sets-is) ∙ rule-length n m (completed list) size one-to-one;
           one-to-one = one-to-one;
-          split = rw (A .sets-is) (rule-split n m list (A .readable .list-length) one-to-one);
+          split = rw (A .sets-is) (rule-split n m (completed list) size one-to-one);
         }
 
     -- a run from rest, with a work page of zeros
@@ -130,11 +137,11 @@ module _ (Z : Sizes) (list sets bytes : List ℕ) where
             accepted = accepted;
             lent = record { store-length = store-is; marks-length = marks-size Z bytes; work-length = length-replicate {A = ℕ} P 0 };
             stands = rest-stands (move R) accepted (atRest Z bytes) store-is (marks-size Z bytes) (is-at-rest Z bytes);
-            pins = record { pins-length = length-replicate {A = ℕ} (n * m) 0; stay = none-pinned (n * m) list };
+            fits = fits;
           });
         })
 
-    pub is-listed : (run : Running) (before after : List ℕ) (count : ℕ) → run ≡ start → Written (moveLines (move R) run) before after count → Written (listed Z list bytes) before after count
+    pub is-listed : (run : Running) (before after : List ℕ) (count : ℕ) → run ≡ start → Written (moveLines (plan R) run) before after count → Written (listed Z list bytes) before after count
     unfolding listed
     is-listed run before after count e w = rw (e, A .sets-is) at w
 

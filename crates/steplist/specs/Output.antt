@@ -8,8 +8,10 @@ use Rattle.flash.specs.Lists.{count}
 use Rattle.flash.specs.declared.sizes.Sizes.{Sizes}
 use Rattle.flash.specs.Geometry.{originalCount}
 use Rattle.split.specs.OneToOne.{badList}
+use Rattle.split.specs.Drops.{completed}
 use Rattle.split.specs.Rule.{splitByRule}
-use Rattle.method.specs.Move.{Move}
+use Rattle.split.specs.Request.{unpinned}
+use Rattle.method.specs.Move.{Plan, plan}
 use Rattle.method.specs.Place.{Operation, write, erase, done, operations, operationAt, lastPlace}
 use Rattle.method.specs.State.{atRest}
 use Rattle.method.specs.Step.{Running, step, isWrite, isErase}
@@ -23,23 +25,24 @@ stepLine place (erase block) work = eraseLine place block
 stepLine place done work = []
 
 -- the lines of `count` steps from a place on
-unfoldable pub stepLines : Move → (count place : ℕ) → Running → List ℕ
-stepLines M zero place run = []
-stepLines M (suc count) place run =
-    let after = step M place run in
-    stepLine place (operationAt (M .sizes) place) (after .work) ++ stepLines M count (suc place) after
+unfoldable pub stepLines : Plan → (count place : ℕ) → Running → List ℕ
+stepLines X zero place run = []
+stepLines X (suc count) place run =
+    let after = step X place run in
+    stepLine place (operationAt (X .move .sizes) place) (after .work) ++ stepLines X count (suc place) after
 
 -- the lines of all steps, and the end line
-unfoldable pub moveLines : Move → Running → List ℕ
-moveLines M start =
-    stepLines M (lastPlace (M .sizes)) 0 start ++ endLine (count isWrite (operations (M .sizes))) (count isErase (operations (M .sizes)))
+unfoldable pub moveLines : Plan → Running → List ℕ
+moveLines X start =
+    let Z = X .move .sizes in
+    stepLines X (lastPlace Z) 0 start ++ endLine (count isWrite (operations Z)) (count isErase (operations Z))
 
 -- rule 9.6: the move of a store at rest, by the split that the split call makes
 unfoldable pub listed : Sizes → (list bytes : List ℕ) → List ℕ
 listed Z list bytes =
-    moveLines (record { sizes = Z; list = list; sets = splitByRule (Z .n) (Z .m) list }) (record { chip = atRest Z bytes; work = replicate (Z .p) 0 })
+    moveLines (plan (unpinned Z list (splitByRule (Z .n) (Z .m) (completed list)))) (record { chip = atRest Z bytes; work = replicate (Z .p) 0 })
 
--- Rule 9.5. An entry above 16 bits is as bad as any other that names no page.
+-- Rule 9.5. An entry of 65535 drops its page; one above is as bad as any other that names none.
 unfoldable pub answered : Input → List ℕ
 answered unreadable = unreadableLine
 answered refused = refusedLine 1

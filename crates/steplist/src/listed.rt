@@ -3,7 +3,7 @@ ghost use mathlib.Core.Path.{_≡_};
 ghost use Prim.Native.Nat.{_+_, _≤_, _<_};
 ghost use lib.ListN.{length};
 ghost use Rattle.split.specs.Request.{unpinned};
-ghost use Rattle.method.specs.Move.{moveOf};
+ghost use Rattle.method.specs.Move.{plan};
 ghost use Rattle.method.specs.Place.{lastPlace};
 ghost use Rattle.method.specs.Step.{runningOf};
 ghost use Rattle.listing.specs.Area.{Written};
@@ -37,7 +37,7 @@ fn put_step(
 ) -> Shown
     requires { ⌜ Listable (unpinned sizes (now list) (now sets)) (runningOf (now store) (now marks) (now work)) place ⌝ }
     requires { ⌜ (place < lastPlace sizes) × (at + mostLine ≤ length (now out)) ⌝ }
-    ensures { λ r. ⌜ Stepped (moveOf sizes (now (list .entry)) (now (sets .entry))) place
+    ensures { λ r. ⌜ Stepped (plan (unpinned sizes (now (list .entry)) (now (sets .entry)))) place
         (runningOf (now (store .entry)) (now (marks .entry)) (now (work .entry))) (now (out .entry)) at r (now (out .exit))
         (now (store .exit)) (now (marks .exit)) (now (work .exit)) ⌝ }
 {
@@ -62,10 +62,10 @@ pub fn put_listing(
 ) -> usize
     requires { ⌜ Listable (unpinned sizes (now list) (now sets)) (runningOf (now store) (now marks) (now work)) 0
         × (mostOutput ≤ length (now out)) ⌝ }
-    ensures { λ r. ⌜ Written (moveLines (moveOf sizes (now (list .entry)) (now (sets .entry)))
+    ensures { λ r. ⌜ Written (moveLines (plan (unpinned sizes (now (list .entry)) (now (sets .entry))))
         (runningOf (now (store .entry)) (now (marks .entry)) (now (work .entry)))) (now (out .entry)) (now (out .exit)) r ⌝ }
     ensures { λ _. ⌜ runningOf (now (store .exit)) (now (marks .exit)) (now (work .exit))
-        ≡ moved (moveOf sizes (now (list .entry)) (now (sets .entry)))
+        ≡ moved (plan (unpinned sizes (now (list .entry)) (now (sets .entry))))
         (runningOf (now (store .entry)) (now (marks .entry)) (now (work .entry))) ⌝ }
 {
     let last = last_place(sizes);

@@ -1,6 +1,8 @@
 // The calls for the step program, whose input pins no page.
 ghost use mathlib.Core.Path.{_≡_};
 ghost use Prim.Native.Nat.{_≤_};
+ghost use lib.ListN.{length};
+ghost use Rattle.flash.specs.Geometry.{originalCount};
 ghost use Rattle.split.specs.Request.{unpinned};
 ghost use Rattle.split.specs.Answer.{splitAnswer};
 ghost use Rattle.method.specs.Answers.{runAnswer};
@@ -14,14 +16,28 @@ use split::call::split;
 // The most originals: n and m are at most 8.
 pub const MOST_ORIGINALS: usize = 64;
 
+// The calls complete the list that they are lent, so they get a copy of it.
+fn copy_list(target: &mut [u16], source: &[u16])
+    requires { ⌜ length (now source) ≡ length (now target) ⌝ }
+    ensures { λ _. ⌜ now (target .exit) ≡ now (source .entry) ⌝ }
+{
+    let mut k = 0;
+    while k < target.len() {
+        target[k] = source[k];
+        k += 1;
+    }
+}
+
 pub fn split_unpinned(sizes: Sizes, list: &[u16], sets: &mut [u8]) -> u32
-    requires { ⌜ (sizes .n ≤ 8) × (sizes .m ≤ 8) ⌝ }
+    requires { ⌜ (sizes .n ≤ 8) × (sizes .m ≤ 8) × (length (now list) ≡ originalCount sizes) ⌝ }
     ensures { λ r. ⌜ record { number = r; sets = now (sets .exit) }
         ≡ splitAnswer (unpinned sizes (now (list .entry)) (now (sets .entry))) ⌝ }
 {
     let pins = [0u8; MOST_ORIGINALS];
+    let mut own = [0u16; MOST_ORIGINALS];
     let count = original_count(sizes);
-    split(sizes, list, &pins[..count], sets)
+    copy_list(&mut own[..count], list);
+    split(sizes, &mut own[..count], &pins[..count], sets)
 }
 
 pub fn run_unpinned(
@@ -34,16 +50,18 @@ pub fn run_unpinned(
     place: usize,
     budget: u32,
 ) -> RunResult
-    requires { ⌜ (sizes .n ≤ 8) × (sizes .m ≤ 8) ⌝ }
+    requires { ⌜ (sizes .n ≤ 8) × (sizes .m ≤ 8) × (length (now list) ≡ originalCount sizes) ⌝ }
     ensures { λ r. ⌜ ranAs r (now (store .exit)) (now (marks .exit)) (now (work .exit))
         ≡ runAnswer (unpinned sizes (now (list .entry)) (now (sets .entry))) (record { store = now (store .entry); marks = now (marks .entry) })
         (now (work .entry)) place budget ⌝ }
 {
     let pins = [0u8; MOST_ORIGINALS];
+    let mut own = [0u16; MOST_ORIGINALS];
     let count = original_count(sizes);
+    copy_list(&mut own[..count], list);
     run(
         sizes,
-        list,
+        &mut own[..count],
         &pins[..count],
         sets,
         store,

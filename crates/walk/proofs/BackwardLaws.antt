@@ -1,7 +1,6 @@
 -- The slots of a write in the backward pass: those that read gives, or the same in reverse where the block is the top.
-use Rattle.flash.proofs.Kit.{_≡_, refl, sym, ap, _∙_, ⊎-elim, _≢_, Bool, true, false, cond, or-false, List, [], _∷_, _++_, append-nil, ℕ, zero, suc}
-use Rattle.flash.proofs.Kit.{_+_, _-_, _≤_, _<_, le-antisymm, arith, eqb, leb, ltb, getD, eqb-true, eq-eqb, leb-false, lt-leb, lt-ltb, le-ltb}
-use Rattle.flash.specs.Lists.{concatMap}
+use Rattle.flash.proofs.Kit.{_≡_, refl, sym, ap, _∙_, ⊎-elim, _≢_, Bool, true, false, cond, or-false, List, [], _∷_, _++_, ℕ, zero, suc, _+_, _-_}
+use Rattle.flash.proofs.Kit.{_≤_, _<_, le-antisymm, arith, eqb, leb, ltb, getD, eqb-true, eq-eqb, leb-false, lt-leb, lt-ltb, le-ltb}
 use Rattle.flash.specs.declared.sizes.Sizes.{Sizes}
 use Rattle.flash.specs.Geometry.{blockOf, numberAt, originalCount}
 use Rattle.flash.specs.PageSum.{_⊕_, sum}
@@ -12,10 +11,7 @@ use Rattle.split.specs.Split.{destBlock, setOf}
 use Rattle.split.proofs.SplitLaws.{place-block}
 use Rattle.method.specs.Move.{Move, AcceptedMove}
 use Rattle.method.specs.Cycle.{dest, pred, top, sentTo}
-use Rattle.method.specs.Place.{backward, written}
 use Rattle.method.specs.Read.{fullOf, codedSlot, goBack, goOn, readSlots}
-use Rattle.method.specs.State.{heldOriginals}
-use Rattle.method.specs.Step.{originalsOf, writeSlots}
 use Rattle.method.proofs.basics.Indexes.{slot-lt}
 use Rattle.method.proofs.cycles.Orbits.{DataBlock, OneToOne, iterate, iterate-last, iterate-in, undone, round}
 use Rattle.method.proofs.cycles.SetCycles.{set-in, block-in, dest-in, pred-in, dest-is, dest-one, dest-pred, pred-dest, sent-in, entry-sent}
@@ -193,12 +189,12 @@ module _ (M : Move) (A : AcceptedMove M) (k : ℕ) (k-in : k < originalCount (M 
 
 pub backward-slots : (M : Move) → AcceptedMove M → (b page set : ℕ) → 1 ≤ b → b ≤ M .sizes .n → page < M .sizes .m → set ≡ setOf (M .sets) (sentTo M (numberAt (M .sizes .m) b page))
     → (pages : List ℕ) → PagesRow M set pages → (marks : List ℕ) → Tells M marks (momentIn true (M .sizes .n) b (b + 1))
-    → SumsAs (backwardBy (M .sizes .m) (M .list) set pages (M .sizes .n) b) (writeSlots M backward b page marks)
-unfolding writeSlots originalsOf written heldOriginals concatMap destBlock
+    → SumsAs (backwardBy (M .sizes .m) (M .list) set pages (M .sizes .n) b) (readSlots M marks (sentTo M (numberAt (M .sizes .m) b page)))
+unfolding destBlock
 backward-slots M A b page set low high page-ok e pages P marks T =
     let m = M .sizes .m in
     let number : ℕ = numberAt m b page in
     let number-ok = slot-lt m (b - 1) page (M .sizes .n) (omega arith) page-ok in
     let k : ℕ = sentTo M number in
     let goes : blockOf m (getD (M .list) k 0) ≡ b = ap (blockOf m) (entry-sent M A number number-ok) ∙ place-block m b page low page-ok in
-    rw (e, append-nil (readSlots M marks k)) (read-sums M A k (sent-in M A number number-ok) b goes pages (rw e at P) marks T)
+    rw e (read-sums M A k (sent-in M A number number-ok) b goes pages (rw e at P) marks T)

@@ -7,10 +7,7 @@ use Rattle.flash.proofs.Comparisons.{eq-cases}
 use Rattle.split.specs.Split.{sourceBlock}
 use Rattle.method.specs.Move.{Move, AcceptedMove}
 use Rattle.method.specs.Cycle.{D, dest, pred, top, isTop, coded}
-use Rattle.method.specs.Place.{forward, written}
 use Rattle.method.specs.Read.{fullOf, codedSlot, plainSlot, goBack, readSlots}
-use Rattle.method.specs.State.{heldOriginals}
-use Rattle.method.specs.Step.{originalsOf, writeSlots}
 use Rattle.method.proofs.basics.Indexes.{slot-div}
 use Rattle.method.proofs.cycles.Orbits.{DataBlock, iterate, iterate-last}
 use Rattle.method.proofs.cycles.SetCycles.{D-page, dest-in, pred-in}
@@ -116,7 +113,7 @@ module _ (M : Move) (A : AcceptedMove M) (set : ℕ) (set-ok : set < M .sizes .m
         let to = dest-in M A set set-ok v v-in in
         rw (p .at-block, p .in-set, T .done-is (dest M set v) (to .high), lt-leb (n + 1) (dest M set v) (omega (arith, to .high)), any-plain M A marks (momentIn false n below i) T, le-leb i n (b .high), or-true)
 
-    own-slots : readSlots M marks (D M set i) ≡ plainAt m pages i ∷ []
+    pub own-slots : readSlots M marks (D M set i) ≡ plainAt m pages i ∷ []
     unfolding plainSlot
     own-slots = read-is i b ∙ rw (T .plain-is i (b .high), le-leb i i (omega arith), plain-at M A set set-ok pages P i b)
 
@@ -144,7 +141,7 @@ module _ (M : Move) (A : AcceptedMove M) (set : ℕ) (set-ok : set < M .sizes .m
         (omega arith)
         ∙ way-end (pred M set) (codedAt m set) (backLast M marks set) last e u (rw (not-top e (E .not-before e (omega arith)), plain-at M A set set-ok pages P (pred M set (x e)) (y-in e)))))
 
-    slots-are : forwardBy m set pages sources n i ≡ concatMap (readSlots M marks) (coded M set i)
+    pub slots-are : forwardBy m set pages sources n i ≡ concatMap (readSlots M marks) (coded M set i)
     unfolding forwardBy concatMap coded isTop
     slots-are =
         let own : ℕ = plainAt m pages i in
@@ -155,10 +152,3 @@ module _ (M : Move) (A : AcceptedMove M) (set : ℕ) (set-ok : set < M .sizes .m
         rw (ne-eqb (plainAt m pages w) own (λ e. t (comes-top (plain-same w i w-in b e))), ne-eqb (top M set i) i t, own-slots, append-nil)
         (ap (λ (ts : List ℕ). own ∷ ts) (rest-slots d (round .2) (round .1) ∙ sym (read-is u u-in))))
         (eq-cases (top M set i) i))
-
-pub forward-slots : (M : Move) → AcceptedMove M → (set : ℕ) → set < M .sizes .m → (pages sources : List ℕ) → PagesRow M set pages → SourcesRow M set sources
-    → (block : ℕ) → block < M .sizes .n → (marks : List ℕ) → Tells M marks (momentIn false (M .sizes .n) block (block + 1))
-    → forwardBy (M .sizes .m) set pages sources (M .sizes .n) (block + 1) ≡ writeSlots M forward block set marks
-unfolding writeSlots originalsOf written heldOriginals
-forward-slots M A set set-ok pages sources P S block h marks T =
-    slots-are M A set set-ok pages sources P S (block + 1) (record { low = omega arith; high = omega arith }) marks block T

@@ -7,3 +7,6 @@ pub mod ReadLaws
 pub mod RoundLaws
 pub mod RowLaws
 pub mod TableLaws
+pub mod TermLaws
+pub mod LeftLaws
+pub mod WriteLaws

@@ -2,3 +2,4 @@
 pub mod Moments
 pub mod Rows
 pub mod Slots
+pub mod Terms

@@ -3,4 +3,5 @@
 
 pub mod moment;
 pub mod rows;
+pub mod terms;
 pub mod walk;

@@ -1,8 +1,8 @@
 //! The simulator's own checks.
 
 use mover_tests::checks::tally::Tally;
-use mover_tests::checks::{call_lists, hand_cases, hex_cases, papers, recovery_lines, refusing};
-use mover_tests::checks::{small_moves, step_inputs, torn};
+use mover_tests::checks::{call_lists, drop_cases, hand_cases, hex_cases, papers};
+use mover_tests::checks::{recovery_lines, refusing, small_moves, step_inputs, torn};
 use mover_tests::random::{seed_from_environment, Random};
 use std::process::ExitCode;
 
@@ -12,6 +12,7 @@ fn main() -> ExitCode {
     let mut random = Random::new(seed);
     let mut tally = Tally::default();
     hand_cases::check(&mut tally);
+    drop_cases::check(&mut tally);
     refusing::check(&mut tally);
     recovery_lines::check(&mut tally);
     papers::check(&mut tally);

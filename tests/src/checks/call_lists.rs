@@ -43,6 +43,7 @@ fn check_list(n: u32, m: u32, random: &mut Random) -> Outcome {
         s: random.below(3) as u32,
     };
     let list = random.permutation(sizes.originals());
+    let list = random.dropping(list);
     let originals = random.bytes(sizes.originals() * sizes.bytes());
     let mut story = Story {
         scene: Scene::at_rest(sizes, list, originals),

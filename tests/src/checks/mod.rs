@@ -1,6 +1,7 @@
 //! The simulator's own checks.
 
 pub mod call_lists;
+pub mod drop_cases;
 pub mod hand_cases;
 pub mod hex_cases;
 pub mod papers;

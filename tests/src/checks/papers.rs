@@ -6,7 +6,8 @@ use super::tally::{ensure, same, Tally};
 use super::trace::{all_moved, all_readable, ended};
 use crate::scene::Scene;
 use crate::simulator::calls::move_of;
-use crate::simulator::reading::slots_to_sum;
+use crate::simulator::dropping::stored;
+use crate::simulator::reading::terms_of;
 use crate::simulator::request::Call;
 use crate::simulator::rules::Correct;
 use crate::simulator::sizes::Sizes;
@@ -117,8 +118,8 @@ fn eight_writes(place: usize, block: usize, members: &[usize]) -> Outcome {
 fn eight_sums(write: usize) -> Outcome {
     let mut scene = scene_of(&EIGHT);
     scene.run(0, 2 * write as u32);
-    let moves = move_of(&scene.request(Call::Run));
-    let read = |block: usize| slots_to_sum::<Correct>(&moves, &scene.flash, block - 1);
+    let moves = move_of::<Correct>(&scene.request(Call::Run));
+    let read = |block: usize| stored(&terms_of::<Correct>(&moves, &scene.flash, block - 1));
     let mut summed = match write {
         0..8 => vec![write + 1],
         _ => read(EIGHT_FINAL[write - 8]),

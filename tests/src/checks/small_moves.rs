@@ -2,7 +2,7 @@
 
 use super::tally::{ensure, same, Tally};
 use super::trace::{all_moved, all_readable, ended, original_readable, trace};
-use crate::random::{all_permutations, Random};
+use crate::random::{small_lists, Random};
 use crate::scene::{small_shapes, Scene};
 use crate::simulator::calls::answer;
 use crate::simulator::flash::{add, Flash};
@@ -13,7 +13,7 @@ type Outcome = Result<(), String>;
 
 pub fn check(tally: &mut Tally, random: &mut Random) {
     for (n, m) in small_shapes(6) {
-        let lists = all_permutations((n * m) as usize);
+        let lists = small_lists((n * m) as usize, 4, random);
         let outcome = lists.into_iter().try_for_each(|list| {
             let s = random.below(3) as u32;
             let scene = random_scene(sizes(n, m, 1, s), list, random);
@@ -24,6 +24,7 @@ pub fn check(tally: &mut Tally, random: &mut Random) {
     for round in 0..60 {
         let (n, m) = (random.between(1, 9), random.between(1, 9));
         let list = random.permutation(n * m);
+        let list = random.dropping(list);
         let bytes = random.between(1, 5);
         let shape = sizes(n as u32, m as u32, bytes as u32, (round % 3) as u32);
         let scene = random_scene(shape, list, random);
@@ -33,10 +34,12 @@ pub fn check(tally: &mut Tally, random: &mut Random) {
         );
     }
     for (n, m) in [(64, 1), (1, 64), (64, 64)] {
-        tally.check(
-            &format!("random list of n = {n}, m = {m}"),
-            big_move(n, m, random),
-        );
+        for _ in 0..2 {
+            tally.check(
+                &format!("random list of n = {n}, m = {m}"),
+                big_move(n, m, random),
+            );
+        }
         tally.check(&format!("marks of n = {n}, m = {m}"), marks_differ(n, m));
     }
     for (n, m) in (1..=7).flat_map(|n| (1..=7).map(move |m| (n, m))) {
@@ -59,6 +62,7 @@ fn random_scene(sizes: Sizes, list: Vec<u16>, random: &mut Random) -> Scene {
 }
 
 fn check_move(scene: &Scene) -> Outcome {
+    completed_in_order(scene)?;
     correct_split(scene)?;
     let states = trace(scene)?;
     let mut here = scene.clone();
@@ -74,14 +78,35 @@ fn check_move(scene: &Scene) -> Outcome {
     one_run_is_many(scene, &states)
 }
 
+/// Kept pages go where they are sent, each place gets one page, and of two
+/// dropped pages the higher goes to the higher place.
+fn completed_in_order(scene: &Scene) -> Outcome {
+    let destinations = scene.destinations();
+    let pages = 0..destinations.len();
+    let (dropped, kept): (Vec<usize>, Vec<usize>) = pages.partition(|&k| scene.is_dropped(k));
+    let sent = kept
+        .iter()
+        .all(|&k| destinations[k] == scene.list[k] as usize);
+    let rising = dropped
+        .windows(2)
+        .all(|pair| destinations[pair[0]] < destinations[pair[1]]);
+    let mut places = destinations.clone();
+    places.sort();
+    let filled = places.iter().enumerate().all(|(due, &place)| place == due);
+    ensure(sent && rising && filled, || {
+        format!("completed to {destinations:?}")
+    })
+}
+
 /// Counts pages by set and block, from the list alone.
 fn correct_split(scene: &Scene) -> Outcome {
     let m = scene.sizes.pages();
     let mut from = vec![vec![0; m]; scene.sizes.data_blocks()];
     let mut to = from.clone();
+    let destinations = scene.destinations();
     for (k, &set) in scene.sets.iter().enumerate() {
         from[k / m][set as usize] += 1;
-        to[scene.list[k] as usize / m][set as usize] += 1;
+        to[destinations[k] / m][set as usize] += 1;
     }
     let all_once = from.iter().chain(&to).flatten().all(|&count| count == 1);
     ensure(all_once, || format!("sets {:?} are no split", scene.sets))
@@ -90,19 +115,21 @@ fn correct_split(scene: &Scene) -> Outcome {
 /// Between the passes, page q of block i - 1 is c(i) of set q.
 fn coded_after_forward_pass(scene: &Scene, flash: &Flash) -> Outcome {
     let m = scene.sizes.pages();
+    let destinations = scene.destinations();
     for set in 0..m {
         // The set's original in each block, and the original that comes there.
         let of_set = |k: &usize| scene.sets[*k] as usize == set;
         let members: Vec<usize> = (0..scene.sizes.originals()).filter(of_set).collect();
+        let next: Vec<usize> = members.iter().map(|&k| destinations[k] / m).collect();
         for (index, &own) in members.iter().enumerate() {
-            let comes = |k: &usize| scene.list[*k] as usize / m == index;
+            let comes = |k: &usize| destinations[*k] / m == index;
             let coming = *members
                 .iter()
                 .find(|k| comes(k))
                 .expect("one page to each block");
-            let mut due = scene.original(own).to_vec();
-            if !highest_of_cycle(scene, &members, index) {
-                add(&mut due, scene.original(coming));
+            let mut due = scene.page(own);
+            if !highest_of_cycle(&next, index) {
+                add(&mut due, &scene.page(coming));
             }
             same("the coded page", flash.page(index * m + set), &due[..])?;
         }
@@ -110,11 +137,10 @@ fn coded_after_forward_pass(scene: &Scene, flash: &Flash) -> Outcome {
     Ok(())
 }
 
-fn highest_of_cycle(scene: &Scene, members: &[usize], index: usize) -> bool {
-    let next = |at: usize| scene.list[members[at]] as usize / scene.sizes.pages();
-    let mut at = next(index);
+fn highest_of_cycle(next: &[usize], index: usize) -> bool {
+    let mut at = next[index];
     while at < index {
-        at = next(at);
+        at = next[at];
     }
     at == index
 }
@@ -167,6 +193,7 @@ fn one_run_is_many(scene: &Scene, states: &[Flash]) -> Outcome {
 fn big_move(n: u32, m: u32, random: &mut Random) -> Outcome {
     let shape = sizes(n, m, 2, random.below(3) as u32);
     let list = random.permutation(shape.originals());
+    let list = random.dropping(list);
     let mut scene = random_scene(shape, list, random);
     correct_split(&scene)?;
     let mut place = 0;

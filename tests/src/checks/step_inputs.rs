@@ -39,6 +39,82 @@ const TWO_BY_TWO_TEXT: &str = "\
 end 8 4
 ";
 
+/// The example with its second page dropped, which is paired with place 2: its
+/// moves stay the same.
+pub const DROPPING: &str = "3 1 1 0 1 65535 0 1 2 4";
+pub const DROPPING_TEXT: &str = "\
+0 W 0 0 05
+1 E 1
+2 W 1 0 fe
+3 E 2
+4 W 2 0 04
+5 E 3
+6 W 3 0 ff
+7 E 2
+8 W 2 0 01
+9 E 1
+10 W 1 0 04
+11 E 0
+end 6 6
+";
+
+/// With its last page dropped, which is the top.
+const DROPPING_TOP: &str = "3 1 1 0 1 2 65535 1 2 4";
+const DROPPING_TOP_TEXT: &str = "\
+0 W 0 0 fe
+1 E 1
+2 W 1 0 03
+3 E 2
+4 W 2 0 ff
+5 E 3
+6 W 3 0 02
+7 E 2
+8 W 2 0 01
+9 E 1
+10 W 1 0 ff
+11 E 0
+end 6 6
+";
+
+/// Pages 0 and 2 are dropped; nobody fills places 1 and 3.
+const DROPPING_TWO: &str = "2 2 2 1 65535 2 65535 0 1 16 2 32 4 64 8 128";
+const DROPPING_TWO_TEXT: &str = "\
+0 W 0 0 ffff
+1 W 0 1 0aa0
+2 E 1
+3 W 1 0 ffff
+4 W 1 1 0880
+5 E 2
+6 W 2 0 0220
+7 W 2 1 ffff
+8 E 1
+9 W 1 0 0880
+10 W 1 1 ffff
+11 E 0
+end 8 4
+";
+
+const DROPPING_ALL: &str = "2 1 1 2 65535 65535 7 9";
+const DROPPING_ALL_TEXT: &str = "\
+0 W 0 0 ff
+1 E 1
+2 W 1 0 ff
+3 E 2
+4 W 2 0 ff
+5 E 1
+6 W 1 0 ff
+7 E 0
+end 4 4
+";
+
+/// Inputs with dropped pages, each with its text.
+pub const DROPPING_INPUTS: &[(&str, &str)] = &[
+    (DROPPING, DROPPING_TEXT),
+    (DROPPING_TOP, DROPPING_TOP_TEXT),
+    (DROPPING_TWO, DROPPING_TWO_TEXT),
+    (DROPPING_ALL, DROPPING_ALL_TEXT),
+];
+
 const UNREADABLE: &str = "unreadable\n";
 const REFUSED_1: &str = "refused 1\n";
 const REFUSED_3: &str = "refused 3\n";
@@ -75,6 +151,9 @@ pub const UNREADABLE_INPUTS: &[&str] = &[
     "3 1 1 0 1 1 1 1 2 256",
     "3 1 1 0 1 1 1 1 2",
     "3 1 1 0 1 1 1 1 2 4 4",
+    "3 1 1 0 1 2 065535 1 2 4",
+    "3 1 1 0 1 2 0 1 2 65535",
+    "3 1 1 0 65535 1 1 1 2",
     "3 1 1 0 1.0 2 0 1 2 4",
     "3 1 1 0 1 2 0 1 2 4\0",
     "3 1 1 0 1 2 0 1 2 \u{e9}",
@@ -100,9 +179,13 @@ pub const REFUSED_1_INPUTS: &[&str] = &[
 pub const REFUSED_3_INPUTS: &[&str] = &[
     "3 1 1 0 1 1 0 1 2 4",
     "3 1 1 0 1 2 3 1 2 4",
-    "3 1 1 0 1 2 65535 1 2 4",
+    "3 1 1 0 1 2 65534 1 2 4",
     "3 1 1 0 1 2 65536 1 2 4",
     "3 1 1 0 1 2 99999 1 2 4",
+    "3 1 1 0 65535 1 1 1 2 4",
+    "3 1 1 0 65535 3 1 1 2 4",
+    "3 1 1 0 65535 65536 1 1 2 4",
+    "3 1 1 0 65535 65534 65535 1 2 4",
     "1 1 1 0 1 7",
     "1 1 1 0 65536 7",
 ];
@@ -118,6 +201,9 @@ pub const SAME_AS_EXAMPLE: &[&str] = &[
 pub fn check(tally: &mut Tally) {
     tally.check("the example", gives(EXAMPLE.as_bytes(), EXAMPLE_TEXT));
     tally.check("two by two", gives(TWO_BY_TWO.as_bytes(), TWO_BY_TWO_TEXT));
+    for (input, due) in DROPPING_INPUTS {
+        tally.check(&format!("input {input:?}"), gives(input.as_bytes(), due));
+    }
     let groups = [
         (UNREADABLE_INPUTS, UNREADABLE),
         (REFUSED_1_INPUTS, REFUSED_1),

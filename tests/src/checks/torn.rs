@@ -2,7 +2,7 @@
 
 use super::tally::{ensure, same, Tally};
 use super::trace::{all_readable, trace};
-use crate::random::{all_permutations, Random};
+use crate::random::{small_lists, Random};
 use crate::scene::{small_shapes, Scene};
 use crate::simulator::cuts::{any_torn_mark, tear, torn_choices, Torn};
 use crate::simulator::flash::Flash;
@@ -13,7 +13,7 @@ type Outcome = Result<(), String>;
 
 pub fn check(tally: &mut Tally, random: &mut Random) {
     for (n, m) in small_shapes(4) {
-        for list in all_permutations((n * m) as usize) {
+        for list in small_lists((n * m) as usize, 3, random) {
             let name = format!("cuts of n = {n}, m = {m}, list {list:?}");
             tally.check(&name, check_cuts(n, m, list, random));
         }
@@ -21,6 +21,7 @@ pub fn check(tally: &mut Tally, random: &mut Random) {
     for (n, m) in [(5, 1), (6, 1), (2, 3), (3, 2), (2, 4), (3, 3), (4, 2)] {
         for _ in 0..6 {
             let list = random.permutation((n * m) as usize);
+            let list = random.dropping(list);
             let name = format!("cuts of n = {n}, m = {m}, list {list:?}");
             tally.check(&name, check_cuts(n, m, list, random));
         }

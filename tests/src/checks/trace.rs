@@ -43,30 +43,29 @@ fn work_page_follows(scene: &Scene, place: usize, answer: &Answer) -> Result<(),
 pub fn original_readable(scene: &Scene, k: usize) -> Result<(), String> {
     let read = answer(&scene.read_request(k));
     same("the number of read", read.numbers.returned, 0)?;
-    same(
-        &format!("original {k}"),
-        &read.parts.work[..],
-        scene.original(k),
-    )?;
+    same(&format!("original {k}"), &read.parts.work, &scene.page(k))?;
     let count = read.numbers.count;
-    ensure((1..=scene.sizes.n).contains(&count), || {
-        format!("{count} pages summed")
-    })
+    let due = match scene.is_dropped(k) {
+        true => 0..=0,
+        false => 1..=scene.sizes.n,
+    };
+    ensure(due.contains(&count), || format!("{count} pages summed"))
 }
 
 pub fn all_readable(scene: &Scene) -> Result<(), String> {
     (0..scene.sizes.originals()).try_for_each(|k| original_readable(scene, k))
 }
 
-/// Every original lies where the list sends it.
+/// Every original that is kept lies where the list sends it, and each place to
+/// which none is sent holds 255s.
 pub fn all_moved(scene: &Scene) -> Result<(), String> {
-    for (k, &number) in scene.list.iter().enumerate() {
-        let slot = scene.sizes.slot_of(number as usize);
-        same(
-            &format!("slot {slot}"),
-            scene.flash.page(slot),
-            scene.original(k),
-        )?;
+    let mut due = vec![vec![255; scene.sizes.bytes()]; scene.sizes.originals()];
+    for k in (0..due.len()).filter(|&k| !scene.is_dropped(k)) {
+        due[scene.list[k] as usize] = scene.page(k);
+    }
+    for (number, due) in due.iter().enumerate() {
+        let slot = scene.sizes.slot_of(number);
+        same(&format!("slot {slot}"), scene.flash.page(slot), due)?;
     }
     Ok(())
 }

@@ -2,9 +2,10 @@
 
 use super::{fault, Fault};
 use crate::simulator::calls::move_of;
+use crate::simulator::dropping::{stored, Term};
 use crate::simulator::flash::Flash;
 use crate::simulator::permutation::Move;
-use crate::simulator::reading::slots_to_sum;
+use crate::simulator::reading::terms_of;
 use crate::simulator::request::{Answer, Call, Request};
 use crate::simulator::rules::{Correct, Rules};
 use crate::simulator::running::take_step;
@@ -70,46 +71,46 @@ impl Rules for PagesRead {
         if answer.numbers.returned != 0 || !matches!(request.call, Call::Run | Call::Read) {
             return;
         }
-        let moves = move_of(request);
+        let moves = move_of::<Correct>(request);
         let mut flash = Flash::new(request.sizes, &request.parts.store, &request.parts.marks);
         if request.call == Call::Read {
-            let slots = slots_to_sum::<Correct>(&moves, &flash, request.original as usize);
-            answer.numbers.written_bytes = written_in(&flash, &slots);
+            let terms = terms_of::<Correct>(&moves, &flash, request.original as usize);
+            answer.numbers.written_bytes = written_in(&flash, &terms);
             return;
         }
         answer.numbers.written_bytes = 0;
         let steps = all_steps(&request.sizes).into_iter();
         let taken = answer.numbers.steps as usize;
         for step in steps.skip(request.place as usize).take(taken) {
-            let slots = slots_read(&moves, &flash, step);
-            answer.numbers.written_bytes += written_in(&flash, &slots);
+            let terms = terms_read(&moves, &flash, step);
+            answer.numbers.written_bytes += written_in(&flash, &terms);
             take_step::<Correct>(&moves, &mut flash, step);
         }
     }
 }
 
-fn written_in(flash: &Flash, slots: &[usize]) -> u32 {
-    let counts = slots
-        .iter()
-        .map(|&slot| Correct::written_bytes(flash.page(slot)));
-    counts.sum()
+fn written_in(flash: &Flash, terms: &[Term]) -> u32 {
+    let slots = stored(terms).into_iter();
+    slots
+        .map(|slot| Correct::written_bytes(flash.page(slot)))
+        .sum()
 }
 
 /// The stored pages that the page of a step is the sum of.
-fn slots_read(moves: &Move, flash: &Flash, step: Step) -> Vec<usize> {
+fn terms_read(moves: &Move, flash: &Flash, step: Step) -> Vec<Term> {
     match step {
         Step::Erase { .. } => vec![],
         Step::WriteFinal { block, page } => {
-            slots_to_sum::<Correct>(moves, flash, moves.original_to(block, page))
+            terms_of::<Correct>(moves, flash, moves.original_to(block, page))
         }
         Step::WriteCoded { block, page: set } => {
             let i = block + 1;
-            let own = moves.sizes.slot_of(moves.original_from(set, i));
+            let own = Correct::own_term(moves, moves.original_from(set, i));
             if Correct::top(&moves.cycle(set, i)) == i {
                 return vec![own];
             }
             let coming = moves.original_from(set, moves.pred(set, i));
-            [vec![own], slots_to_sum::<Correct>(moves, flash, coming)].concat()
+            [vec![own], terms_of::<Correct>(moves, flash, coming)].concat()
         }
     }
 }

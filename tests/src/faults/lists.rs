@@ -22,9 +22,22 @@ pub fn faults() -> Vec<Fault> {
 
 /// Faults that the checks of demand 3 report by themselves, without the
 /// simulator's answers, with words of the report.
-pub const BREAKING_DEMAND_3: [(&str, &str); 8] = [
+pub const BREAKING_DEMAND_3: [(&str, &str); 12] = [
     ("the lowest block is the top", "original"),
     ("a coded page lacks D(pred)", "original"),
+    ("a dropped page is added as zeros", "original"),
+    (
+        "a coded page takes the stored bytes of a dropped D(i)",
+        "original",
+    ),
+    (
+        "a dropped plain page is summed from its stored bytes",
+        "original",
+    ),
+    (
+        "the 255s of a dropped page are counted",
+        "at least 0 and at most 0",
+    ),
     (
         "read does not count the last page",
         "the number of slots summed",

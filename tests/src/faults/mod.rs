@@ -1,6 +1,7 @@
 //! Movers with one fault each, to see that the comparison reports it.
 
 mod counting;
+mod dropping;
 pub mod exports;
 pub mod hex;
 pub mod lists;
@@ -38,6 +39,7 @@ pub fn all_faults() -> Vec<Fault> {
         recovery::faults(),
         counting::faults(),
         pinning::faults(),
+        dropping::faults(),
         manners::faults(),
     ];
     topics.into_iter().flatten().collect()

@@ -2,6 +2,7 @@
 
 use super::refusing::{other_order, LooseLength};
 use super::{fault, Fault};
+use crate::simulator::dropping::DROPPED;
 use crate::simulator::refusals::{order, Refusal};
 use crate::simulator::request::{Answer, Call, Part, Request};
 use crate::simulator::rules::{Correct, Rules};
@@ -101,11 +102,12 @@ impl Rules for Signed {
     }
 }
 
-/// Is some page pinned of which this is so, by its number and where it goes?
+/// Is some page pinned, and not dropped, of which this is so, by its number and
+/// where it goes?
 fn some_pinned(request: &Request, so: impl Fn(usize, usize) -> bool) -> bool {
-    let numbers = request.destinations();
+    let numbers = request.entries();
     let mut pages = numbers.iter().zip(&request.parts.pins).enumerate();
-    pages.any(|(k, (&number, &pin))| pin != 0 && so(k, number))
+    pages.any(|(k, (&number, &pin))| pin != 0 && number != DROPPED && so(k, number))
 }
 
 struct StayingRefused;
@@ -120,7 +122,7 @@ struct AnyMoveRefused;
 
 impl Rules for AnyMoveRefused {
     fn moves_pinned(request: &Request) -> bool {
-        let mut numbers = request.destinations().into_iter().enumerate();
+        let mut numbers = request.entries().into_iter().enumerate();
         some_pinned(request, |_, _| true) && numbers.any(|(k, number)| k != number)
     }
 }

@@ -27,6 +27,10 @@ pub fn faulty_programs() -> Vec<FaultyProgram> {
         fault("a list entry is cut to 16 bits", |input| {
             on(with_words(input, to_16_bits))
         }),
+        fault("an entry of 65535 is refused", drops_refused),
+        fault("an entry above 65535 drops its page", |input| {
+            on(with_words(input, saturated))
+        }),
         fault("six digits are taken", |input| {
             on(with_words(input, without_zeros))
         }),
@@ -70,6 +74,24 @@ fn with_words(input: &[u8], change: fn(&str) -> String) -> Vec<u8> {
 fn to_16_bits(word: &str) -> String {
     match word.parse::<u32>() {
         Ok(number @ 65536..=99999) => (number % 65536).to_string(),
+        _ => word.to_string(),
+    }
+}
+
+/// No byte is that big, so that only an entry can be.
+fn drops_refused(input: &[u8]) -> Vec<u8> {
+    let text = String::from_utf8_lossy(input);
+    let mut words = text.split_ascii_whitespace();
+    let given = step_program(input);
+    match given.starts_with("0 W") && words.any(|word| word == "65535") {
+        true => b"refused 3\n".to_vec(),
+        false => given.into_bytes(),
+    }
+}
+
+fn saturated(word: &str) -> String {
+    match word.parse::<u32>() {
+        Ok(65536..=99999) => "65535".to_string(),
         _ => word.to_string(),
     }
 }

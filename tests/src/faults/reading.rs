@@ -5,7 +5,7 @@ use crate::simulator::calls::move_of;
 use crate::simulator::flash::Flash;
 use crate::simulator::permutation::Move;
 use crate::simulator::request::{Answer, Call, Request};
-use crate::simulator::rules::Rules;
+use crate::simulator::rules::{Correct, Rules};
 use crate::simulator::sizes::UNWRITTEN;
 
 pub fn faults() -> Vec<Fault> {
@@ -81,7 +81,7 @@ impl Rules for ByBytes {
             return;
         }
         let flash = Flash::new(request.sizes, &request.parts.store, &request.parts.marks);
-        let moves = move_of(request);
+        let moves = move_of::<Correct>(request);
         let original = request.original as usize;
         let slots = [
             flash.sizes.slot_of(original),
@@ -89,7 +89,7 @@ impl Rules for ByBytes {
         ];
         let still_there =
             |&slot: &usize| !flash.is_whole(slot) && flash.page(slot) == given.parts.work;
-        if slots.iter().any(still_there) {
+        if given.numbers.count > 0 && slots.iter().any(still_there) {
             given.numbers.count = 1;
         }
     }

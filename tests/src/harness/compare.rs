@@ -7,6 +7,7 @@ use super::shrink::shrink;
 use crate::checks::tally::{ensure, Tally};
 use crate::random::{rounds_from_environment, Random};
 use crate::simulator::calls::answer;
+use crate::simulator::dropping::DROPPED;
 use crate::simulator::request::{Answer, Call, Numbers, Request, ALL_PARTS, CALLS};
 use std::fmt;
 
@@ -41,8 +42,14 @@ pub struct Comparer<'a> {
     counted: [u64; 3],
     /// Calls with pinned pages that were carried out, and that were refused for them.
     pinned: [u64; 2],
+    /// Calls carried out with a list that drops one page, some pages, or all.
+    dropping: [u64; 3],
+    /// Reads of dropped pages.
+    dropped_read: u64,
     /// The events of lists: calls, cut ones among them, and cuts between calls.
     pub events: u64,
+    /// Those of lists that drop pages.
+    pub events_dropping: u64,
     pub cuts: u64,
     /// How often the random lists of events are played.
     pub rounds: u64,
@@ -59,7 +66,10 @@ impl<'a> Comparer<'a> {
             compared: [0; 4],
             counted: [0; 3],
             pinned: [0; 2],
+            dropping: [0; 3],
+            dropped_read: 0,
             events: 0,
+            events_dropping: 0,
             cuts: 0,
             rounds: rounds_from_environment(),
             with_simulator: true,
@@ -85,6 +95,9 @@ impl<'a> Comparer<'a> {
         self.compared[request.call as usize] += 1;
         self.note_count(request, &due.numbers);
         self.note_pins(request, &due.numbers);
+        if due.numbers.returned == 0 {
+            self.note_drops(request);
+        }
         Ok(due)
     }
 
@@ -110,6 +123,21 @@ impl<'a> Comparer<'a> {
         }
     }
 
+    fn note_drops(&mut self, request: &Request) {
+        let entries = request.entries();
+        let dropped = entries.iter().filter(|&&entry| entry == DROPPED).count();
+        match dropped {
+            0 => return,
+            all if all == entries.len() => self.dropping[2] += 1,
+            1 => self.dropping[0] += 1,
+            _ => self.dropping[1] += 1,
+        }
+        let read = request.call == Call::Read;
+        if read && entries[request.original as usize] == DROPPED {
+            self.dropped_read += 1;
+        }
+    }
+
     fn all_compared(&self) -> u64 {
         self.compared.iter().sum()
     }
@@ -122,8 +150,14 @@ impl<'a> Comparer<'a> {
         println!("written bytes: none of the pages {none} times, some {some}, all {all}");
         let [done, refused] = self.pinned;
         println!("pins: {done} calls carried out, {refused} refused as 11");
+        let [one, some, all] = self.dropping;
+        println!("drops: one page in {one} calls carried out, some in {some}, all in {all}");
+        println!("dropped pages read: {}", self.dropped_read);
         println!("rounds: {}", self.rounds);
-        println!("events: {}, {} of them cut", self.events, self.cuts);
+        println!(
+            "events: {}, {} of them cut, {} with drops",
+            self.events, self.cuts, self.events_dropping
+        );
     }
 }
 
@@ -155,7 +189,7 @@ pub fn difference(given: Result<Answer, String>, due: &Answer) -> Option<String>
 const LEAST_EVENTS: u64 = 100_000;
 
 /// And of the runs and reads that count none, some or all bytes, and of the
-/// calls with pins.
+/// calls with pins or with drops.
 const LEAST_COUNTED: u64 = 1000;
 
 /// Each family has its own random numbers from the seed.
@@ -183,20 +217,23 @@ pub fn check_mover(tally: &mut Tally, name: &str, calls: &Calls, seed: u64) {
             format!("{} are fewer than {LEAST_EVENTS}", comparer.events)
         }),
     );
-    let counted = comparer.counted;
+    let (events, dropping) = (comparer.events, comparer.events_dropping);
     tally.check(
-        &format!("{name}, counts of every kind"),
-        ensure(counted.iter().all(|&times| times >= LEAST_COUNTED), || {
-            format!("one of {counted:?} is below {LEAST_COUNTED}")
+        &format!("{name}, events with drops and without"),
+        ensure(dropping.min(events - dropping) >= events / 3, || {
+            format!("{dropping} of {events} with drops")
         }),
     );
-    let pinned = comparer.pinned;
-    tally.check(
-        &format!("{name}, pins kept and moved"),
-        ensure(pinned.iter().all(|&times| times >= LEAST_COUNTED), || {
-            format!("one of {pinned:?} is below {LEAST_COUNTED}")
-        }),
-    );
+    let mut often = |what: &str, counts: &[u64]| {
+        let enough = ensure(counts.iter().all(|&times| times >= LEAST_COUNTED), || {
+            format!("one of {counts:?} is below {LEAST_COUNTED}")
+        });
+        tally.check(&format!("{name}, {what}"), enough);
+    };
+    often("counts of every kind", &comparer.counted);
+    often("pins kept and moved", &comparer.pinned);
+    often("one page dropped, some, all", &comparer.dropping);
+    often("dropped pages read", &[comparer.dropped_read]);
 }
 
 /// The first difference that one of these families finds, with its name.

@@ -3,7 +3,9 @@
 use crate::checks::tally::{ensure, same};
 use crate::checks::trace::all_moved;
 use crate::scene::Scene;
+use crate::simulator::dropping::{stored, sum, Term};
 use crate::simulator::request::{Answer, Numbers};
+use crate::simulator::rules::Correct;
 use crate::simulator::sizes::Sizes;
 use crate::simulator::steps::{all_steps, Step};
 
@@ -86,45 +88,51 @@ impl Ledger {
     }
 }
 
-/// The stored pages that a read sums under some marks. The slots are known
-/// where a page has a bit for each.
+/// The stored pages that a read sums under some marks. What is summed is known
+/// where a page has a bit for each slot and one more.
 pub struct Summed {
     pub count: u32,
-    pub slots: Option<Vec<usize>>,
+    pub terms: Option<Vec<Term>>,
 }
 
 /// A read gives the original, as the sum of at most n whole pages, which are
-/// the same ones whenever the marks are equal.
+/// the same ones whenever the marks are equal, and one page of 255s at most. A
+/// dropped original is 255s and no stored page.
 pub fn right_read(scene: &Scene, k: usize, answer: &Answer, summed: &Summed) -> Outcome {
     let count = answer.numbers.count;
     same("the number of read", answer.numbers.returned, 0)?;
     same(
         &format!("original {k} read"),
-        &answer.parts.work[..],
-        scene.original(k),
+        &answer.parts.work,
+        &scene.page(k),
     )?;
-    ensure((1..=scene.sizes.n).contains(&count), || {
-        format!("{count} pages summed, at most {}", scene.sizes.n)
+    let (least, most) = match scene.is_dropped(k) {
+        true => (0, 0),
+        false => (1, scene.sizes.n),
+    };
+    ensure((least..=most).contains(&count), || {
+        format!("{count} pages summed, at least {least} and at most {most}")
     })?;
     ensure(count == summed.count, || {
         let before = summed.count;
         format!("{count} pages summed, and {before} under the same marks before")
     })?;
-    match &summed.slots {
-        Some(slots) => right_slots(scene, k, count, slots),
+    match &summed.terms {
+        Some(terms) => right_terms(scene, k, count, terms),
         None => Ok(()),
     }
 }
 
-fn right_slots(scene: &Scene, k: usize, count: u32, slots: &[usize]) -> Outcome {
+fn right_terms(scene: &Scene, k: usize, count: u32, terms: &[Term]) -> Outcome {
+    let slots = stored(terms);
     same("the number of slots summed", slots.len() as u32, count)?;
     let mut whole = slots.iter().map(|&slot| scene.flash.is_whole(slot));
     ensure(whole.all(|whole| whole), || {
         format!("a page of {slots:?} is not whole")
     })?;
     same(
-        &format!("original {k} from {slots:?}"),
-        &scene.flash.sum(slots)[..],
-        scene.original(k),
+        &format!("original {k} from {terms:?}"),
+        sum::<Correct>(&scene.flash, terms),
+        scene.page(k),
     )
 }

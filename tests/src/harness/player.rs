@@ -3,6 +3,7 @@
 use super::compare::{Comparer, Difference};
 use super::demand::{right_read, Summed};
 use crate::scene::Scene;
+use crate::simulator::dropping::Term;
 use crate::simulator::request::{Answer, Request};
 use std::collections::HashMap;
 
@@ -19,20 +20,28 @@ pub fn broken(request: &Request, why: String) -> Box<Difference> {
 /// under which marks so far.
 pub struct Player<'a, 'b> {
     pub comparer: &'a mut Comparer<'b>,
+    /// Does the move drop pages?
+    drops: bool,
     summed: HashMap<(Vec<u8>, usize), Summed>,
 }
 
 impl<'a, 'b> Player<'a, 'b> {
-    pub fn new(comparer: &'a mut Comparer<'b>) -> Player<'a, 'b> {
+    pub fn new(comparer: &'a mut Comparer<'b>, scene: &Scene) -> Player<'a, 'b> {
         Player {
             comparer,
+            drops: scene.has_drops(),
             summed: HashMap::new(),
         }
     }
 
+    pub fn count_event(&mut self) {
+        self.comparer.events += 1;
+        self.comparer.events_dropping += self.drops as u64;
+    }
+
     /// One event of the list.
     pub fn event(&mut self, request: &Request) -> Played<Answer> {
-        self.comparer.events += 1;
+        self.count_event();
         self.comparer.compare(request)
     }
 
@@ -49,17 +58,18 @@ impl<'a, 'b> Player<'a, 'b> {
         if !self.summed.contains_key(&key) {
             let count = answer.numbers.count;
             let shown = self.slots_summed(scene, k)?;
-            let summed = shown.unwrap_or(Summed { count, slots: None });
+            let summed = shown.unwrap_or(Summed { count, terms: None });
             self.summed.insert(key.clone(), summed);
         }
         right_read(scene, k, &answer, &self.summed[&key]).map_err(|why| broken(&request, why))
     }
 
     /// Lays a bit of its own in the page of each slot, under the same marks:
-    /// the page read then shows which slots were summed.
+    /// the page read then shows which slots were summed. The next bit is in no
+    /// page, and shows whether 255s were added.
     fn slots_summed(&mut self, scene: &Scene, k: usize) -> Played<Option<Summed>> {
         let (slots, bytes) = (scene.sizes.slots(), scene.sizes.bytes());
-        if slots > 8 * bytes {
+        if slots >= 8 * bytes {
             return Ok(None);
         }
         let mut request = scene.read_request(k);
@@ -69,10 +79,14 @@ impl<'a, 'b> Player<'a, 'b> {
         }
         let answer = self.comparer.compare(&request)?;
         let page = answer.parts.work;
-        let shown = |slot: &usize| page[slot / 8] >> (slot % 8) & 1 == 1;
+        let shown = |bit: usize| page[bit / 8] >> (bit % 8) & 1 == 1;
+        let turned = shown(slots);
+        let summed = (0..slots).filter(|&slot| shown(slot) != turned);
+        let mut terms: Vec<Term> = summed.map(Term::Stored).collect();
+        terms.extend(turned.then_some(Term::Dropped));
         Ok(Some(Summed {
             count: answer.numbers.count,
-            slots: Some((0..slots).filter(shown).collect()),
+            terms: Some(terms),
         }))
     }
 }

@@ -2,8 +2,8 @@
 
 use crate::checks::papers::EIGHT;
 use crate::checks::step_inputs::{
-    long_inputs, EXAMPLE, REFUSED_1_INPUTS, REFUSED_3_INPUTS, SAME_AS_EXAMPLE, TWO_BY_TWO,
-    UNREADABLE_INPUTS,
+    long_inputs, DROPPING_INPUTS, EXAMPLE, REFUSED_1_INPUTS, REFUSED_3_INPUTS, SAME_AS_EXAMPLE,
+    TWO_BY_TWO, UNREADABLE_INPUTS,
 };
 use crate::random::Random;
 use crate::simulator::step_program::{step_program, INPUT_LIMIT};
@@ -39,6 +39,11 @@ pub fn inputs(seed: u64) -> Vec<Vec<u8>> {
     ];
     let fixed = groups.into_iter().flatten();
     let mut inputs: Vec<Vec<u8>> = fixed.map(|text| text.as_bytes().to_vec()).collect();
+    inputs.extend(
+        DROPPING_INPUTS
+            .iter()
+            .map(|(input, _)| input.as_bytes().to_vec()),
+    );
     inputs.extend(long_inputs().into_iter().map(|(input, _)| input));
     inputs.push(b"3 1 1 0 1 2 0 1 2 \xff".to_vec());
     inputs.extend(eight_blocks().iter().map(|numbers| numbers.words(" ")));
@@ -71,6 +76,7 @@ impl Numbers {
         let most_bytes = (INPUT_LIMIT / (3 * n * m)).clamp(1, 64);
         let page_bytes = random.between(1, most_bytes);
         let list = random.permutation(n * m);
+        let list = random.dropping(list);
         let bytes = random.bytes(n * m * page_bytes);
         Numbers {
             sizes: [n, m, page_bytes, random.below(3)],
@@ -102,7 +108,7 @@ fn eight_blocks() -> Vec<Numbers> {
 }
 
 /// Each makes one number wrong, or one too few or too many.
-const WRONG: [fn(&mut Numbers, &mut Random); 7] = [
+const WRONG: [fn(&mut Numbers, &mut Random); 8] = [
     |numbers, random| {
         let most = numbers.list.len();
         numbers.list[random.below(most)] = most;
@@ -114,7 +120,12 @@ const WRONG: [fn(&mut Numbers, &mut Random); 7] = [
     // 16 bits of it would be a good entry
     |numbers, random| {
         let most = numbers.list.len();
-        numbers.list[random.below(most)] += 65536;
+        numbers.list[random.below(most)] = 65536 + random.below(most);
+    },
+    // beside 65535, or above what 16 bits hold
+    |numbers, random| {
+        let most = numbers.list.len();
+        numbers.list[random.below(most)] = *random.pick(&[65534, 65536, 65537, 99999]);
     },
     |numbers, random| {
         let most = numbers.bytes.len();

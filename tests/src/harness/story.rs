@@ -91,7 +91,7 @@ impl Story {
 
     /// A cut between calls, or of a read, which has no steps.
     pub fn cut_idle(&mut self, player: &mut Player) -> Played<()> {
-        player.comparer.events += 1;
+        player.count_event();
         self.cut(player, None);
         self.holds(&self.scene.request(Call::Mend))
     }
@@ -117,7 +117,7 @@ impl Story {
         if let MendCut::Erased = cut {
             self.erase_unfinished(player, &request)?;
         } else {
-            player.comparer.events += 1;
+            player.count_event();
             self.ledger.recovery(0);
         }
         match cut {

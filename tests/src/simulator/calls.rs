@@ -1,8 +1,9 @@
 //! The four calls: a request in, an answer out.
 
+use super::dropping::{completed, sum};
 use super::flash::Flash;
 use super::permutation::Move;
-use super::reading::slots_to_sum;
+use super::reading::terms_of;
 use super::refusals::refusal;
 use super::request::{Answer, Call, Numbers, Parts, Request};
 use super::rules::{Correct, Rules};
@@ -37,9 +38,11 @@ fn flash_of(request: &Request) -> Flash {
     Flash::new(request.sizes, &request.parts.store, &request.parts.marks)
 }
 
-pub fn move_of(request: &Request) -> Move {
+pub fn move_of<R: Rules>(request: &Request) -> Move {
+    let entries = request.entries();
+    let dropped = entries.iter().map(|&entry| R::is_dropped(entry)).collect();
     let sets = request.parts.sets.iter().map(|&set| set as usize).collect();
-    Move::new(request.sizes, request.destinations(), sets)
+    Move::new(request.sizes, completed::<R>(&entries), dropped, sets)
 }
 
 /// Lays new content into a lent part from its start on.
@@ -55,7 +58,7 @@ fn put_flash(parts: &mut Parts, flash: &Flash) {
 }
 
 fn split<R: Rules>(request: &Request, answer: &mut Answer) {
-    let sets = split_by_rule::<R>(request.sizes, &request.destinations());
+    let sets = split_by_rule::<R>(request.sizes, &completed::<R>(&request.entries()));
     let bytes: Vec<u8> = sets.iter().map(|&set| set as u8).collect();
     put(&mut answer.parts.sets, &bytes);
 }
@@ -64,7 +67,7 @@ fn run<R: Rules>(request: &Request, answer: &mut Answer) {
     let all = request.sizes.steps() as u32;
     let steps = R::steps_to_take(request.place, request.budget, all);
     let mut flash = flash_of(request);
-    let progress = take_steps::<R>(&move_of(request), &mut flash, request.place, steps);
+    let progress = take_steps::<R>(&move_of::<R>(request), &mut flash, request.place, steps);
     put_flash(&mut answer.parts, &flash);
     if let Some(page) = progress.last_page {
         put(&mut answer.parts.work, &page);
@@ -96,9 +99,9 @@ fn mend<R: Rules>(request: &Request, answer: &mut Answer) {
 
 fn read<R: Rules>(request: &Request, answer: &mut Answer) {
     let flash = flash_of(request);
-    let slots = slots_to_sum::<R>(&move_of(request), &flash, request.original as usize);
-    let page = flash.sum(&slots);
+    let terms = terms_of::<R>(&move_of::<R>(request), &flash, request.original as usize);
+    let page = sum::<R>(&flash, &terms);
     put(&mut answer.parts.work, &page);
-    answer.numbers.count = slots.len() as u32;
+    answer.numbers.count = R::pages_summed(&terms);
     answer.numbers.written_bytes = R::written_bytes(&page);
 }

@@ -83,15 +83,6 @@ impl Flash {
             self.put_page(slot, UNWRITTEN, &blank);
         }
     }
-
-    /// The bytewise exclusive-or of the pages in these slots.
-    pub fn sum(&self, slots: &[usize]) -> Vec<u8> {
-        let mut total = vec![0; self.sizes.bytes()];
-        for &slot in slots {
-            add(&mut total, self.page(slot));
-        }
-        total
-    }
 }
 
 pub fn add(total: &mut [u8], page: &[u8]) {

@@ -2,6 +2,7 @@
 
 pub mod calls;
 pub mod cuts;
+pub mod dropping;
 pub mod flash;
 pub mod hex;
 pub mod permutation;

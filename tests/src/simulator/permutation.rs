@@ -6,7 +6,9 @@ use super::sizes::Sizes;
 /// of its pages and gets one, so it is a permutation of the blocks.
 pub struct Move {
     pub sizes: Sizes,
+    /// Of the completed list.
     destinations: Vec<usize>,
+    dropped: Vec<bool>,
     sets: Vec<usize>,
     /// The original from each block, by set and block; entry 0 is the spare's
     /// and not used.
@@ -14,7 +16,12 @@ pub struct Move {
 }
 
 impl Move {
-    pub fn new(sizes: Sizes, destinations: Vec<usize>, sets: Vec<usize>) -> Move {
+    pub fn new(
+        sizes: Sizes,
+        destinations: Vec<usize>,
+        dropped: Vec<bool>,
+        sets: Vec<usize>,
+    ) -> Move {
         let mut originals = vec![vec![0; sizes.data_blocks() + 1]; sizes.pages()];
         for (original, &set) in sets.iter().enumerate().take(destinations.len()) {
             originals[set][sizes.block_of(original)] = original;
@@ -22,9 +29,14 @@ impl Move {
         Move {
             sizes,
             destinations,
+            dropped,
             sets,
             originals,
         }
+    }
+
+    pub fn is_dropped(&self, original: usize) -> bool {
+        self.dropped[original]
     }
 
     pub fn set_of(&self, original: usize) -> usize {

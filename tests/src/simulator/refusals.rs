@@ -1,5 +1,6 @@
 //! The refusals, and the order in which each call looks for them.
 
+use super::dropping::completed;
 use super::flash::Flash;
 use super::request::{Call, Part, Request};
 use super::rules::Rules;
@@ -42,8 +43,8 @@ fn applies<R: Rules>(refusal: Refusal, request: &Request) -> bool {
     match refusal {
         Refusal::Sizes => !R::sizes_fit(&sizes),
         Refusal::Lengths => !lengths_fit::<R>(request),
-        Refusal::List => !list_fits(request),
-        Refusal::Split => !is_split(&sizes, &request.destinations(), &request.parts.sets),
+        Refusal::List => !R::list_fits(&request.entries()),
+        Refusal::Split => !split_fits::<R>(request),
         Refusal::Place => !place_fits::<R>(&flash(), request.place as usize),
         Refusal::Marks => R::recovery(&flash()).is_none(),
         Refusal::Original => request.original as usize >= sizes.originals(),
@@ -74,13 +75,8 @@ fn due_length(sizes: &Sizes, part: Part) -> u128 {
     }
 }
 
-fn list_fits(request: &Request) -> bool {
-    let destinations = request.destinations();
-    let mut distinct = destinations.clone();
-    distinct.sort();
-    distinct.dedup();
-    distinct.len() == destinations.len()
-        && destinations
-            .iter()
-            .all(|&number| number < request.sizes.originals())
+/// The set bytes have to be a split of the completed list.
+fn split_fits<R: Rules>(request: &Request) -> bool {
+    let destinations = completed::<R>(&request.entries());
+    is_split(&request.sizes, &destinations, &request.parts.sets)
 }

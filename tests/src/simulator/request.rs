@@ -111,8 +111,8 @@ pub struct Answer {
 }
 
 impl Request {
-    /// The list as numbers, low byte first.
-    pub fn destinations(&self) -> Vec<usize> {
+    /// The list as lent, low byte first.
+    pub fn entries(&self) -> Vec<usize> {
         let pairs = self.parts.list.chunks_exact(2);
         pairs
             .map(|pair| pair[0] as usize + 256 * pair[1] as usize)

@@ -3,6 +3,7 @@
 //! `Correct` takes them all as written. A seeded fault overrides one of them,
 //! which keeps it a single difference from the simulator.
 
+use super::dropping::{stored, Term, DROPPED};
 use super::flash::{add, Flash};
 use super::permutation::Move;
 use super::recovery::{self, Recovery};
@@ -33,11 +34,35 @@ pub trait Rules {
         byte != 0
     }
 
-    /// Does the list send a pinned page elsewhere?
+    /// Is a page with this entry thrown away?
+    fn is_dropped(entry: usize) -> bool {
+        entry == DROPPED
+    }
+
+    /// Each entry names a page that no other names; a dropped page names none.
+    fn list_fits(entries: &[usize]) -> bool {
+        let mut named = entries.to_vec();
+        named.retain(|&entry| !Self::is_dropped(entry));
+        named.sort();
+        let last_fits = named.last().is_none_or(|&last| last < entries.len());
+        last_fits && named.windows(2).all(|pair| pair[0] != pair[1])
+    }
+
+    /// Dropped pages and the places left for them, both ascending.
+    fn pairs(dropped: Vec<usize>, free: Vec<usize>) -> Vec<(usize, usize)> {
+        dropped.into_iter().zip(free).collect()
+    }
+
+    /// What each byte of a dropped page counts as.
+    const DROPPED_BYTE: u8 = 255;
+
+    /// Does the list send a pinned page elsewhere? A dropped one is sent nowhere.
     fn moves_pinned(request: &Request) -> bool {
-        let numbers = request.destinations();
-        let mut pages = numbers.iter().zip(&request.parts.pins).enumerate();
-        pages.any(|(k, (&number, &pin))| Self::is_pinned(pin) && number != k)
+        let entries = request.entries();
+        let mut pages = entries.iter().zip(&request.parts.pins).enumerate();
+        pages.any(|(k, (&entry, &pin))| {
+            Self::is_pinned(pin) && entry != k && !Self::is_dropped(entry)
+        })
     }
 
     /// The pages on which the split exchanges sets a and b.
@@ -55,6 +80,11 @@ pub trait Rules {
         *cycle.iter().max().expect("a cycle has a block")
     }
 
+    /// D(i) of c(i), which lies in block i.
+    fn own_term(moves: &Move, original: usize) -> Term {
+        Self::plain_term(moves, original)
+    }
+
     /// c(i) from D(i) and, unless i is the top, D(pred(i)).
     fn coded_page(own: Vec<u8>, from_pred: Option<Vec<u8>>) -> Vec<u8> {
         let mut page = own;
@@ -69,6 +99,11 @@ pub trait Rules {
         page.iter().filter(|&&byte| byte != 255).count() as u32
     }
 
+    /// Is a page's content known without a look at the store?
+    fn is_known(moves: &Move, original: usize) -> bool {
+        moves.is_dropped(original)
+    }
+
     /// Read's second rule: is the page rebuilt against the direction of moves?
     fn goes_back(flash: &Flash, top: usize) -> bool {
         let sizes = &flash.sizes;
@@ -79,6 +114,39 @@ pub trait Rules {
     /// Read's third rule: does the way forward end with block `v`?
     fn forward_ends(moves: &Move, flash: &Flash, set: usize, v: usize) -> bool {
         flash.full_of(moves.next(set, v), flash.sizes.letter(2))
+    }
+
+    /// Read's second rule: is the walk over because this page is dropped?
+    fn stops_back(_moves: &Move, _original: usize) -> bool {
+        false
+    }
+
+    /// The same for the third rule.
+    fn stops_forward(_moves: &Move, _original: usize) -> bool {
+        false
+    }
+
+    /// A page that still lies where it was: its bytes, unless it is dropped.
+    fn plain_term(moves: &Move, original: usize) -> Term {
+        match moves.is_dropped(original) {
+            true => Term::Dropped,
+            false => Term::Stored(moves.sizes.slot_of(original)),
+        }
+    }
+
+    /// A page that lies at its destination: its bytes, dropped or not.
+    fn final_term(moves: &Move, original: usize) -> Term {
+        Term::Stored(moves.destination_slot(original))
+    }
+
+    /// How many stored pages a sum takes.
+    fn pages_summed(terms: &[Term]) -> u32 {
+        stored(terms).len() as u32
+    }
+
+    /// The mark of a page written, whatever its bytes are.
+    fn mark_of(_bytes: &[u8], letter: u8) -> u8 {
+        letter
     }
 
     /// Does a page fit the mark that the place has there?

@@ -1,8 +1,9 @@
 //! The run: one step after the other.
 
+use super::dropping::sum;
 use super::flash::Flash;
 use super::permutation::Move;
-use super::reading::slots_to_sum;
+use super::reading::terms_of;
 use super::rules::Rules;
 use super::steps::{all_steps, marks_at, Step};
 
@@ -27,24 +28,24 @@ pub fn take_step<R: Rules>(moves: &Move, flash: &mut Flash, step: Step) -> Optio
         }
         Step::WriteFinal { block, page } => {
             let original = moves.original_to(block, page);
-            let bytes = flash.sum(&slots_to_sum::<R>(moves, flash, original));
+            let bytes = sum::<R>(flash, &terms_of::<R>(moves, flash, original));
             (sizes.slot(block, page), sizes.letter(2), bytes)
         }
     };
-    flash.put_page(slot, mark, &bytes);
+    flash.put_page(slot, R::mark_of(&bytes, mark), &bytes);
     Some(bytes)
 }
 
 /// c(i) of a set, from the page that lies in block i and, unless i is the top
 /// of its cycle, the page that goes there.
 fn coded_page<R: Rules>(moves: &Move, flash: &Flash, set: usize, i: usize) -> Vec<u8> {
-    let own_slot = moves.sizes.slot_of(moves.original_from(set, i));
-    let own = flash.page(own_slot).to_vec();
+    let own_term = R::own_term(moves, moves.original_from(set, i));
+    let own = sum::<R>(flash, &[own_term]);
     if R::top(&moves.cycle(set, i)) == i {
         return R::coded_page(own, None);
     }
     let coming = moves.original_from(set, moves.pred(set, i));
-    let rebuilt = flash.sum(&slots_to_sum::<R>(moves, flash, coming));
+    let rebuilt = sum::<R>(flash, &terms_of::<R>(moves, flash, coming));
     R::coded_page(own, Some(rebuilt))
 }
 

@@ -121,7 +121,7 @@ fn steps_text(sizes: Sizes, list: Vec<u32>, originals: &[u8]) -> Result<String, 
 }
 
 fn moved_text(request: &Request, mut flash: Flash) -> String {
-    let moves = move_of(request);
+    let moves = move_of::<Correct>(request);
     let (mut writes, mut erases) = (0, 0);
     let mut text = String::new();
     for (place, step) in all_steps(&request.sizes).into_iter().enumerate() {

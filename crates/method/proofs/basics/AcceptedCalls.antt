@@ -1,20 +1,21 @@
 -- What a call that is not refused was given; and what is enough for a call not to be refused.
-use Rattle.flash.proofs.Kit.{_≡_, ap, _⊎_, inl, inr, Bool, true, false, _&&_, _||_, not, List, [], ℕ, _≤_, _<_, arith, eqb, ltb, length, eqb-true}
-use Rattle.flash.proofs.Kit.{eq-eqb, ltb-false, le-ltb, not-true, not-false}
+use Rattle.flash.proofs.Kit.{_≡_, ap, _∙_, _⊎_, inl, inr, Bool, true, false, _&&_, _||_, not, List, [], ℕ, _≤_, _<_, arith, eqb, ltb, length, eqb-true}
+use Rattle.flash.proofs.Kit.{eq-eqb, ltb-false, le-ltb, not-false}
 use Rattle.flash.specs.Lists.{range, any, isSame}
 use Rattle.flash.specs.Tables.{Row, refusal}
 use Rattle.flash.specs.declared.sizes.Sizes.{Sizes}
-use Rattle.flash.specs.Geometry.{inRange, slotCount, storeLength, marksLength, listLength, pinsLength, setsLength, workLength}
+use Rattle.flash.specs.Geometry.{inRange, originalCount, slotCount, storeLength, marksLength, listLength, pinsLength, setsLength, workLength}
 use Rattle.flash.specs.Chip.{Chip, erased, markAt, isBlank}
 use Rattle.flash.proofs.Bools.{bool-cases, or-false-left, or-false-right}
 use Rattle.flash.proofs.Tables.{refusal-zero, refusal-skip, refusal-nil}
 use Rattle.flash.proofs.Bounds.{in-range, range-in}
 use Rattle.flash.proofs.Ranges.{none-in, none-is}
 use Rattle.flash.proofs.Same.{same-eq, eq-same}
-use Rattle.split.specs.OneToOne.{isOneToOne}
+use Rattle.split.specs.OneToOne.{badList, isOneToOne}
 use Rattle.split.specs.Pins.{movesPinned}
 use Rattle.split.specs.Request.{Request, badRequest}
 use Rattle.split.proofs.Answers.{lengths-are}
+use Rattle.split.proofs.DropLaws.{completed-length, completed-accepted}
 use Rattle.method.specs.Move.{move, AcceptedMove, Lent}
 use Rattle.method.specs.Place.{lastPlace, marksOf}
 use Rattle.method.specs.Answers.{badChip, badParts, isElsewhere, moveRows, runRows}
@@ -25,10 +26,16 @@ pub record StandsAt (Z : Sizes) (chip : Chip) (place : ℕ) : Type 0 where
   pub marks : chip .marks ≡ marksOf Z place
   pub blank : (t : ℕ) → t < slotCount Z → markAt (chip .marks) t ≡ erased → isBlank (Z .p) chip t ≡ true
 
--- the pins are as many as there are pages, and the list leaves the pinned ones where they are
-pub record PinsFit (R : Request) : Type 0 where
+-- the lent list and the pins are as long as there are pages, the list can be completed, and leaves the pinned pages where they are
+pub record ListFits (R : Request) : Type 0 where
+  pub list-length : length (R .list) ≡ listLength (R .sizes)
+  pub good : badList (originalCount (R .sizes)) (R .list) ≡ false
   pub pins-length : length (R .pins) ≡ pinsLength (R .sizes)
   pub stay : movesPinned (R .pins) (R .list) ≡ false
+
+-- then the completed list is one-to-one
+pub fits-one-to-one : (R : Request) → ListFits R → isOneToOne (originalCount (R .sizes)) (move R .list) ≡ true
+fits-one-to-one R F = completed-accepted (originalCount (R .sizes)) (R .list) (F .list-length) (F .good)
 
 same-length : (x y : ℕ) → not (eqb x y) ≡ false → x ≡ y
 same-length x y e = eqb-true x y (not-false (eqb x y) e)
@@ -72,33 +79,34 @@ module _ (R : Request) (chip : Chip) (work : List ℕ) where
   )
 
   pub move-accepted : (rest : List (Row ℕ)) → refusal (moveRows R chip work rest) ≡ 0
-      → AcceptedMove (move R) × Lent Z chip work × PinsFit R × (refusal rest ≡ 0)
-  unfolding moveRows isOneToOne
+      → AcceptedMove (move R) × Lent Z chip work × ListFits R × (refusal rest ≡ 0)
+  unfolding moveRows
   move-accepted rest e =
       let one = refusal-zero _ _ (omega arith) e in
       let two = refusal-zero _ _ (omega arith) (one .1) in
       let three = refusal-zero _ _ (omega arith) (two .1) in
       let eleven = refusal-zero _ _ (omega arith) (three .1) in
       let four = refusal-zero _ _ (omega arith) (eleven .1) in
-      let parts = parts-ok (two .0) in (
+      let parts = parts-ok (two .0) in
+      let F : ListFits R = record { list-length = parts .0; good = three .0; pins-length = parts .1; stay = eleven .0 } in (
         record {
           ranges = in-range Z (not-false (inRange Z) (one .0));
-          list-length = parts .0;
+          list-length = completed-length list ∙ parts .0;
           sets-length = parts .2;
-          one-to-one = ap not (three .0);
+          one-to-one = fits-one-to-one R F;
           split = not-false _ (four .0);
         },
         parts .3,
-        record { pins-length = parts .1; stay = eleven .0 },
+        F,
         four .1,
       )
 
-  pub accepted-move : (rest : List (Row ℕ)) → AcceptedMove (move R) → Lent Z chip work → PinsFit R → refusal rest ≡ 0
+  pub accepted-move : (rest : List (Row ℕ)) → AcceptedMove (move R) → Lent Z chip work → ListFits R → refusal rest ≡ 0
       → refusal (moveRows R chip work rest) ≡ 0
-  unfolding moveRows isOneToOne
+  unfolding moveRows
   accepted-move rest A L F e =
-      refusal-skip _ _ (ap not (range-in Z (A .ranges))) (refusal-skip _ _ (ok-parts (A .list-length) (F .pins-length) (A .sets-length) L)
-      (refusal-skip _ _ (not-true _ (A .one-to-one)) (refusal-skip _ _ (F .stay) (refusal-skip _ _ (ap not (A .split)) e))))
+      refusal-skip _ _ (ap not (range-in Z (A .ranges))) (refusal-skip _ _ (ok-parts (F .list-length) (F .pins-length) (A .sets-length) L)
+      (refusal-skip _ _ (F .good) (refusal-skip _ _ (F .stay) (refusal-skip _ _ (ap not (A .split)) e))))
 
 -- row 5
 module _ (Z : Sizes) (chip : Chip) (place : ℕ) where
@@ -135,15 +143,15 @@ pub record RunTaken (R : Request) (chip : Chip) (work : List ℕ) (place : ℕ) 
   pub accepted : AcceptedMove (move R)
   pub lent : Lent (R .sizes) chip work
   pub stands : StandsAt (R .sizes) chip place
-  pub pins : PinsFit R
+  pub fits : ListFits R
 
 pub run-taken : (R : Request) (chip : Chip) (work : List ℕ) (place : ℕ) → refusal (runRows R chip work place) ≡ 0 → RunTaken R chip work place
 unfolding runRows
 run-taken R chip work place e =
     let a = move-accepted R chip work _ e in
-    record { accepted = a .0; lent = a .1; stands = stands-at (R .sizes) chip place (refusal-zero _ _ (omega arith) (a .3) .0); pins = a .2 }
+    record { accepted = a .0; lent = a .1; stands = stands-at (R .sizes) chip place (refusal-zero _ _ (omega arith) (a .3) .0); fits = a .2 }
 
 pub taken-run : (R : Request) (chip : Chip) (work : List ℕ) (place : ℕ) → RunTaken R chip work place → refusal (runRows R chip work place) ≡ 0
 unfolding runRows
 taken-run R chip work place T =
-    accepted-move R chip work _ (T .accepted) (T .lent) (T .pins) (refusal-skip _ [] (at-stands (R .sizes) chip place (T .stands)) refusal-nil)
+    accepted-move R chip work _ (T .accepted) (T .lent) (T .fits) (refusal-skip _ [] (at-stands (R .sizes) chip place (T .stands)) refusal-nil)

@@ -6,23 +6,23 @@ use Rattle.flash.specs.Tables.{refusal}
 use Rattle.flash.specs.declared.sizes.Sizes.{Sizes}
 use Rattle.flash.specs.Geometry.{originalCount}
 use Rattle.flash.specs.PageSum.{sum}
-use Rattle.flash.specs.Chip.{Chip, pageAt}
+use Rattle.flash.specs.Chip.{Chip}
 use Rattle.flash.proofs.Bools.{bool-cases}
 use Rattle.flash.proofs.Comparisons.{eq-cases}
 use Rattle.split.specs.Request.{Request}
-use Rattle.method.specs.Move.{Move, move, AcceptedMove}
+use Rattle.method.specs.Move.{Plan, plan, AcceptedMove}
 use Rattle.method.specs.Place.{Operation, filled}
 use Rattle.method.specs.Step.{operationsFrom}
 use Rattle.method.specs.State.{originalsIn}
 use Rattle.method.specs.Mend.{Reading, reading}
-use Rattle.method.specs.Read.{readSlots, readPage}
+use Rattle.method.specs.Read.{termPage, storedSlots, readTerms, readPage}
 use Rattle.method.specs.Answers.{RunAnswer, runRows, runCarriedOut, stepsTaken, runRefused, runAnswer, mendRows, mended, mendAnswer, readRows, readGives, readAnswer}
 use Rattle.method.specs.Runs.{Start}
 use Rattle.method.specs.Events.{Call, run, mend, read, CutPoint, Event, History, numberOf, mendSteps, stepsOf, chipAfter, chipReturned, returnsFinished, starting, during, after, stepsFinished, moments}
 use Rattle.method.specs.Demand3.{CutObeys, Allowed, AllAllowed, Keeps, AtEach, Demand3}
 use Rattle.method.proofs.states.RunsAddUp.{run-answer, start-accepted, start-stands, start-holds, start-full}
 use Rattle.method.proofs.places.Turns.{resumes-begun}
-use Rattle.method.proofs.recovery.MarksSeen.{slots-seen, page-seen}
+use Rattle.method.proofs.recovery.MarksSeen.{terms-seen, page-seen}
 use Rattle.method.proofs.recovery.Moments.{Moment, stands-moment}
 use Rattle.method.proofs.demand.KeptByHistories.{within, Kept, keeps}
 use Rattle.method.proofs.demand.CallsWithoutSteps.{EventKept, idle}
@@ -59,26 +59,26 @@ mend-refused Z chip ne = ⊎-elim
 
 -- ---- one event
 module _ (R : Request) (chip₀ : Chip) (S : Start R chip₀) where
-  abbrev M : Move
-  M = move R
+  abbrev X : Plan
+  X = plan R
 
-  A : AcceptedMove M
+  A : AcceptedMove (X .move)
   A = start-accepted R chip₀ S
 
   abbrev originals : List ℕ
   originals = originalsIn (R .sizes) chip₀
 
-  module _ (h : History) (K : Kept M originals h) where
+  module _ (h : History) (K : Kept X originals h) where
     -- the event of a call, cut where it may be
     abbrev EventsKept : Call → Type 0
-    EventsKept call = (cut : CutPoint) → CutObeys call cut (h .chip) → EventKept M originals h call cut
+    EventsKept call = (cut : CutPoint) → CutObeys call cut (h .chip) → EventKept X originals h call cut
 
     run-idle : (N : Request) (work : List ℕ) (place budget : ℕ) → numberOf (run N work place budget) (h .chip) ≢ 0 → EventsKept (run N work place budget)
     unfolding numberOf stepsOf chipAfter chipReturned returnsFinished runRefused runCarriedOut
     run-idle N work place budget ne =
         let refused : refusal (runRows N (h .chip) work place) ≢ 0 = λ e. ne (ap (λ (a : RunAnswer). a .number) (run-answer N (h .chip) work place budget e)) in
         let no-steps : List Operation = operationsFrom (N .sizes) place (stepsTaken (N .sizes) place budget) in
-        idle M originals h K (run N work place budget)
+        idle X originals h K (run N work place budget)
         (ap (λ (b : Bool). cond b no-steps []) (ne-eqb (runAnswer N (h .chip) work place budget .number) 0 ne))
         (ap (λ (a : RunAnswer). a .chip) (run-refused N (h .chip) work place 0 refused))
         (ap (λ (a : RunAnswer). a .chip) (run-refused N (h .chip) work place budget refused))
@@ -87,26 +87,26 @@ module _ (R : Request) (chip₀ : Chip) (S : Start R chip₀) where
     mend-idle : (Z : Sizes) → numberOf (mend Z) (h .chip) ≢ 0 → EventsKept (mend Z)
     unfolding numberOf stepsOf chipAfter chipReturned returnsFinished
     mend-idle Z ne =
-        idle M originals h K (mend Z) (ap (λ (b : Bool). cond b (mendSteps (reading Z (h .chip .marks))) []) (ne-eqb (mendAnswer Z (h .chip) .number) 0 ne)) refl (mend-refused Z (h .chip) ne) refl
+        idle X originals h K (mend Z) (ap (λ (b : Bool). cond b (mendSteps (reading Z (h .chip .marks))) []) (ne-eqb (mendAnswer Z (h .chip) .number) 0 ne)) refl (mend-refused Z (h .chip) ne) refl
 
     read-idle : (N : Request) (work : List ℕ) (k : ℕ) → EventsKept (read N work k)
     unfolding stepsOf chipAfter chipReturned returnsFinished
-    read-idle N work k = idle M originals h K (read N work k) refl refl refl refl
+    read-idle N work k = idle X originals h K (read N work k) refl refl refl refl
 
-    run-shared : (N : Request) → move N ≡ M → (work : List ℕ) (place budget : ℕ)
+    run-shared : (N : Request) → plan N ≡ X → (work : List ℕ) (place budget : ℕ)
         → numberOf (run N work place budget) (h .chip) ≡ 0 → h .unmended ≡ false → EventsKept (run N work place budget)
     unfolding numberOf
     run-shared N e work place budget ok mended cut obeys =
-        let full = subst (λ (M : Move). length originals ≡ originalCount (M .sizes) * M .sizes .p) (sym e) (start-full R chip₀ S) in
-        let kept = subst (λ (M : Move). Kept M originals h) (sym e) K in
+        let full = subst (λ (X : Plan). length originals ≡ originalCount (X .move .sizes) * X .move .sizes .p) (sym e) (start-full R chip₀ S) in
+        let kept = subst (λ (X : Plan). Kept X originals h) (sym e) K in
         let number = run-number N (h .chip) work place budget ok in
-        subst (λ (M : Move). EventKept M originals h (run N work place budget) cut) e
-        (run-kept N (subst AcceptedMove (sym e) A) originals full h kept work place budget number mended cut obeys)
+        subst (λ (X : Plan). EventKept X originals h (run N work place budget) cut) e
+        (run-kept N (subst (λ (X : Plan). AcceptedMove (X .move)) (sym e) A) originals full h kept work place budget number mended cut obeys)
 
     mend-shared : (Z : Sizes) → Z ≡ R .sizes → EventsKept (mend Z)
-    mend-shared Z e = subst (λ (Z : Sizes). EventsKept (mend Z)) (sym e) (mend-kept M A originals h K)
+    mend-shared Z e = subst (λ (Z : Sizes). EventsKept (mend Z)) (sym e) (mend-kept X A originals h K)
 
-    pub event-kept : (call : Call) (cut : CutPoint) → Allowed R (record { call = call; cut = cut }) h → EventKept M originals h call cut
+    pub event-kept : (call : Call) (cut : CutPoint) → Allowed R (record { call = call; cut = cut }) h → EventKept X originals h call cut
     event-kept (run N work place budget) cut O = ⊎-elim
         (λ (ok : numberOf (run N work place budget) (h .chip) ≡ 0). run-shared N (O .shares ok) work place budget ok (O .mended ok) cut (O .cut-obeys))
         (λ ne. run-idle N work place budget ne cut (O .cut-obeys))
@@ -128,7 +128,7 @@ module _ (R : Request) (chip₀ : Chip) (S : Start R chip₀) where
   each-map P f start zero p = tt
   each-map P f start (suc count) p = (p start (omega arith) (omega arith), each-map P f (suc start) count (λ i a b. p i (omega arith) (omega arith)))
 
-  all-kept : (events : List Event) (h : History) → Kept M originals h → AllAllowed R events h → AtEach (Keeps R chip₀) (moments events h)
+  all-kept : (events : List Event) (h : History) → Kept X originals h → AllAllowed R events h → AtEach (Keeps R chip₀) (moments events h)
   unfolding AllAllowed AtEach moments after
   all-kept [] h K O = (keeps R chip₀ S h K, tt)
   all-kept (event ∷ events) h K O =
@@ -138,7 +138,7 @@ module _ (R : Request) (chip₀ : Chip) (S : Start R chip₀) where
       (all-kept events (after event h) (E .after) (O .1))
 
   -- ---- the start
-  started : Kept M originals (starting chip₀)
+  started : Kept X originals (starting chip₀)
   unfolding starting filled count
   started = record {
     place = 0;
@@ -152,20 +152,20 @@ module _ (R : Request) (chip₀ : Chip) (S : Start R chip₀) where
 
 -- ---- equal marks
 read-answer : (R : Request) (chip : Chip) (work : List ℕ) (k : ℕ) → readAnswer R chip work k .number ≡ 0
-    → readAnswer R chip work k ≡ readGives (length (readSlots (move R) (chip .marks) k)) (readPage (move R) chip k)
+    → readAnswer R chip work k ≡ readGives (length (storedSlots (readTerms (plan R) (chip .marks) k))) (readPage (plan R) chip k)
 unfolding readAnswer
 read-answer R chip work k e = ⊎-elim
-    (λ (q : eqb (refusal (readRows R chip work k)) 0 ≡ true). rw (q, slots-seen (chip .marks) (move R) k, page-seen (move R) chip k))
+    (λ (q : eqb (refusal (readRows R chip work k)) 0 ≡ true). rw (q, terms-seen (plan R) (chip .marks) k, page-seen (plan R) chip k))
     (λ (q : eqb (refusal (readRows R chip work k)) 0 ≡ false). absurd (eqb-false _ 0 q (rw q at e)))
     (bool-cases (eqb (refusal (readRows R chip work k)) 0))
 
 by-marks : (R : Request) (marks : List ℕ) (k : ℕ) (chip : Chip) → chip .marks ≡ marks → (work : List ℕ) → readAnswer R chip work k .number ≡ 0
-    → readAnswer R chip work k ≡ readGives (length (readSlots (move R) marks k)) (sum (pageAt (R .sizes .p) chip) (readSlots (move R) marks k))
+    → readAnswer R chip work k ≡ readGives (length (storedSlots (readTerms (plan R) marks k))) (sum (termPage (R .sizes .p) chip) (readTerms (plan R) marks k))
 unfolding readPage
 by-marks R marks k chip same work e = rw (← same) (read-answer R chip work k e)
 
 pub demand-3 : Demand3
 demand-3 = record {
   kept = λ R chip₀ S events O. all-kept R chip₀ S events (starting chip₀) (started R chip₀ S) O;
-  same-slots = λ R marks k. (readSlots (move R) marks k, by-marks R marks k);
+  same-slots = λ R marks k. (readTerms (plan R) marks k, by-marks R marks k);
 }

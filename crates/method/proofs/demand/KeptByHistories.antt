@@ -1,32 +1,35 @@
 -- What a list of calls and cuts keeps, and that demand 3 holds of a moment that has it.
-use Rattle.flash.proofs.Kit.{_≡_, refl, _∙_, subst, true, List, [], ℕ, suc, _+_, _-_, _*_, _≤_, _<_, min, arith, length, getD, take}
+use Rattle.flash.proofs.Kit.{_≡_, refl, sym, ap, _∙_, subst, inl, inr, ⊎-elim, true, false, List, [], ℕ, suc, _+_, _-_, _*_, _≤_, _<_, min, arith, length, getD, take}
 use Rattle.flash.proofs.Kit.{eq-eqb, lt-leb}
 use Rattle.flash.specs.Lists.{count}
 use Rattle.flash.specs.Tables.{refusal}
 use Rattle.flash.specs.declared.sizes.Sizes.{Sizes}
-use Rattle.flash.specs.Geometry.{slotOf, originalCount, storeLength, workLength}
-use Rattle.flash.specs.Chip.{Chip, pageAt}
+use Rattle.flash.specs.Geometry.{slotOf, originalCount, slotCount, storeLength, workLength}
+use Rattle.flash.specs.Chip.{Chip, pageAt, isWhole}
 use Rattle.flash.proofs.Searches.{count-take}
 use Rattle.flash.proofs.Tables.{refusal-skip, refusal-nil}
+use Rattle.split.specs.Drops.{isDropped}
 use Rattle.split.specs.Request.{Request}
-use Rattle.method.specs.Move.{Move, move, AcceptedMove, Lent}
+use Rattle.split.proofs.DropLaws.{completed-kept}
+use Rattle.method.specs.Move.{Plan, plan, AcceptedMove, Lent}
 use Rattle.method.specs.Place.{operations, lastPlace, filled}
-use Rattle.method.specs.Read.{readPage}
-use Rattle.method.specs.State.{originalsIn}
+use Rattle.method.specs.Read.{fillerPage, storedSlots, readSlots}
+use Rattle.method.specs.State.{originalsIn, countsAs}
 use Rattle.method.specs.Step.{isErase, erasesBlock}
-use Rattle.method.specs.Answers.{readRows, runCarriedOut, stepsTaken, mendAnswer, readAnswer, runAnswer}
+use Rattle.method.specs.Answers.{readRows, runCarriedOut, stepsTaken, mendAnswer, readGives, readAnswer, runAnswer}
 use Rattle.method.specs.Runs.{Start}
 use Rattle.method.specs.Events.{History}
 use Rattle.method.specs.Demand3.{Stays, Keeps}
-use Rattle.method.proofs.basics.MoveShape.{Holding}
+use Rattle.method.proofs.basics.MoveShape.{Holding, counted, counts-kept, counts-dropped, holding-shows}
 use Rattle.method.proofs.basics.AcceptedCalls.{StandsAt, RunTaken, accepted-move, run-taken, taken-run}
 use Rattle.method.proofs.places.StepsAtPlaces.{filled-early}
 use Rattle.method.proofs.places.PlaceShape.{letterAbove, which-pass}
+use Rattle.method.proofs.walks.Terms.{terms-kept, terms-dropped, stored-few, stored-each, sum-terms, page-dropped, page-kept, added-once}
 use Rattle.method.proofs.walks.ReadsOriginals.{reads}
 use Rattle.method.proofs.states.StatesOfPlaces.{is-state}
-use Rattle.method.proofs.states.RunsAddUp.{run-answer, start-accepted, start-pins, start-full, start-page}
+use Rattle.method.proofs.states.RunsAddUp.{run-answer, start-accepted, start-fits, start-full, start-page}
 use Rattle.method.proofs.places.Turns.{turn, turn-high, turn-erases}
-use Rattle.method.proofs.recovery.MarksSeen.{slots-seen, page-seen}
+use Rattle.method.proofs.recovery.MarksSeen.{terms-seen, page-seen}
 use Rattle.method.proofs.recovery.Moments.{Moment, moment-shape, finished-page}
 use Rattle.method.proofs.recovery.MendFinds.{moment-fits}
 use Rattle.method.proofs.recovery.MendAnswers.{recovers}
@@ -36,9 +39,9 @@ use Rattle.method.proofs.places.ErasesCounted.{at-most-twice}
 turn-before : (Z : Sizes) (place : ℕ) → place ≤ lastPlace Z → 1 ≤ Z .m → filled Z place ≡ Z .m → turn Z place < 2 * Z .n
 turn-before Z place h l k = omega (arith, turn-erases Z place k, turn-high Z (suc place) (filled-early Z place h (omega arith)))
 
-module _ (M : Move) where
+module _ (X : Plan) where
   abbrev Z : Sizes
-  Z = M .sizes
+  Z = X .move .sizes
 
   -- The erases begun: one a turn and one a mend; and one more while an erase was begun that has taken no mark, before a mend.
   pub data Bounded (h : History) (place : ℕ) : Type 0 where
@@ -56,25 +59,25 @@ module _ (M : Move) where
     pub place : ℕ
     pub moment : Moment Z (h .chip .marks) place
     pub store-length : length (h .chip .store) ≡ storeLength Z
-    pub holds : Holding M originals (h .chip)
+    pub holds : Holding X originals (h .chip)
     pub bounded : Bounded h place
     pub ended : h .finished ≡ true → place ≡ lastPlace Z
     pub fresh : h .cuts ≡ 0 → h .mends ≡ 0 → Fresh h
 
 module _ (R : Request) (chip₀ : Chip) (S : Start R chip₀) where
-  abbrev M : Move
-  M = move R
+  abbrev X : Plan
+  X = plan R
 
   abbrev W : Sizes
   W = R .sizes
 
-  A : AcceptedMove M
+  A : AcceptedMove (X .move)
   A = start-accepted R chip₀ S
 
   abbrev originals : List ℕ
   originals = originalsIn W chip₀
 
-  module _ (h : History) (K : Kept M originals h) where
+  module _ (h : History) (K : Kept X originals h) where
     abbrev chip : Chip
     chip = h .chip
 
@@ -85,27 +88,36 @@ module _ (R : Request) (chip₀ : Chip) (S : Start R chip₀) where
     read-taken : (work : List ℕ) → length work ≡ workLength W → (k : ℕ) → k < originalCount W → refusal (readRows R chip work k) ≡ 0
     unfolding readRows
     read-taken work l k h =
-        accepted-move R chip work _ A (lent work l) (start-pins R chip₀ S)
+        accepted-move R chip work _ A (lent work l) (start-fits R chip₀ S)
         (refusal-skip _ _ (moment-fits W (A .ranges) (chip .marks) (K .place) (K .moment)) (refusal-skip _ [] (lt-leb (originalCount W) k h) refusal-nil))
 
-    stays : (k : ℕ) → k < originalCount W → Stays R chip k (pageAt (W .p) chip₀ (slotOf (W .m) k))
-    unfolding readAnswer readPage
-    stays k k-in =
+    stays : (k : ℕ) → k < originalCount W → isDropped (R .list) k ≡ false → Stays R chip k (pageAt (W .p) chip₀ (slotOf (W .m) k))
+    unfolding readAnswer
+    stays k k-in kept =
         let T = moment-shape W (chip .marks) (K .place) (K .moment) in
-        let D = reads M A (chip .marks) (T .low) (T .high) k k-in (letterAbove (T .pass)) (which-pass (T .pass)) (T .shape) in
-        let total = D .original originals chip refl (start-full R chip₀ S) (K .holds) ∙ start-page R chip₀ S k in
+        let D = reads (X .move) A (chip .marks) (T .low) (T .high) k k-in (letterAbove (T .pass)) (which-pass (T .pass)) (T .shape) in
+        let slots = readSlots (X .move) (chip .marks) k in
+        let shows = holding-shows X originals chip (start-full R chip₀ S) (K .holds) in
+        let page = D .original (countsAs X originals) (counted X chip) shows ∙ counts-kept X originals k kept ∙ start-page R chip₀ S k in
+        let total = sum-terms X chip slots ∙ page in
         record {
-          few = D .few;
-          stored = λ i l. D .sited i l .inside;
-          whole = λ i l. D .sited i l .whole;
-          total = total;
-          read-gives = λ work l. rw (read-taken work l k k-in, page-seen M chip k, slots-seen (chip .marks) M k, total);
+          few = rw (terms-kept X (chip .marks) k kept) (omega (arith, stored-few X (chip .marks) slots, D .few));
+          stored = rw (terms-kept X (chip .marks) k kept) (stored-each X (chip .marks) (λ t. t < slotCount W) slots (λ i l. D .sited i l .inside));
+          whole = rw (terms-kept X (chip .marks) k kept) (stored-each X (chip .marks) (λ t. isWhole (chip .marks) t ≡ true) slots (λ i l. D .sited i l .whole));
+          total = rw (terms-kept X (chip .marks) k kept) (⊎-elim (λ e. inl (e ∙ total)) (λ e. inr (e ∙ total)) (added-once X chip slots (D .coded-first)));
+          read-gives = λ work l. rw (read-taken work l k k-in, page-seen X chip k, terms-seen X (chip .marks) k, page-kept X chip k kept, page);
         }
+
+    dropped : (k : ℕ) → k < originalCount W → isDropped (R .list) k ≡ true → (work : List ℕ) → length work ≡ workLength W
+        → readAnswer R chip work k ≡ readGives 0 (fillerPage (W .p))
+    unfolding readAnswer storedSlots
+    dropped k k-in gone work l =
+        rw (read-taken work l k k-in, page-seen X chip k, terms-seen X (chip .marks) k, page-dropped X chip k gone, terms-dropped X (chip .marks) k gone)
 
     few-erases : count isErase (h .begun) ≤ 2 * W .n + h .mends
     few-erases = go (K .bounded)
       where
-        go : Bounded M h (K .place) → count isErase (h .begun) ≤ 2 * W .n + h .mends
+        go : Bounded X h (K .place) → count isErase (h .begun) ≤ 2 * W .n + h .mends
         go (within b) = omega (arith, turn-high W (K .place) (K .moment .in-move))
         go (once-more u k b) = omega (arith, turn-before W (K .place) (K .moment .in-move) (A .ranges .m-low) k)
 
@@ -114,8 +126,8 @@ module _ (R : Request) (chip₀ : Chip) (S : Start R chip₀) where
         let F = K .fresh c m in
         rw (F .done) (omega (arith, at-most-twice W b, count-take (erasesBlock b) (F .taken) (operations W)))
 
-    final : h .finished ≡ true → (k : ℕ) → k < originalCount W → pageAt (W .p) chip (slotOf (W .m) (getD (M .list) k 0)) ≡ pageAt (W .p) chip₀ (slotOf (W .m) k)
-    final e k k-in = finished-page M A originals chip (subst (Moment W (chip .marks)) (K .ended e) (K .moment)) (K .holds) k k-in ∙ start-page R chip₀ S k
+    final : h .finished ≡ true → (k : ℕ) → k < originalCount W → pageAt (W .p) chip (slotOf (W .m) (getD (X .move .list) k 0)) ≡ countsAs X originals k
+    final e k k-in = finished-page X A originals chip (subst (Moment W (chip .marks)) (K .ended e) (K .moment)) (K .holds) k k-in
 
     goes-on : (work : List ℕ) → length work ≡ workLength W → (budget : ℕ) → lastPlace W ≤ budget
         → runAnswer R (mendAnswer W chip .chip) work (mendAnswer W chip .place) budget .finished ≡ 1
@@ -126,7 +138,7 @@ module _ (R : Request) (chip₀ : Chip) (S : Start R chip₀) where
           accepted = A;
           lent = record { store-length = C .store-length; marks-length = C .marks-length; work-length = l };
           stands = C .stands;
-          pins = start-pins R chip₀ S;
+          fits = start-fits R chip₀ S;
         } in
         let to-end : K .place + min budget (lastPlace W - K .place) ≡ lastPlace W = omega (arith, K .moment .in-move) in
         rw (C .place-is, run-answer R (mendAnswer W chip .chip) work (K .place) budget (taken-run R _ _ _ T), to-end, eq-eqb (lastPlace W) (lastPlace W) refl)
@@ -134,10 +146,14 @@ module _ (R : Request) (chip₀ : Chip) (S : Start R chip₀) where
     pub keeps : Keeps R chip₀ h
     keeps = record {
       stays = stays;
+      dropped = dropped;
       erases = few-erases;
       block-erases = block-erases;
-      final = final;
-      placed = λ work place e. (let T = run-taken R chip work place e in is-state M A originals chip place (T .stands) (K .store-length) (K .holds));
+      final = λ e k k-in kept.
+          ap (λ (to : ℕ). pageAt (W .p) chip (slotOf (W .m) to)) (sym (completed-kept (R .list) k kept)) ∙ final e k k-in
+          ∙ counts-kept X originals k kept ∙ start-page R chip₀ S k;
+      final-dropped = λ e k k-in gone. final e k k-in ∙ counts-dropped X originals k gone;
+      placed = λ work place e. (let T = run-taken R chip work place e in is-state X A originals chip place (T .stands) (K .store-length) (K .holds));
       recovers = recovers W (A .ranges) chip (K .store-length) (K .place) (K .moment) .number-is;
       goes-on = goes-on;
     }

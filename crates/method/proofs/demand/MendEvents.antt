@@ -5,7 +5,7 @@ use Rattle.flash.specs.Lists.{count}
 use Rattle.flash.specs.declared.sizes.Sizes.{Sizes}
 use Rattle.flash.specs.Chip.{Chip}
 use Rattle.flash.proofs.Searches.{count-append, count-take}
-use Rattle.method.specs.Move.{Move, AcceptedMove}
+use Rattle.method.specs.Move.{Plan, AcceptedMove}
 use Rattle.method.specs.Place.{Operation, erase, done, filling, filled}
 use Rattle.method.specs.Step.{isErase}
 use Rattle.method.specs.Cut.{CutInside}
@@ -23,12 +23,12 @@ use Rattle.method.proofs.recovery.CutsLeave.{mend-cut}
 use Rattle.method.proofs.demand.KeptByHistories.{Bounded, within, once-more, Kept}
 use Rattle.method.proofs.demand.CallsWithoutSteps.{EventKept, idle}
 
-module _ (M : Move) (A : AcceptedMove M) (originals : List ℕ) (h : History) (K : Kept M originals h) where
+module _ (X : Plan) (A : AcceptedMove (X .move)) (originals : List ℕ) (h : History) (K : Kept X originals h) where
   abbrev Z : Sizes
-  Z = M .sizes
+  Z = X .move .sizes
 
   abbrev call : Call
-  call = mend (M .sizes)
+  call = mend (X .move .sizes)
 
   abbrev answer : MendAnswer
   answer = mendAnswer Z (h .chip)
@@ -43,11 +43,11 @@ module _ (M : Move) (A : AcceptedMove M) (originals : List ℕ) (h : History) (K
 
   -- ---- nothing to erase
   keeps-all : reading Z (h .chip .marks) ≡ some (record { place = K .place; toErase = none })
-      → (cut : CutPoint) → CutObeys call cut (h .chip) → EventKept M originals h call cut
+      → (cut : CutPoint) → CutObeys call cut (h .chip) → EventKept X originals h call cut
   unfolding mendSteps chipAfter chipReturned returnsFinished mended
   keeps-all e =
       let found : Reading = record { place = K .place; toErase = none } in
-      idle M originals h K call (steps-are found e) refl
+      idle X originals h K call (steps-are found e) refl
       (ap (λ (x : MendAnswer). x .chip) (answers Z (A .ranges) (h .chip) (K .store-length) (K .place) (K .moment) found e)) refl
 
   -- ---- a block to erase
@@ -59,7 +59,7 @@ module _ (M : Move) (A : AcceptedMove M) (originals : List ℕ) (h : History) (K
     few : count isErase (h .begun) ≤ turn Z (K .place) + h .mends
     few = go (K .bounded)
       where
-        go : Bounded M h (K .place) → count isErase (h .begun) ≤ turn Z (K .place) + h .mends
+        go : Bounded X h (K .place) → count isErase (h .begun) ≤ turn Z (K .place) + h .mends
         go (within b) = b
         go (once-more u k b) = absurd (omega (arith, A .ranges .m-low))
 
@@ -71,8 +71,8 @@ module _ (M : Move) (A : AcceptedMove M) (originals : List ℕ) (h : History) (K
         omega (arith, few, count-append isErase (h .begun) (take i steps), count-take isErase i steps, ap (count isErase) one-step)
 
     -- a history of this mend: the chip still has its moment, and at most this erase was begun
-    kept-as : (g : History) → Moment Z (g .chip .marks) (K .place) → length (g .chip .store) ≡ length (h .chip .store) → Holding M originals (g .chip)
-        → count isErase (g .begun) ≤ turn Z (K .place) + suc (h .mends) → g .mends ≡ suc (h .mends) → (g .finished ≡ true → h .finished ≡ true) → Kept M originals g
+    kept-as : (g : History) → Moment Z (g .chip .marks) (K .place) → length (g .chip .store) ≡ length (h .chip .store) → Holding X originals (g .chip)
+        → count isErase (g .begun) ≤ turn Z (K .place) + suc (h .mends) → g .mends ≡ suc (h .mends) → (g .finished ≡ true → h .finished ≡ true) → Kept X originals g
     kept-as g m s H b n f = record {
       place = K .place;
       moment = m;
@@ -83,38 +83,38 @@ module _ (M : Move) (A : AcceptedMove M) (originals : List ℕ) (h : History) (K
       fresh = λ c y. absurd (omega arith);
     }
 
-    mended-holds : Holding M originals (answer .chip)
-    mended-holds = holding-fades M originals (h .chip) (answer .chip) (K .holds) (R .fades)
+    mended-holds : Holding X originals (answer .chip)
+    mended-holds = holding-fades X originals (h .chip) (answer .chip) (K .holds) (R .fades)
 
     mended-size : length (answer .chip .store) ≡ length (h .chip .store)
     mended-size = R .store-length ∙ sym (K .store-length)
 
-    during-kept : (i : ℕ) → i ≤ 1 → Kept M originals (during h call i)
+    during-kept : (i : ℕ) → i ≤ 1 → Kept X originals (during h call i)
     unfolding during isMend chipAfter
     during-kept zero l = kept-as (during h call 0) (K .moment) refl (K .holds) (begun-to 0) refl (λ f. f)
     during-kept (suc zero) l = kept-as (during h call 1) (R .moment) mended-size mended-holds (begun-to 1) refl (λ f. f)
     during-kept (suc (suc i)) l = absurd (omega arith)
 
-    between-kept : (i : ℕ) → i ≤ 1 → Kept M originals (cutShort h call i (chipAfter call (h .chip) i))
+    between-kept : (i : ℕ) → i ≤ 1 → Kept X originals (cutShort h call i (chipAfter call (h .chip) i))
     unfolding cutShort isMend chipAfter
     between-kept zero l = kept-as (cutShort h call 0 (h .chip)) (K .moment) refl (K .holds) (begun-to 0) refl (λ f. f)
     between-kept (suc zero) l = kept-as (cutShort h call 1 (answer .chip)) (R .moment) mended-size mended-holds (begun-to 1) refl (λ f. f)
     between-kept (suc (suc i)) l = absurd (omega arith)
 
-    returned-kept : Kept M originals (returned h call)
+    returned-kept : Kept X originals (returned h call)
     unfolding returned isMend chipReturned returnsFinished
     returned-kept = kept-as (returned h call) (R .moment) mended-size mended-holds (rw one-step (rw one-step at (begun-to 1))) refl (λ f. rw or-false at f)
 
-    inside-kept : (left : Chip) → CutInside Z (erase (filling Z (K .place))) (h .chip) left → Kept M originals (cutShort h call 1 left)
+    inside-kept : (left : Chip) → CutInside Z (erase (filling Z (K .place))) (h .chip) left → Kept X originals (cutShort h call 1 left)
     unfolding cutShort isMend
     inside-kept left C =
         kept-as (cutShort h call 1 left) (mend-cut Z (h .chip) left (K .place) (K .moment) z C) (C .store-length ∙ sym (K .store-length))
-        (holding-fades M originals (h .chip) left (K .holds) (cut-fades Z (erase (filling Z (K .place))) (h .chip) left C)) (begun-to 1) refl (λ f. f)
+        (holding-fades X originals (h .chip) left (K .holds) (cut-fades Z (erase (filling Z (K .place))) (h .chip) left C)) (begun-to 1) refl (λ f. f)
 
     steps-count : length (stepsOf call (h .chip)) ≡ 1
     steps-count = ap length one-step
 
-    erases-one : (cut : CutPoint) → CutObeys call cut (h .chip) → EventKept M originals h call cut
+    erases-one : (cut : CutPoint) → CutObeys call cut (h .chip) → EventKept X originals h call cut
     unfolding stepsFinished afterCall sizesGiven chipAfter
     erases-one uncut o = record { inside = λ i l. during-kept i (omega (arith, steps-count)); after = returned-kept }
     erases-one (between f) o = record { inside = λ i l. during-kept i (omega (arith, steps-count)); after = between-kept f (omega (arith, steps-count)) }
@@ -124,9 +124,9 @@ module _ (M : Move) (A : AcceptedMove M) (originals : List ℕ) (h : History) (K
     }
     erases-one (inside (suc f) left) o = absurd (omega (arith, steps-count, o .0))
 
-  pub mend-kept : (cut : CutPoint) → CutObeys call cut (h .chip) → EventKept M originals h call cut
+  pub mend-kept : (cut : CutPoint) → CutObeys call cut (h .chip) → EventKept X originals h call cut
   mend-kept = go (finds Z (A .ranges) (h .chip .marks) (K .place) (K .moment))
     where
-      go : Finds Z (h .chip .marks) (K .place) → (cut : CutPoint) → CutObeys call cut (h .chip) → EventKept M originals h call cut
+      go : Finds Z (h .chip .marks) (K .place) → (cut : CutPoint) → CutObeys call cut (h .chip) → EventKept X originals h call cut
       go (torn z S e) = erases-one z e
       go (full k F e) = keeps-all e

@@ -3,14 +3,15 @@ use Rattle.flash.proofs.Kit.{_≡_, refl, sym, _∙_, Bool, true, false, _&&_, 
 use Rattle.flash.specs.Geometry.{slotOf, originalCount}
 use Rattle.flash.specs.Chip.{Chip}
 use Rattle.flash.proofs.Ranges.{none-in}
+use Rattle.split.specs.Drops.{isDropped}
 use Rattle.split.specs.Pins.{isPinned, movesPinned}
 use Rattle.split.specs.Request.{Request}
 use Rattle.method.specs.Runs.{Start}
 use Rattle.method.specs.Events.{History}
 use Rattle.method.specs.Demand3.{Keeps, AtEach, Demand3}
 use Rattle.method.specs.PinsStay.{Pinned, PinsStay}
-use Rattle.method.proofs.basics.AcceptedCalls.{PinsFit}
-use Rattle.method.proofs.states.RunsAddUp.{start-accepted, start-pins}
+use Rattle.method.proofs.basics.AcceptedCalls.{ListFits}
+use Rattle.method.proofs.states.RunsAddUp.{start-fits}
 use Rattle.method.proofs.demand.EveryEvent.{demand-3}
 
 at-each : (P Q : History → Type 0) → ((h : History) → P h → Q h) → (hs : List History) → AtEach P hs → AtEach Q hs
@@ -19,16 +20,18 @@ at-each P Q f [] a = tt
 at-each P Q f (h ∷ hs) a = (f h (a .0), at-each P Q f hs (a .1))
 
 module _ (R : Request) (chip₀ : Chip) (S : Start R chip₀) where
-  entry-own : (k : ℕ) → k < originalCount (R .sizes) → isPinned (R .pins) k ≡ true → getD (R .list) k 0 ≡ k
+  entry-own : (k : ℕ) → k < originalCount (R .sizes) → isPinned (R .pins) k ≡ true → isDropped (R .list) k ≡ false → getD (R .list) k 0 ≡ k
   unfolding movesPinned
-  entry-own k k-in pinned =
-      let size = start-accepted R chip₀ S .list-length in
-      let test : ℕ → Bool = λ j. isPinned (R .pins) j && not (eqb (getD (R .list) j 0) j) in
-      let misses = none-in test 0 (length (R .list)) (start-pins R chip₀ S .stay) k (omega arith) (omega arith) in
-      eqb-true _ _ (not-false _ (rw pinned at misses))
+  entry-own k k-in pinned kept =
+      let F = start-fits R chip₀ S in
+      let test : ℕ → Bool = λ j. isPinned (R .pins) j && not (isDropped (R .list) j) && not (eqb (getD (R .list) j 0) j) in
+      let misses = none-in test 0 (length (R .list)) (F .stay) k (omega arith) (omega (arith, F .list-length)) in
+      eqb-true _ _ (not-false _ (rw (pinned, kept) at misses))
 
-  pinned-kept : (h : History) → Keeps R chip₀ h → (k : ℕ) → k < originalCount (R .sizes) → isPinned (R .pins) k ≡ true → Pinned R chip₀ h k
-  pinned-kept h K k k-in pinned = record { in-place = λ e. rw (entry-own k k-in pinned) at (K .final e k k-in); stays = K .stays k k-in }
+  pinned-kept : (h : History) → Keeps R chip₀ h → (k : ℕ) → k < originalCount (R .sizes) → isPinned (R .pins) k ≡ true → isDropped (R .list) k ≡ false
+      → Pinned R chip₀ h k
+  pinned-kept h K k k-in pinned kept =
+      record { in-place = λ e. rw (entry-own k k-in pinned kept) at (K .final e k k-in kept); stays = K .stays k k-in kept }
 
 pub pins-stay : PinsStay
 unfolding PinsStay

@@ -11,7 +11,7 @@ use Rattle.flash.proofs.Bools.{bool-cases, never-both, or-cases}
 use Rattle.flash.proofs.Bounds.{range-in}
 use Rattle.flash.proofs.Searches.{count-append}
 use Rattle.split.specs.Request.{Request}
-use Rattle.method.specs.Move.{Move, move, AcceptedMove}
+use Rattle.method.specs.Move.{Plan, move, plan, AcceptedMove}
 use Rattle.method.specs.Place.{Operation, write, erase, done, operations, operationAt, lastPlace, filled}
 use Rattle.method.specs.Step.{Running, steps, isErase, operationsFrom}
 use Rattle.method.specs.Cut.{CutInside}
@@ -43,10 +43,10 @@ run-number R chip work place budget e = ⊎-elim
     (bool-cases (eqb (refusal (runRows R chip work place)) 0))
 
 module _ (R : Request) (A : AcceptedMove (move R)) (originals : List ℕ) (full : length originals ≡ originalCount (R .sizes) * R .sizes .p)
-    (h : History) (K : Kept (move R) originals h) (work : List ℕ) (place budget : ℕ)
+    (h : History) (K : Kept (plan R) originals h) (work : List ℕ) (place budget : ℕ)
     (ok : refusal (runRows R (h .chip) work place) ≡ 0) (mended : h .unmended ≡ false) where
-  abbrev M : Move
-  M = move R
+  abbrev X : Plan
+  X = plan R
 
   abbrev Z : Sizes
   Z = R .sizes
@@ -73,11 +73,11 @@ module _ (R : Request) (A : AcceptedMove (move R)) (originals : List ℕ) (full 
   steps-are =
       ap (λ (a : RunAnswer). cond (eqb (a .number) 0) (operationsFrom Z place total) []) (run-answer R (h .chip) work place budget ok)
 
-  chip-after : (i : ℕ) → i ≤ total → chipAfter call (h .chip) i ≡ steps M i place start .chip
+  chip-after : (i : ℕ) → i ≤ total → chipAfter call (h .chip) i ≡ steps X i place start .chip
   unfolding chipAfter runCarriedOut stepsTaken
   chip-after i l =
       let all : min i (lastPlace Z - place) ≡ i = omega (arith, total-in) in
-      ap (λ (a : RunAnswer). a .chip) (run-answer R (h .chip) work place i ok) ∙ ap (λ (x : ℕ). steps M x place start .chip) all
+      ap (λ (a : RunAnswer). a .chip) (run-answer R (h .chip) work place i ok) ∙ ap (λ (x : ℕ). steps X x place start .chip) all
 
   some-steps : (i : ℕ) → i ≤ total → take i (operationsFrom Z place total) ≡ operationsFrom Z place i
   unfolding operationsFrom
@@ -98,7 +98,7 @@ module _ (R : Request) (A : AcceptedMove (move R)) (originals : List ℕ) (full 
       at : turn Z (K .place) ≡ turn Z place
       at = ap (turn Z) here ∙ turn-resumes Z place
 
-      go : Bounded M h (K .place) → count isErase (h .begun) ≤ turn Z place + h .mends
+      go : Bounded X h (K .place) → count isErase (h .begun) ≤ turn Z place + h .mends
       go (within b) = omega (arith, at)
       go (once-more u k b) = absurd (true≢false (sym u ∙ mended))
 
@@ -116,17 +116,17 @@ module _ (R : Request) (A : AcceptedMove (move R)) (originals : List ℕ) (full 
 
   module _ (i : ℕ) (l : i ≤ total) where
     abbrev now : Chip
-    now = steps M i place start .chip
+    now = steps X i place start .chip
 
-    S : RunTaken R now (steps M i place start .work) (place + i)
+    S : RunTaken R now (steps X i place start .work) (place + i)
     S = still-taken R (h .chip) work place i (omega (arith, total-in)) T
 
-    now-holds : Holding M originals now
+    now-holds : Holding X originals now
     now-holds =
-        steps-hold M A originals full i place start (omega (arith, total-in)) (record { lent = T .lent; stands = T .stands }) (K .holds)
+        steps-hold X A originals full i place start (omega (arith, total-in)) (record { lent = T .lent; stands = T .stands }) (K .holds)
 
     -- with no cut and no mend the steps from place 0 on were taken
-    now-fresh : Fresh M h → (g : History) → g .chip ≡ now → g .begun ≡ h .begun ++ operationsFrom Z place i → Fresh M g
+    now-fresh : Fresh X h → (g : History) → g .chip ≡ now → g .begun ≡ h .begun ++ operationsFrom Z place i → Fresh X g
     unfolding operationsFrom PlacesDiffer
     now-fresh F g c b =
         let same : F .taken ≡ place = places-differ Z (range-in Z (A .ranges)) (F .taken) place (F .stands .inside) (T .stands .inside) (sym (F .stands .marks) ∙ T .stands .marks) in
@@ -139,12 +139,12 @@ module _ (R : Request) (A : AcceptedMove (move R)) (originals : List ℕ) (full 
 
     -- a history of this run, with i steps finished
     kept-at : (g : History) → g .chip ≡ now → g .begun ≡ h .begun ++ operationsFrom Z place i → g .mends ≡ h .mends → (g .cuts ≡ 0 → h .cuts ≡ 0)
-        → (g .finished ≡ true → resumesAt Z (place + i) ≡ lastPlace Z) → Kept M originals g
+        → (g .finished ≡ true → resumesAt Z (place + i) ≡ lastPlace Z) → Kept X originals g
     kept-at g c b m cuts ended = record {
       place = resumesAt Z (place + i);
       moment = subst (λ (x : Chip). Moment Z (x .marks) (resumesAt Z (place + i))) (sym c) (stands-moment Z now (place + i) (S .stands));
       store-length = ap (λ (x : Chip). length (x .store)) c ∙ S .lent .store-length;
-      holds = subst (Holding M originals) (sym c) now-holds;
+      holds = subst (Holding X originals) (sym c) now-holds;
       bounded = within (rw (b, m, turn-resumes Z (place + i)) (erases-to i l));
       ended = ended;
       fresh = λ z y. now-fresh (K .fresh (cuts z) (sym m ∙ y)) g c b;
@@ -164,11 +164,11 @@ module _ (R : Request) (A : AcceptedMove (move R)) (originals : List ℕ) (full 
   steps-count : length (stepsOf call (h .chip)) ≡ total
   steps-count = ap length steps-are ∙ steps-length
 
-  during-kept : (i : ℕ) → i ≤ total → Kept M originals (during h call i)
+  during-kept : (i : ℕ) → i ≤ total → Kept X originals (during h call i)
   unfolding during isMend
   during-kept i l = kept-at i l (during h call i) (chip-after i l) (begun-to i l) refl (λ e. e) (still-over i l)
 
-  returned-kept : Kept M originals (returned h call)
+  returned-kept : Kept X originals (returned h call)
   unfolding returned isMend chipReturned returnsFinished runCarriedOut
   returned-kept =
       kept-at total (omega arith) (returned h call)
@@ -182,7 +182,7 @@ module _ (R : Request) (A : AcceptedMove (move R)) (originals : List ℕ) (full 
       reported : eqb (runAnswer R (h .chip) work place budget .finished) 1 ≡ true → place + total ≡ lastPlace Z
       reported e = ⊎-elim (eqb-true _ _) (λ q. absurd (never-both e (told q))) (bool-cases (eqb (place + total) (lastPlace Z)))
 
-  between-kept : (i : ℕ) → i ≤ total → Kept M originals (cutShort h call i (chipAfter call (h .chip) i))
+  between-kept : (i : ℕ) → i ≤ total → Kept X originals (cutShort h call i (chipAfter call (h .chip) i))
   unfolding cutShort isMend
   between-kept i l =
       kept-at i l (cutShort h call i (chipAfter call (h .chip) i)) (chip-after i l) (begun-to i l) refl (λ e. absurd (omega arith)) (still-over i l)
@@ -195,17 +195,17 @@ module _ (R : Request) (A : AcceptedMove (move R)) (originals : List ℕ) (full 
         ap (λ (o : List Operation). getD o i done) steps-are
         ∙ getD-take total (drop place (operations Z)) i done l ∙ getD-drop place (operations Z) i done
 
-    module _ (C : CutInside Z (operationAt Z (place + i)) (steps M i place start .chip) left) where
+    module _ (C : CutInside Z (operationAt Z (place + i)) (steps X i place start .chip) left) where
       early : place + i < lastPlace Z
       early = omega (arith, total-in)
 
-      left-holds : Holding M originals left
-      left-holds = holding-fades M originals (now i (omega arith)) left (now-holds i (omega arith)) (cut-fades Z (operationAt Z (place + i)) (now i (omega arith)) left C)
+      left-holds : Holding X originals left
+      left-holds = holding-fades X originals (now i (omega arith)) left (now-holds i (omega arith)) (cut-fades Z (operationAt Z (place + i)) (now i (omega arith)) left C)
 
       one-more : count isErase (h .begun ++ operationsFrom Z place (suc i)) ≤ turn Z (suc (place + i)) + h .mends
       one-more = (let s : place + suc i ≡ suc (place + i) = omega arith in rw s at (erases-to (suc i) l))
 
-      kept-left : (at : ℕ) → Moment Z (left .marks) at → Bounded M (cutShort h call (suc i) left) at → Kept M originals (cutShort h call (suc i) left)
+      kept-left : (at : ℕ) → Moment Z (left .marks) at → Bounded X (cutShort h call (suc i) left) at → Kept X originals (cutShort h call (suc i) left)
       unfolding cutShort
       kept-left at m b = record {
         place = at;
@@ -217,21 +217,21 @@ module _ (R : Request) (A : AcceptedMove (move R)) (originals : List ℕ) (full 
         fresh = λ z y. absurd (omega arith);
       }
 
-      inside-kept : Kept M originals (cutShort h call (suc i) left)
+      inside-kept : Kept X originals (cutShort h call (suc i) left)
       unfolding cutShort isMend
       inside-kept = go (after-cut Z (place + i) early (now i (omega arith)) left (S i (omega arith) .stands .marks) C)
         where
           begun : count isErase (h .begun ++ take (suc i) (stepsOf call (h .chip))) ≡ count isErase (h .begun ++ operationsFrom Z place (suc i))
           begun = ap (count isErase) (begun-to (suc i) l)
 
-          go : AfterCut Z (place + i) (left .marks) → Kept M originals (cutShort h call (suc i) left)
+          go : AfterCut Z (place + i) (left .marks) → Kept X originals (cutShort h call (suc i) left)
           go (in-write k m) = kept-left (resumesAt Z (place + i)) m (within (omega (arith, begun, one-more, turn-resumes Z (place + i), turn-writes Z (place + i) k)))
           go (in-erase k m) =
               kept-left (resumesAt Z (place + i)) m
               (once-more refl (ap (filled Z) (resumes-there Z (place + i) k) ∙ k) (omega (arith, begun, one-more, turn-resumes Z (place + i), turn-erases Z (place + i) k)))
           go (torn-erase m) = kept-left (suc (place + i)) m (within (omega (arith, begun, one-more)))
 
-  pub run-kept : (cut : CutPoint) → CutObeys call cut (h .chip) → EventKept M originals h call cut
+  pub run-kept : (cut : CutPoint) → CutObeys call cut (h .chip) → EventKept X originals h call cut
   unfolding stepsFinished afterCall sizesGiven
   run-kept uncut o = record { inside = λ i l. during-kept i (omega (arith, steps-count)); after = returned-kept }
   run-kept (between f) o = record { inside = λ i l. during-kept i (omega (arith, steps-count)); after = between-kept f (omega (arith, steps-count)) }

@@ -2,6 +2,7 @@
 use Rattle.flash.proofs.Kit.{refl, ℕ}
 use Rattle.method.specs.Cases.{listing, lineOf, figure, writtenAt, chipsFrom, sumOfBits, CasesHold}
 use Rattle.method.proofs.basics.Open.{all-open}
+use Rattle.method.proofs.examples.Largest.{largest-split, largest-run, largest-read}
 use Rattle.method.proofs.examples.ExampleCuts.{cuts-open, cut-by-slots}
 
 pub cases-hold : (byte : ℕ) → CasesHold byte
@@ -13,7 +14,7 @@ cases-hold byte = record {
   p4 = refl;
   p5 = (refl, (refl, refl, refl));
   p6 = ((refl, refl, refl), refl);
-  p7 = ((refl, refl, refl), refl, refl, refl, refl, refl, refl);
+  p7 = ((refl, refl, refl), refl, refl, largest-split, largest-run, refl, largest-read);
   p8 = (refl, refl);
   p9 = (refl, cut-by-slots _ _ _ _ refl refl refl, refl, refl);
   p9-on = (refl, refl);

@@ -4,7 +4,7 @@ use Rattle.flash.proofs.Kit.{add-zero, arith, take, drop, drop-cons, take-add, 
 use Rattle.flash.specs.Lists.{count}
 use Rattle.flash.specs.declared.sizes.Sizes.{Sizes}
 use Rattle.method.specs.declared.tally.Tally.{Tally}
-use Rattle.method.specs.Move.{Move}
+use Rattle.method.specs.Move.{Plan}
 use Rattle.method.specs.Place.{Operation, write, erase, done, operations, lastPlace, operationAt, filled}
 use Rattle.method.specs.Step.{Running, step, steps, isWrite, isErase, operationsFrom, nothingDone, tallied, tallyOf, added}
 use Rattle.method.specs.Claims.{StepsCounted}
@@ -76,30 +76,30 @@ tallied-last (write pass b q) work t = same-tally refl refl (omega arith) (omega
 tallied-last (erase b) work t = same-tally refl (omega arith) refl (omega arith)
 tallied-last done work t = same-tally (omega arith) (omega arith) (omega arith) (omega arith)
 
-module _ (M : Move) where
+module _ (X : Plan) where
   abbrev Z : Sizes
-  Z = M .sizes
+  Z = X .move .sizes
 
   -- some steps, and then more
   pub tally-split : (a b place : ℕ) (run : Running)
-      → tallyOf M (a + b) place run ≡ added (tallyOf M a place run) (tallyOf M b (place + a) (steps M a place run))
+      → tallyOf X (a + b) place run ≡ added (tallyOf X a place run) (tallyOf X b (place + a) (steps X a place run))
   unfolding tallyOf steps
   tally-split zero b place run =
-      ap₂ (λ (x y : ℕ). tallyOf M x y run) (zero-add b) (sym (add-zero place)) ∙ same-tally (omega arith) (omega arith) (omega arith) (omega arith)
+      ap₂ (λ (x y : ℕ). tallyOf X x y run) (zero-add b) (sym (add-zero place)) ∙ same-tally (omega arith) (omega arith) (omega arith) (omega arith)
   tally-split (suc a) b place run =
-      let next : Running = step M place run in
+      let next : Running = step X place run in
       let done = tallied (operationAt Z place) (next .work) in
-      ap (λ (x : ℕ). tallyOf M x place run) (suc-add a b) ∙ ap done (tally-split a b (suc place) next)
+      ap (λ (x : ℕ). tallyOf X x place run) (suc-add a b) ∙ ap done (tally-split a b (suc place) next)
       ∙ tallied-added (operationAt Z place) (next .work) _ _
-      ∙ ap (λ (x : ℕ). added (done (tallyOf M a (suc place) next)) (tallyOf M b x (steps M a (suc place) next))) (suc-add place a ∙ sym (add-suc place a))
+      ∙ ap (λ (x : ℕ). added (done (tallyOf X a (suc place) next)) (tallyOf X b x (steps X a (suc place) next))) (suc-add place a ∙ sym (add-suc place a))
 
   -- one step more
   pub tally-next : (i place : ℕ) (run : Running)
-      → tallyOf M (i + 1) place run ≡ tallied (operationAt Z (place + i)) (steps M (i + 1) place run .work) (tallyOf M i place run)
+      → tallyOf X (i + 1) place run ≡ tallied (operationAt Z (place + i)) (steps X (i + 1) place run .work) (tallyOf X i place run)
   unfolding tallyOf steps
   tally-next i place run =
-      tally-split i 1 place run ∙ tallied-last (operationAt Z (place + i)) (step M (place + i) (steps M i place run) .work) (tallyOf M i place run)
-      ∙ ap (λ (r : Running). tallied (operationAt Z (place + i)) (r .work) (tallyOf M i place run)) (sym (steps-add M i 1 place run))
+      tally-split i 1 place run ∙ tallied-last (operationAt Z (place + i)) (step X (place + i) (steps X i place run) .work) (tallyOf X i place run)
+      ∙ ap (λ (r : Running). tallied (operationAt Z (place + i)) (r .work) (tallyOf X i place run)) (sym (steps-add X i 1 place run))
 
   -- its writes and erases are those of the operations
   counted-first : (op : Operation) (work : List ℕ) (t : Tally) (ops : List Operation) → t .writes ≡ count isWrite ops → t .erases ≡ count isErase ops
@@ -110,12 +110,12 @@ module _ (M : Move) where
   counted-first done work t ops e f = (e, f)
 
   pub tally-counts : (taken place : ℕ) (run : Running) → place + taken ≤ lastPlace Z
-      → (tallyOf M taken place run .writes ≡ count isWrite (operationsFrom Z place taken))
-      × (tallyOf M taken place run .erases ≡ count isErase (operationsFrom Z place taken))
+      → (tallyOf X taken place run .writes ≡ count isWrite (operationsFrom Z place taken))
+      × (tallyOf X taken place run .erases ≡ count isErase (operationsFrom Z place taken))
   unfolding tallyOf count operationsFrom
   tally-counts zero place run h = (refl, refl)
   tally-counts (suc taken) place run h =
-      let next : Running = step M place run in
+      let next : Running = step X place run in
       let rest = tally-counts taken (suc place) next (omega arith) in
       rw (operationsFrom-suc Z place taken (omega arith)) (counted-first (operationAt Z place) (next .work) _ (operationsFrom Z (suc place) taken) (rest .0) (rest .1))
 
@@ -127,15 +127,15 @@ module _ (M : Move) where
       (page-cases Z place)
 
   -- as many steps are counted as are taken
-  pub steps-tallied : (taken place : ℕ) (run : Running) → place + taken ≤ lastPlace Z → tallyOf M taken place run .steps ≡ taken
+  pub steps-tallied : (taken place : ℕ) (run : Running) → place + taken ≤ lastPlace Z → tallyOf X taken place run .steps ≡ taken
   unfolding tallyOf
   steps-tallied zero place run h = refl
   steps-tallied (suc taken) place run h =
-      stepped-first place _ _ (omega arith) ∙ ap suc (steps-tallied taken (suc place) (step M place run) (omega arith))
+      stepped-first place _ _ (omega arith) ∙ ap suc (steps-tallied taken (suc place) (step X place run) (omega arith))
 
   -- no count of steps is above the steps taken
   pub few-tallied : (taken place : ℕ) (run : Running) → place + taken ≤ lastPlace Z
-      → (let t = tallyOf M taken place run in (t .steps ≤ taken) × (t .writes ≤ taken) × (t .erases ≤ taken))
+      → (let t = tallyOf X taken place run in (t .steps ≤ taken) × (t .writes ≤ taken) × (t .erases ≤ taken))
   few-tallied taken place run h =
       let counts = tally-counts taken place run h in
       let total = writes-and-erases Z taken place h in

@@ -8,7 +8,7 @@ use Rattle.flash.proofs.Bools.{bool-cases, both}
 use Rattle.flash.proofs.Comparisons.{lt-cases}
 use Rattle.flash.proofs.Bounds.{block-in-marks, block-in-store}
 use Rattle.flash.proofs.Chips.{erase-marks-length, erase-mark, erase-page-other, erase-mark-other}
-use Rattle.method.specs.Move.{Move}
+use Rattle.method.specs.Move.{Plan}
 use Rattle.method.specs.Place.{Operation, write, erase, done}
 use Rattle.method.specs.Cut.{isTornMark, touches, Kept, Torn, Touched, CutInside}
 use Rattle.method.proofs.basics.Indexes.{this-or-other, each-slot}
@@ -77,15 +77,15 @@ module _ (Z : Sizes) where
       ⊎-elim (λ (k : Kept Z before after t). k) (λ (T : Torn isTornMark Z after t). absurd (omega (arith, torn-mark after t T))) (F .slot t)
 
 -- what a page holds goes by its letter
-pub holding-fades : (M : Move) (originals : List ℕ) (before after : Chip) → Holding M originals before → Fades (M .sizes) before after → Holding M originals after
-holding-fades M originals before after H F = record {
+pub holding-fades : (X : Plan) (originals : List ℕ) (before after : Chip) → Holding X originals before → Fades (X .move .sizes) before after → Holding X originals after
+holding-fades X originals before after H F = record {
   plain = λ k h e. page 0 _ e (H .plain k h);
   code = λ set v a b c e. page 1 _ e (H .code set v a b c);
   final = λ k h e. page 2 _ e (H .final k h);
 }
   where
-    page : (i t : ℕ) {bytes : List ℕ} → markAt (after .marks) t ≡ letter (M .sizes) i
-        → (markAt (before .marks) t ≡ letter (M .sizes) i → pageAt (M .sizes .p) before t ≡ bytes) → pageAt (M .sizes .p) after t ≡ bytes
+    page : (i t : ℕ) {bytes : List ℕ} → markAt (after .marks) t ≡ letter (X .move .sizes) i
+        → (markAt (before .marks) t ≡ letter (X .move .sizes) i → pageAt (X .move .sizes .p) before t ≡ bytes) → pageAt (X .move .sizes .p) after t ≡ bytes
     page i t e f =
-        let K = letter-kept (M .sizes) before after F i t e in
+        let K = letter-kept (X .move .sizes) before after F i t e in
         K .page ∙ f (sym (K .mark) ∙ e)

@@ -8,9 +8,9 @@ use Rattle.flash.specs.Geometry.{isLetter, slot, blockOf, letter}
 use Rattle.flash.specs.Chip.{Chip, erased, pageAt, markAt, isFull, isUnfinished}
 use Rattle.flash.proofs.Bools.{bool-cases}
 use Rattle.split.specs.Split.{setOf}
-use Rattle.method.specs.Move.{Move}
+use Rattle.method.specs.Move.{Move, Plan}
 use Rattle.method.specs.Cycle.{dest, pred, top}
-use Rattle.method.specs.Read.{fullOf, codedSlot, plainSlot, finalSlot, goBack, goOn, readSlots, readPage}
+use Rattle.method.specs.Read.{fullOf, codedSlot, plainSlot, finalSlot, goBack, goOn, readSlots, Term, stored, filler, termPage, termAt, readTerms, readPage}
 use Rattle.method.specs.Mend.{fullFrom, forwardTorn, backwardTorn, forwardFull, backwardFull, lines, seen, reading}
 
 module _ (marks : List ℕ) where
@@ -98,6 +98,19 @@ module _ (marks : List ℕ) where
           on-seen set (M .sizes .n) v,
         )
 
-pub page-seen : (M : Move) (chip : Chip) (k : ℕ) → readPage M (record { store = chip .store; marks = seen (chip .marks) }) k ≡ readPage M chip k
-unfolding readPage pageAt
-page-seen M chip k = rw (slots-seen (chip .marks) M k)
+-- what is marked s is seen as it is
+term-seen : (X : Plan) (marks : List ℕ) (t : ℕ) → termAt X (seen marks) t ≡ termAt X marks t
+unfolding termAt letter
+term-seen X marks t = rw (mark-seen marks t (letter (X .move .sizes) 0) (omega arith))
+
+pub terms-seen : (X : Plan) (marks : List ℕ) (k : ℕ) → readTerms X (seen marks) k ≡ readTerms X marks k
+unfolding readTerms
+terms-seen X marks k = rw (slots-seen marks (X .move) k, fun-ext {f = termAt X (seen marks)} {g = termAt X marks} (term-seen X marks))
+
+pub page-seen : (X : Plan) (chip : Chip) (k : ℕ) → readPage X (record { store = chip .store; marks = seen (chip .marks) }) k ≡ readPage X chip k
+unfolding readPage termPage pageAt
+page-seen X chip k = rw (terms-seen X (chip .marks) k, fun-ext {f = termPage (X .move .sizes .p) (record { store = chip .store; marks = seen (chip .marks) })} {g = termPage (X .move .sizes .p) chip} same)
+  where
+    same : (x : Term) → termPage (X .move .sizes .p) (record { store = chip .store; marks = seen (chip .marks) }) x ≡ termPage (X .move .sizes .p) chip x
+    same (stored t) = refl
+    same filler = refl

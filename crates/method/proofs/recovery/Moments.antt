@@ -2,11 +2,11 @@
 -- a mend, which the marks tell (Recovery).
 use Rattle.flash.proofs.Kit.{_≡_, refl, sym, ap, _∙_, subst, _≢_, ⊎-elim, List, ℕ, _+_, _*_, _≤_, _<_, div-add-mod', mod-lt, arith, length}
 use Rattle.flash.proofs.Kit.{getD}
-use Rattle.flash.specs.Lists.{part}
 use Rattle.flash.specs.declared.sizes.Sizes.{Sizes}
 use Rattle.flash.specs.Geometry.{slot, slotOf, blockOf, pageOf, originalCount, marksLength, letter}
 use Rattle.flash.specs.Chip.{Chip, erased, pageAt, markAt}
-use Rattle.method.specs.Move.{Move, AcceptedMove}
+use Rattle.method.specs.Move.{Plan, AcceptedMove}
+use Rattle.method.specs.State.{countsAs}
 use Rattle.method.specs.Place.{lastPlace, passAt, filling, filled, above, heldAt, heldMark}
 use Rattle.method.proofs.basics.Indexes.{Order, less, same, more, order, this-or-other}
 use Rattle.method.proofs.basics.MoveShape.{Holding}
@@ -112,10 +112,12 @@ module _ (Z : Sizes) where
 pub stands-moment : (Z : Sizes) (chip : Chip) (place : ℕ) → StandsAt Z chip place → Moment Z (chip .marks) (resumesAt Z place)
 stands-moment Z chip place S = place-moment Z place (S .inside) (chip .marks) (stands-marks Z S)
 
--- once the move is over, every original lies where the list sends it
-pub finished-page : (M : Move) (A : AcceptedMove M) (originals : List ℕ) (chip : Chip) → Moment (M .sizes) (chip .marks) (lastPlace (M .sizes)) → Holding M originals chip
-    → (k : ℕ) → k < originalCount (M .sizes) → pageAt (M .sizes .p) chip (slotOf (M .sizes .m) (getD (M .list) k 0)) ≡ part (M .sizes .p) k originals
-finished-page M A originals chip N H k h =
+-- once the move is over, every original lies where the list sends it, as what it counts as
+pub finished-page : (X : Plan) (A : AcceptedMove (X .move)) (originals : List ℕ) (chip : Chip) → Moment (X .move .sizes) (chip .marks) (lastPlace (X .move .sizes))
+    → Holding X originals chip → (k : ℕ) → k < originalCount (X .move .sizes)
+    → pageAt (X .move .sizes .p) chip (slotOf (X .move .sizes .m) (getD (X .move .list) k 0)) ≡ countsAs X originals k
+finished-page X A originals chip N H k h =
+    let M = X .move in
     let to = getD (M .list) k 0 in
     let b = block-in M A to (entry-in M A k h) in
     H .final k h (finished-marks (M .sizes) (chip .marks) N (blockOf (M .sizes .m) to) (pageOf (M .sizes .m) to) (b .low) (b .high) (mod-lt to (A .ranges .m-low)))

@@ -1,5 +1,5 @@
 -- A store at rest stands at place 0, and its pages are the originals.
-use Rattle.flash.proofs.Kit.{_≡_, sym, ap, _∙_, subst, true, List, ℕ, zero, suc, _+_, _-_, _*_, _%_, _≤_, _<_, add-zero, mod-eq-of-lt, div-add-mod'}
+use Rattle.flash.proofs.Kit.{_≡_, sym, ap, _∙_, subst, Bool, true, List, ℕ, zero, suc, _+_, _-_, _*_, _%_, _≤_, _<_, add-zero, mod-eq-of-lt, div-add-mod'}
 use Rattle.flash.proofs.Kit.{mod-lt, add-mul, arith, length, getD, take, drop, length-drop, drop-drop}
 use Rattle.flash.specs.Lists.{range, all, part}
 use Rattle.flash.specs.declared.sizes.Sizes.{Sizes}
@@ -89,9 +89,9 @@ module _ (M : Move) (A : AcceptedMove M) (chip : Chip) (store-length : length (c
   unfolding originalsIn
   rest-page k = page-is P chip (slotOf m k) ∙ ap (λ (t : ℕ). part P t (chip .store)) (slot-of k) ∙ sym (part-after P m k (chip .store))
 
-  pub rest-holds : Holding M (originalsIn Z chip) chip
+  pub rest-holds : (isDropped : ℕ → Bool) → Holding (record { move = M; isDropped = isDropped }) (originalsIn Z chip) chip
   unfolding letter
-  rest-holds = record {
+  rest-holds isDropped = record {
     plain = λ k h e. rest-page k;
     code = λ set v q l u e. absurd (omega (arith, only-s (slot m (v - 1) set) (slot-in-marks Z (v - 1) set (omega arith) q) 1 e));
     final = λ k h e. absurd (omega (arith, only-s (slotOf m (getD (M .list) k 0)) (in-store k h) 2 e));

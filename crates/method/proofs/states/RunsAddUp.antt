@@ -8,16 +8,18 @@ use Rattle.flash.specs.Geometry.{slot, slotOf, originalCount, workLength}
 use Rattle.flash.specs.Chip.{Chip, pageAt, isBlank}
 use Rattle.flash.proofs.Bounds.{in-range, slot-in-marks}
 use Rattle.split.specs.Request.{Request}
+use Rattle.split.specs.Drops.{isDropped}
 use Rattle.split.specs.Answer.{splitAnswer}
-use Rattle.split.proofs.Answers.{accept, passed}
-use Rattle.method.specs.Move.{Move, move, AcceptedMove}
+use Rattle.split.proofs.Answers.{passed}
+use Rattle.split.proofs.DropLaws.{completed-length}
+use Rattle.method.specs.Move.{Plan, move, plan, AcceptedMove}
 use Rattle.method.specs.Place.{Pass, write, operationAt, heldMark, lastPlace}
-use Rattle.method.specs.State.{originalsIn, stateOf}
+use Rattle.method.specs.State.{originalsIn, countsAs, stateOf}
 use Rattle.method.specs.Step.{Running, steps}
 use Rattle.method.specs.Answers.{RunAnswer, runRows, stepsTaken, runCarriedOut, runAnswer}
 use Rattle.method.specs.Runs.{joined, runsOfOne, RunsAddUp, Start, StatesReached}
-use Rattle.method.proofs.basics.MoveShape.{Holding}
-use Rattle.method.proofs.basics.AcceptedCalls.{StandsAt, PinsFit, RunTaken, run-taken, taken-run}
+use Rattle.method.proofs.basics.MoveShape.{Holding, counts-kept, counts-dropped}
+use Rattle.method.proofs.basics.AcceptedCalls.{StandsAt, ListFits, fits-one-to-one, RunTaken, run-taken, taken-run}
 use Rattle.method.proofs.states.StepsAddUp.{steps-add, taken-add}
 use Rattle.method.proofs.places.Tallies.{tally-split}
 use Rattle.method.proofs.places.StepsAtPlaces.{filling-in}
@@ -31,7 +33,7 @@ use Rattle.method.proofs.states.StatesOfPlaces.{is-state}
 use Rattle.method.proofs.states.AtRest.{rest-stands, rest-holds, rest-page, rest-length}
 
 pub run-answer : (R : Request) (chip : Chip) (work : List ℕ) (place budget : ℕ) → refusal (runRows R chip work place) ≡ 0
-    → runAnswer R chip work place budget ≡ runCarriedOut (move R) chip work place (stepsTaken (R .sizes) place budget)
+    → runAnswer R chip work place budget ≡ runCarriedOut (plan R) chip work place (stepsTaken (R .sizes) place budget)
 unfolding runAnswer
 run-answer R chip work place budget e = rw e
 
@@ -41,20 +43,20 @@ taken-in Z place budget h = omega arith
 
 -- what steps of an accepted run leave is accepted again
 pub still-taken : (R : Request) (chip : Chip) (work : List ℕ) (place taken : ℕ) → place + taken ≤ lastPlace (R .sizes) → RunTaken R chip work place
-    → (let after = steps (move R) taken place (record { chip = chip; work = work }) in RunTaken R (after .chip) (after .work) (place + taken))
+    → (let after = steps (plan R) taken place (record { chip = chip; work = work }) in RunTaken R (after .chip) (after .work) (place + taken))
 still-taken R chip work place taken h T =
-    let S = steps-stand (move R) (T .accepted) taken place (record { chip = chip; work = work }) h (record { lent = T .lent; stands = T .stands }) in
-    record { accepted = T .accepted; lent = S .lent; stands = S .stands; pins = T .pins }
+    let S = steps-stand (plan R) (T .accepted) taken place (record { chip = chip; work = work }) h (record { lent = T .lent; stands = T .stands }) in
+    record { accepted = T .accepted; lent = S .lent; stands = S .stands; fits = T .fits }
 
-answers-join : (M : Move) (chip : Chip) (work : List ℕ) (place a b : ℕ)
-    → runCarriedOut M chip work place (a + b) ≡ joined (runCarriedOut M chip work place a) (runCarriedOut M (runCarriedOut M chip work place a .chip) (runCarriedOut M chip work place a .work) (place + a) b)
+answers-join : (X : Plan) (chip : Chip) (work : List ℕ) (place a b : ℕ)
+    → runCarriedOut X chip work place (a + b) ≡ joined (runCarriedOut X chip work place a) (runCarriedOut X (runCarriedOut X chip work place a .chip) (runCarriedOut X chip work place a .work) (place + a) b)
 unfolding runCarriedOut joined
-answers-join M chip work place a b =
+answers-join X chip work place a b =
     let start : Running = record { chip = chip; work = work } in
-    let c = tally-split M a b place start in
+    let c = tally-split X a b place start in
     let p : place + (a + b) ≡ place + a + b = omega arith in
-    let f = ap {B = ℕ} (λ (x : ℕ). cond (eqb x (lastPlace (M .sizes))) 1 0) p in
-    let s = steps-add M a b place start in
+    let f = ap {B = ℕ} (λ (x : ℕ). cond (eqb x (lastPlace (X .move .sizes))) 1 0) p in
+    let s = steps-add X a b place start in
     λ i. record {
       number = 0;
       place = p i;
@@ -74,7 +76,7 @@ module _ (R : Request) (chip : Chip) (work : List ℕ) (place : ℕ) (ok : refus
   abbrev one : ℕ → RunAnswer
   one budget = runAnswer R chip work place budget
 
-  one-is : (budget : ℕ) → one budget ≡ runCarriedOut (move R) chip work place (stepsTaken Z place budget)
+  one-is : (budget : ℕ) → one budget ≡ runCarriedOut (plan R) chip work place (stepsTaken Z place budget)
   one-is budget = run-answer R chip work place budget ok
 
   goes-on : (budget : ℕ) → refusal (runRows R (one budget .chip) (one budget .work) (one budget .place)) ≡ 0
@@ -89,7 +91,7 @@ module _ (R : Request) (chip : Chip) (work : List ℕ) (place : ℕ) (ok : refus
       let ta = stepsTaken Z place a in
       let tb = stepsTaken Z (place + ta) b in
       let second = run-answer R (one a .chip) (one a .work) (one a .place) b (goes-on a) in
-      one-is (a + b) ∙ ap (runCarriedOut (move R) chip work place) (taken-add Z place a b) ∙ answers-join (move R) chip work place ta tb
+      one-is (a + b) ∙ ap (runCarriedOut (plan R) chip work place) (taken-add Z place a b) ∙ answers-join (plan R) chip work place ta tb
       ∙ ap₂ joined (sym (one-is a)) (rw (one-is a) (sym (rw (one-is a) at second)))
 
   only-blank : (finished : ℕ) (pass : Pass) (block page : ℕ) → operationAt Z (place + finished) ≡ write pass block page
@@ -127,27 +129,29 @@ module _ (R : Request) (chip : Chip) (S : Start R chip) where
   abbrev W : Sizes
   W = R .sizes
 
+  pub start-fits : ListFits R
+  unfolding splitAnswer
+  start-fits =
+      let p = passed R (S .list-accepted) in
+      record { list-length = p .listed; good = p .good; pins-length = p .pinned; stay = p .stays }
+
   pub start-accepted : AcceptedMove (move R)
   unfolding splitAnswer
   start-accepted =
       let p = passed R (S .list-accepted) in
       record {
         ranges = in-range W (p .in-range);
-        list-length = p .listed;
+        list-length = completed-length (R .list) ∙ p .listed;
         sets-length = p .sized;
-        one-to-one = accept (originalCount W) (R .list) (p .good);
+        one-to-one = fits-one-to-one R start-fits;
         split = S .split-correct;
       }
-
-  pub start-pins : PinsFit R
-  unfolding splitAnswer
-  start-pins = (let p = passed R (S .list-accepted) in record { pins-length = p .pinned; stay = p .stays })
 
   pub start-stands : StandsAt W chip 0
   start-stands = rest-stands (move R) start-accepted chip (S .store-length) (S .marks-length) (S .at-rest)
 
-  pub start-holds : Holding (move R) (originalsIn W chip) chip
-  start-holds = rest-holds (move R) start-accepted chip (S .store-length) (S .marks-length) (S .at-rest)
+  pub start-holds : Holding (plan R) (originalsIn W chip) chip
+  start-holds = rest-holds (move R) start-accepted chip (S .store-length) (S .marks-length) (S .at-rest) (isDropped (R .list))
 
   pub start-full : length (originalsIn W chip) ≡ originalCount W * W .p
   start-full = rest-length (move R) start-accepted chip (S .store-length) (S .marks-length) (S .at-rest)
@@ -161,51 +165,53 @@ module _ (R : Request) (chip : Chip) (S : Start R chip) where
       accepted = start-accepted;
       lent = record { store-length = S .store-length; marks-length = S .marks-length; work-length = work-length };
       stands = start-stands;
-      pins = start-pins;
+      fits = start-fits;
     }
 
-    started : (t : ℕ) → t ≤ lastPlace W → runAnswer R chip work 0 t ≡ runCarriedOut (move R) chip work 0 t
+    started : (t : ℕ) → t ≤ lastPlace W → runAnswer R chip work 0 t ≡ runCarriedOut (plan R) chip work 0 t
     unfolding stepsTaken
     started t h =
         let all : stepsTaken W 0 t ≡ t = omega arith in
-        run-answer R chip work 0 t (taken-run R chip work 0 start-taken) ∙ ap (runCarriedOut (move R) chip work 0) all
+        run-answer R chip work 0 t (taken-run R chip work 0 start-taken) ∙ ap (runCarriedOut (plan R) chip work 0) all
 
     module _ (t : ℕ) (h : t ≤ lastPlace W) where
       abbrev after : Running
-      after = steps (move R) t 0 (record { chip = chip; work = work })
+      after = steps (plan R) t 0 (record { chip = chip; work = work })
 
       after-taken : RunTaken R (after .chip) (after .work) (0 + t)
       after-taken = still-taken R chip work 0 t (omega arith) start-taken
 
-      after-holds : Holding (move R) (originalsIn W chip) (after .chip)
+      after-holds : Holding (plan R) (originalsIn W chip) (after .chip)
       after-holds =
-          steps-hold (move R) start-accepted (originalsIn W chip) start-full t 0 (record { chip = chip; work = work }) (omega arith)
+          steps-hold (plan R) start-accepted (originalsIn W chip) start-full t 0 (record { chip = chip; work = work }) (omega arith)
           (record { lent = start-taken .lent; stands = start-stands }) start-holds
 
-      pub after-steps : (runAnswer R chip work 0 t .number ≡ 0) × (runAnswer R chip work 0 t .place ≡ t) × (runAnswer R chip work 0 t .chip ≡ stateOf (move R) (originalsIn W chip) t)
+      pub after-steps : (runAnswer R chip work 0 t .number ≡ 0) × (runAnswer R chip work 0 t .place ≡ t) × (runAnswer R chip work 0 t .chip ≡ stateOf (plan R) (originalsIn W chip) t)
       unfolding runCarriedOut
       after-steps =
           let zero-first : 0 + t ≡ t = zero-add t in (
             rw (started t h),
             rw (started t h) zero-first,
             rw (started t h)
-                (is-state (move R) start-accepted (originalsIn W chip) (after .chip) (0 + t) (after-taken .stands) (after-taken .lent .store-length) after-holds
-                ∙ ap (stateOf (move R) (originalsIn W chip)) zero-first),
+                (is-state (plan R) start-accepted (originalsIn W chip) (after .chip) (0 + t) (after-taken .stands) (after-taken .lent .store-length) after-holds
+                ∙ ap (stateOf (plan R) (originalsIn W chip)) zero-first),
           )
 
     at-end : (k : ℕ) → k < originalCount W
-        → pageAt (W .p) (runAnswer R chip work 0 (lastPlace W) .chip) (slotOf (W .m) (getD (move R .list) k 0)) ≡ pageAt (W .p) chip (slotOf (W .m) k)
+        → pageAt (W .p) (runAnswer R chip work 0 (lastPlace W) .chip) (slotOf (W .m) (getD (move R .list) k 0)) ≡ countsAs (plan R) (originalsIn W chip) k
     unfolding runCarriedOut
     at-end k h =
         let last = lastPlace W in
         let end : Chip = after last (omega arith) .chip in
         let N = stands-moment W end (0 + last) (after-taken last (omega arith) .stands) in
         rw (started last (omega arith))
-        (finished-page (move R) start-accepted (originalsIn W chip) end
-        (subst (Moment W (end .marks)) (ap (resumesAt W) (zero-add last) ∙ resumes-last W) N) (after-holds last (omega arith)) k h ∙ start-page k)
+        (finished-page (plan R) start-accepted (originalsIn W chip) end
+        (subst (Moment W (end .marks)) (ap (resumesAt W) (zero-add last) ∙ resumes-last W) N) (after-holds last (omega arith)) k h)
 
 pub states-reached : StatesReached
 states-reached = record {
   after-steps = λ R chip S work l t h. after-steps R chip S work l t h;
-  at-end = λ R chip S work l k h. at-end R chip S work l k h;
+  at-end = λ R chip S work l k h.
+      let page = at-end R chip S work l k h in
+      (λ kept. page ∙ counts-kept (plan R) _ k kept ∙ start-page R chip S k, λ gone. page ∙ counts-dropped (plan R) _ k gone);
 }

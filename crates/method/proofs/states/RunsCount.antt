@@ -13,7 +13,7 @@ use Rattle.flash.proofs.Searches.{count-take, count-drop}
 use Rattle.flash.proofs.Written.{written-most}
 use Rattle.split.specs.Request.{Request}
 use Rattle.method.specs.declared.tally.Tally.{Tally}
-use Rattle.method.specs.Move.{Move, move, AcceptedMove}
+use Rattle.method.specs.Move.{Plan, plan, AcceptedMove}
 use Rattle.method.specs.Place.{write, markOf, operations, operationAt, lastPlace, passAt, filling, filled}
 use Rattle.method.specs.State.{originalsIn, stateOf}
 use Rattle.method.specs.Step.{Running, perform, step, steps, isWrite, operationsFrom, tallied, tallyOf}
@@ -29,24 +29,24 @@ use Rattle.method.proofs.states.StepsLeadOn.{Stood, page-length, steps-
 use Rattle.method.proofs.states.RunsAddUp.{run-answer, taken-in, start-taken, after-steps}
 
 -- ---- the bytes of a run, from a place where it stands
-module _ (M : Move) (A : AcceptedMove M) (run : Running) (place : ℕ) (S : Stood M A run place) where
-  open Sizes (M .sizes) using (m, p as P)
+module _ (X : Plan) (A : AcceptedMove (X .move)) (run : Running) (place : ℕ) (S : Stood X A run place) where
+  open Sizes (X .move .sizes) using (m, p as P)
 
   abbrev Z : Sizes
-  Z = M .sizes
+  Z = X .move .sizes
 
   abbrev after : (i : ℕ) → Running
-  after i = steps M i place run
+  after i = steps X i place run
 
   abbrev tally : (i : ℕ) → Tally
-  tally i = tallyOf M i place run
+  tally i = tallyOf X i place run
 
-  next-is : (i : ℕ) → after (i + 1) ≡ perform M (operationAt Z (place + i)) (after i)
+  next-is : (i : ℕ) → after (i + 1) ≡ perform X (operationAt Z (place + i)) (after i)
   unfolding steps step
-  next-is i = steps-add M i 1 place run
+  next-is i = steps-add X i 1 place run
 
-  stood : (i : ℕ) → place + i ≤ lastPlace Z → Stood M A (after i) (place + i)
-  stood i h = steps-stand M A i place run h S
+  stood : (i : ℕ) → place + i ≤ lastPlace Z → Stood X A (after i) (place + i)
+  stood i h = steps-stand X A i place run h S
 
   -- a page that was written lies in its slot as it does in the work page
   pub page-kept : (i : ℕ) → place + i < lastPlace Z → filled Z (place + i) < m
@@ -58,7 +58,7 @@ module _ (M : Move) (A : AcceptedMove M) (run : Running) (place : ℕ) (S : Stoo
       let at : ℕ = place + i in
       let t : ℕ = slot m (filling Z at) (filled Z at) in
       let here = stood i (omega arith) in
-      let whole = page-length M A at on room (after i .chip) (after i .work) (here .lent) (here .stands) in
+      let whole = page-length X A at on room (after i .chip) (after i .work) (here .lent) (here .stands) in
       let t-in = slot-in-marks Z (filling Z at) (filled Z at) (W .block-in) (W .page-in) in
       let fits : t * P + P ≤ length (after i .chip .store) = rw (here .lent .store-length) (slot-in-store Z t t-in) in
       rw (next-is i, op) (sym (write-page P t _ (markOf Z (passAt Z at)) (after i .chip) fits whole))
@@ -77,8 +77,8 @@ module _ (M : Move) (A : AcceptedMove M) (run : Running) (place : ℕ) (S : Stoo
           let page = after (i + 1) .work in
           let few : writtenBytes page ≤ P = omega (arith, written-most page, stood (i + 1) (omega arith) .lent .work-length) in
           let more : (tally i .writes + 1) * P ≡ tally i .writes * P + P = rw (add-one (tally i .writes)) (suc-mul (tally i .writes) P) in
-          rw (tally-next M i place run, op) (ap (λ (x : List ℕ). tally i .bytes + writtenBytes x) (page-kept i on room op W), omega arith)
-      go (by-erase full op E) = rw (tally-next M i place run, op) (omega arith, omega arith)
+          rw (tally-next X i place run, op) (ap (λ (x : List ℕ). tally i .bytes + writtenBytes x) (page-kept i on room op W), omega arith)
+      go (by-erase full op E) = rw (tally-next X i place run, op) (omega arith, omega arith)
 
   pub few-bytes : (i : ℕ) → place + i ≤ lastPlace Z → tally i .bytes ≤ tally i .writes * P
   unfolding tallyOf
@@ -120,15 +120,15 @@ module _ (R : Request) (chip : Chip) (work : List ℕ) (place budget : ℕ) (ok 
   in-move : place + taken ≤ lastPlace W
   in-move = taken-in W place budget (T .stands .inside)
 
-  stands : Stood (move R) (T .accepted) start place
+  stands : Stood (plan R) (T .accepted) start place
   stands = record { lent = T .lent; stands = T .stands }
 
   -- a run of i steps, where there are as many
-  chip-at : (i : ℕ) → i ≤ taken → runAnswer R chip work place i .chip ≡ steps (move R) i place start .chip
+  chip-at : (i : ℕ) → i ≤ taken → runAnswer R chip work place i .chip ≡ steps (plan R) i place start .chip
   unfolding runCarriedOut stepsTaken
   chip-at i h =
       let all : stepsTaken W place i ≡ i = omega (arith, in-move) in
-      ap (λ (a : RunAnswer). a .chip) (run-answer R chip work place i ok) ∙ ap (λ (x : ℕ). steps (move R) x place start .chip) all
+      ap (λ (a : RunAnswer). a .chip) (run-answer R chip work place i ok) ∙ ap (λ (x : ℕ). steps (plan R) x place start .chip) all
 
   few-writes : count isWrite (operationsFrom W place taken) ≤ 2 * W .n * W .m
   unfolding operationsFrom
@@ -138,21 +138,21 @@ module _ (R : Request) (chip : Chip) (work : List ℕ) (place budget : ℕ) (ok 
   abbrev tally-told : Tally
   tally-told = runAnswer R chip work place budget .tally
 
-  told : tally-told ≡ tallyOf (move R) taken place start
+  told : tally-told ≡ tallyOf (plan R) taken place start
   unfolding runCarriedOut
   told = ap (λ (a : RunAnswer). a .tally) (run-answer R chip work place budget ok)
 
   bytes-told : tally-told .bytes ≡ bytesOfSteps W place taken (λ i. runAnswer R chip work place i .chip)
   unfolding bytesOfSteps
   bytes-told =
-      ap (λ (t : Tally). t .bytes) told ∙ bytes-are (move R) (T .accepted) start place stands taken in-move
+      ap (λ (t : Tally). t .bytes) told ∙ bytes-are (plan R) (T .accepted) start place stands taken in-move
       ∙ total-same _ _ 0 taken (λ i l h. ap (bytesOfStep W (operationAt W (place + i))) (sym (chip-at (i + 1) (omega arith))))
 
   pub run-counts : Counted R chip work place budget
   run-counts =
-      let counts = tally-counts (move R) taken place start in-move in
-      let steps-are = steps-tallied (move R) taken place start in-move in
-      let few = few-bytes (move R) (T .accepted) start place stands taken in-move in
+      let counts = tally-counts (plan R) taken place start in-move in
+      let steps-are = steps-tallied (plan R) taken place start in-move in
+      let few = few-bytes (plan R) (T .accepted) start place stands taken in-move in
       let most = most-bytes W (T .accepted .ranges) _ _ few (rw (counts .0) few-writes) in
       record {
         steps = rw told steps-are;
@@ -166,7 +166,7 @@ module _ (R : Request) (chip : Chip) (work : List ℕ) (place budget : ℕ) (ok 
 
 -- ---- from rest
 from-rest : (R : Request) (chip : Chip) → Start R chip → (work : List ℕ) → length work ≡ workLength (R .sizes) → (t : ℕ) → t ≤ lastPlace (R .sizes)
-    → runAnswer R chip work 0 t .tally .bytes ≡ bytesOfSteps (R .sizes) 0 t (stateOf (move R) (originalsIn (R .sizes) chip))
+    → runAnswer R chip work 0 t .tally .bytes ≡ bytesOfSteps (R .sizes) 0 t (stateOf (plan R) (originalsIn (R .sizes) chip))
 unfolding bytesOfSteps stepsTaken
 from-rest R chip S work l t h =
     let all : stepsTaken (R .sizes) 0 t ≡ t = omega arith in

@@ -9,10 +9,10 @@ use Rattle.flash.proofs.Bounds.{slot-in-marks, slot-in-store}
 use Rattle.flash.proofs.Parts.{length-part, parts-ext}
 use Rattle.flash.proofs.Sums.{sum-one}
 use Rattle.flash.proofs.Chips.{page-is, blank-page}
-use Rattle.method.specs.Move.{Move, AcceptedMove}
+use Rattle.method.specs.Move.{Plan, AcceptedMove}
 use Rattle.method.specs.Cycle.{sentTo}
 use Rattle.method.specs.Place.{Held, blank, plain, code, final, heldAt, heldMark}
-use Rattle.method.specs.State.{heldOriginals, heldPage, stateOf}
+use Rattle.method.specs.State.{heldOriginals, countsAs, heldPage, stateOf}
 use Rattle.method.proofs.basics.MoveShape.{Holding}
 use Rattle.method.proofs.basics.AcceptedCalls.{StandsAt}
 use Rattle.method.proofs.basics.Indexes.{each-slot, slot-div, slot-mod}
@@ -52,7 +52,9 @@ slot-number m b q l h =
     let block : (b - 1) + 1 ≡ b = omega arith in
     ap₂ (slot m) (ap (λ (x : ℕ). x + 1) (slot-div m (b - 1) q h) ∙ block) (slot-mod m (b - 1) q h)
 
-module _ (M : Move) (A : AcceptedMove M) (originals : List ℕ) (chip : Chip) (place : ℕ) (S : StandsAt (M .sizes) chip place) (size : length (chip .store) ≡ storeLength (M .sizes)) (H : Holding M originals chip) where
+module _ (X : Plan) (A : AcceptedMove (X .move)) (originals : List ℕ) (chip : Chip) (place : ℕ) (S : StandsAt (X .move .sizes) chip place)
+    (size : length (chip .store) ≡ storeLength (X .move .sizes)) (H : Holding X originals chip) where
+  open Plan X using (move as M)
   open Sizes (M .sizes) using (n, m, p as P)
 
   abbrev Z : Sizes
@@ -68,58 +70,58 @@ module _ (M : Move) (A : AcceptedMove M) (originals : List ℕ) (chip : Chip) (p
     marked : (h : Held) → heldAt Z place b q ≡ h → markAt (chip .marks) (slot m b q) ≡ heldMark Z h
     marked h e = stands-marks Z S .mark-is b q b-in q-in ∙ ap (heldMark Z) e
 
-    is-blank : heldAt Z place b q ≡ blank → page ≡ heldPage M originals blank b q
+    is-blank : heldAt Z place b q ≡ blank → page ≡ heldPage X originals blank b q
     unfolding heldMark heldPage
     is-blank e =
         let inside = slot-in-marks Z b q b-in q-in in
         blank-page P chip (slot m b q) (rw size (slot-in-store Z (slot m b q) inside)) (S .blank (slot m b q) inside (marked blank e))
 
-    is-plain : 1 ≤ b → heldAt Z place b q ≡ plain → page ≡ heldPage M originals plain b q
+    is-plain : 1 ≤ b → heldAt Z place b q ≡ plain → page ≡ heldPage X originals plain b q
     unfolding heldMark heldPage heldOriginals
     is-plain l e =
         let at = slot-number m b q l q-in in
         ap (pageAt P chip) (sym at) ∙ H .plain (numberAt m b q) (number-in M A b q l b-in q-in) (ap (markAt (chip .marks)) at ∙ marked plain e)
         ∙ sym (sum-one original (numberAt m b q))
 
-    is-code : b < n → heldAt Z place b q ≡ code → page ≡ heldPage M originals code b q
+    is-code : b < n → heldAt Z place b q ≡ code → page ≡ heldPage X originals code b q
     unfolding heldMark heldPage heldOriginals
     is-code l e =
         let down : b + 1 - 1 ≡ b = omega arith in
         ap (λ (x : ℕ). pageAt P chip (slot m x q)) (sym down)
         ∙ H .code q (b + 1) q-in (omega arith) (omega arith) (ap (λ (x : ℕ). markAt (chip .marks) (slot m x q)) down ∙ marked code e)
 
-    is-final : 1 ≤ b → heldAt Z place b q ≡ final → page ≡ heldPage M originals final b q
+    is-final : 1 ≤ b → heldAt Z place b q ≡ final → page ≡ heldPage X originals final b q
     unfolding heldMark heldPage heldOriginals
     is-final l e =
         let number = numberAt m b q in
         let inside = number-in M A b q l b-in q-in in
         let at : slotOf m (getD (M .list) (sentTo M number) 0) ≡ slot m b q = ap (slotOf m) (entry-sent M A number inside) ∙ slot-number m b q l q-in in
         ap (pageAt P chip) (sym at) ∙ H .final (sentTo M number) (sent-in M A number inside) (ap (markAt (chip .marks)) at ∙ marked final e)
-        ∙ sym (sum-one original (sentTo M number))
+        ∙ sym (sum-one (countsAs X originals) (sentTo M number))
 
-    held-as : (h : Held) → heldAt Z place b q ≡ h → page ≡ heldPage M originals h b q → page ≡ heldPage M originals (heldAt Z place b q) b q
-    held-as h e p = p ∙ ap (λ (x : Held). heldPage M originals x b q) (sym e)
+    held-as : (h : Held) → heldAt Z place b q ≡ h → page ≡ heldPage X originals h b q → page ≡ heldPage X originals (heldAt Z place b q) b q
+    held-as h e p = p ∙ ap (λ (x : Held). heldPage X originals x b q) (sym e)
 
-    pub page-held : page ≡ heldPage M originals (heldAt Z place b q) b q
+    pub page-held : page ≡ heldPage X originals (heldAt Z place b q) b q
     page-held = go (held-cases Z place b q (S .inside) b-in)
       where
-        go : HeldCases Z place b q → page ≡ heldPage M originals (heldAt Z place b q) b q
+        go : HeldCases Z place b q → page ≡ heldPage X originals (heldAt Z place b q) b q
         go (coded l e) = held-as code e (is-code l e)
         go (ended l e) = held-as final e (is-final l e)
         go (resting f l e) = held-as plain e (is-plain l e)
         go (empty f k e) = held-as blank e (is-blank e)
 
   abbrev stored : ℕ → List ℕ
-  stored t = heldPage M originals (heldAt Z place (t / m) (t % m)) (t / m) (t % m)
+  stored t = heldPage X originals (heldAt Z place (t / m) (t % m)) (t / m) (t % m)
 
   page-stored : (t : ℕ) → t < slotCount Z → pageAt P chip t ≡ stored t
   page-stored = each-slot m (n + 1) (λ t. pageAt P chip t ≡ stored t) (λ b q h k.
-      page-held b q (omega arith) k ∙ ap₂ (λ (x y : ℕ). heldPage M originals (heldAt Z place x y) x y) (sym (slot-div m b q k)) (sym (slot-mod m b q k)))
+      page-held b q (omega arith) k ∙ ap₂ (λ (x y : ℕ). heldPage X originals (heldAt Z place x y) x y) (sym (slot-div m b q k)) (sym (slot-mod m b q k)))
 
   stored-length : (t : ℕ) → t < slotCount Z → length (stored t) ≡ P
   stored-length t h = ap length (sym (page-stored t h) ∙ page-is P chip t) ∙ length-part P t (chip .store) (rw size (slot-in-store Z t h))
 
-  pub is-state : chip ≡ stateOf M originals place
+  pub is-state : chip ≡ stateOf X originals place
   unfolding stateOf
   is-state =
       let each : (t : ℕ) → 0 ≤ t → t < 0 + slotCount Z → length (stored t) ≡ P = λ t a b. stored-length t (omega arith) in

@@ -10,10 +10,10 @@ use Rattle.flash.proofs.Comparisons.{eq-cases}
 use Rattle.flash.proofs.Bounds.{slot-in-marks, slot-in-store}
 use Rattle.flash.proofs.Sums.{sum-one}
 use Rattle.flash.proofs.Chips.{write-mark, write-mark-other, write-page, write-page-other}
-use Rattle.method.specs.Move.{Move, AcceptedMove, Lent}
+use Rattle.method.specs.Move.{Plan, AcceptedMove, Lent}
 use Rattle.method.specs.Cycle.{coded, sentTo}
 use Rattle.method.specs.Place.{Pass, forward, backward, written, markOf, lastPlace, operationAt, passAt, filling, filled}
-use Rattle.method.specs.State.{heldOriginals}
+use Rattle.method.specs.State.{heldOriginals, countsAs}
 use Rattle.method.specs.Step.{Running, originalsOf, writtenPage, perform, step, steps}
 use Rattle.method.proofs.basics.MoveShape.{Holding}
 use Rattle.method.proofs.basics.Indexes.{slot-div, slot-mod}
@@ -23,14 +23,15 @@ use Rattle.method.proofs.places.PagesHeld.{Change, by-write, by-erase, 
 use Rattle.method.proofs.recovery.MarksFade.{erase-fades, holding-fades}
 use Rattle.method.proofs.states.StepsLeadOn.{Stood, page-length, page-sum, step-stands}
 
-module _ (M : Move) (A : AcceptedMove M) (originals : List ℕ) (full : length originals ≡ originalCount (M .sizes) * M .sizes .p) where
+module _ (X : Plan) (A : AcceptedMove (X .move)) (originals : List ℕ) (full : length originals ≡ originalCount (X .move .sizes) * X .move .sizes .p) where
+  open Plan X using (move as M)
   open Sizes (M .sizes) using (n, m, p as P)
 
   abbrev Z : Sizes
   Z = M .sizes
 
   abbrev original : ℕ → List ℕ
-  original k = part P k originals
+  original k = countsAs X originals k
 
   -- a write's mark is no s, and tells what is written
   not-plain : (pass : Pass) → markOf Z pass ≢ letter Z 0
@@ -48,7 +49,7 @@ module _ (M : Move) (A : AcceptedMove M) (originals : List ℕ) (full : length o
   backward-sources forward b q e = absurd (omega arith)
   backward-sources backward b q e = refl
 
-  module _ (pass : Pass) (b q : ℕ) (b-in : b ≤ n) (q-in : q < m) (chip : Chip) (work : List ℕ) (L : Lent Z chip work) (H : Holding M originals chip)
+  module _ (pass : Pass) (b q : ℕ) (b-in : b ≤ n) (q-in : q < m) (chip : Chip) (work : List ℕ) (L : Lent Z chip work) (H : Holding X originals chip)
       (page : List ℕ) (whole : length page ≡ P) (is : page ≡ sum original (originalsOf M pass b q)) where
     abbrev here : ℕ
     here = slot m b q
@@ -75,9 +76,9 @@ module _ (M : Move) (A : AcceptedMove M) (originals : List ℕ) (full : length o
         write-page-other P here page (markOf Z pass) chip fits whole t apart ∙ was (sym (write-mark-other P here page (markOf Z pass) chip t apart) ∙ e))
         (eq-cases t here)
 
-    write-holds : Holding M originals new
+    write-holds : Holding X originals new
     write-holds = record {
-      plain = λ k h e. holds-at (slotOf m k) (original k) 0 e (λ _ f. absurd (not-plain pass f)) (H .plain k h);
+      plain = λ k h e. holds-at (slotOf m k) (part P k originals) 0 e (λ _ f. absurd (not-plain pass f)) (H .plain k h);
       code = λ set v s l u e. holds-at (slot m (v - 1) set) (sum original (coded M set v)) 1 e
           (λ same f.
           let at-b : v - 1 ≡ b = sym (slot-div m (v - 1) set s) ∙ ap (λ (x : ℕ). x / m) same ∙ slot-div m b q q-in in
@@ -102,23 +103,23 @@ module _ (M : Move) (A : AcceptedMove M) (originals : List ℕ) (full : length o
             let e : t / m + 1 - 1 ≡ t / m = omega arith in
             ap (λ (x : ℕ). x * m + t % m) e ∙ div-add-mod' t m
 
-  module _ (place : ℕ) (run : Running) (on : place < lastPlace Z) (S : Stood M A run place) (H : Holding M originals (run .chip)) where
-    pub step-holds : Holding M originals (step M place run .chip)
+  module _ (place : ℕ) (run : Running) (on : place < lastPlace Z) (S : Stood X A run place) (H : Holding X originals (run .chip)) where
+    pub step-holds : Holding X originals (step X place run .chip)
     unfolding step perform
     step-holds = go (change Z place on)
       where
-        go : Change Z place → Holding M originals (perform M (operationAt Z place) run .chip)
+        go : Change Z place → Holding X originals (perform X (operationAt Z place) run .chip)
         go (by-write room op W) =
             rw op
             (write-holds (passAt Z place) (filling Z place) (filled Z place) (W .block-in) room (run .chip) (run .work) (S .lent) H
-            (writtenPage M (passAt Z place) (filling Z place) (filled Z place) (run .chip))
-            (page-length M A place on room (run .chip) (run .work) (S .lent) (S .stands))
-            (page-sum M A place on room (run .chip) (run .work) (S .lent) (S .stands) originals full H))
+            (writtenPage X (passAt Z place) (filling Z place) (filled Z place) (run .chip))
+            (page-length X A place on room (run .chip) (run .work) (S .lent) (S .stands))
+            (page-sum X A place on room (run .chip) (run .work) (S .lent) (S .stands) originals full H))
         go (by-erase all op E) =
-            rw op (holding-fades M originals (run .chip) _ H (erase-fades Z (nextBlock (passAt Z place) (filling Z place)) (run .chip) (E .block-in) (S .lent .store-length) (S .lent .marks-length)))
+            rw op (holding-fades X originals (run .chip) _ H (erase-fades Z (nextBlock (passAt Z place) (filling Z place)) (run .chip) (E .block-in) (S .lent .store-length) (S .lent .marks-length)))
 
-  pub steps-hold : (count place : ℕ) (run : Running) → place + count ≤ lastPlace Z → Stood M A run place → Holding M originals (run .chip) → Holding M originals (steps M count place run .chip)
+  pub steps-hold : (count place : ℕ) (run : Running) → place + count ≤ lastPlace Z → Stood X A run place → Holding X originals (run .chip) → Holding X originals (steps X count place run .chip)
   unfolding steps
   steps-hold zero place run h S H = H
   steps-hold (suc count) place run h S H =
-      steps-hold count (suc place) (step M place run) (omega arith) (step-stands M A place run (omega arith) S) (step-holds place run (omega arith) S H)
+      steps-hold count (suc place) (step X place run) (omega arith) (step-stands X A place run (omega arith) S) (step-holds place run (omega arith) S H)

@@ -59,7 +59,7 @@ module _ (M : Move) (A : AcceptedMove M) (marks : List ℕ) (low high i : ℕ) (
       -- the coded page of c and one page more
       end-two : (j c t y : ℕ) → Met M low set tip c → last c ≡ t ∷ [] → letter (M .sizes) j ≢ letter (M .sizes) 1 → Stored M marks j t (y ∷ []) → Adds M (coded M set c) (x c) y → End 2 c
       end-two j c t y o is ne s a = record {
-        reads = rw is (reads-add M marks 1 1 (codedSlot M marks set c) (x c) y (coded M set c) (t ∷ []) (met-stored c o) a (differs c o) (reads-one M marks j t y s));
+        reads = rw is (reads-add M marks 1 (codedSlot M marks set c) (x c) y (coded M set c) (t ∷ []) (met-stored c o) a (differs c o) (reads-one M marks j t y s));
         apart = λ b p. rw is (differs b p);
       }
         where
@@ -89,7 +89,7 @@ module _ (M : Move) (A : AcceptedMove M) (marks : List ℕ) (low high i : ℕ) (
             (λ j h e. once f ends (suc d) b E 0 (suc j) (omega arith) (omega arith) (sym (coded-same (iterate f j (f b)) b (met-way d (f b) E′ o′ j h) o e)))
             (end .apart b o) in
             rw (suc-add d bound)
-            (reads-add M marks (d + bound) 1 (codedSlot M marks set b) (x b) (x (f b)) (coded M set b) (way f (codedSlot M marks set) last d (f b))
+            (reads-add M marks (d + bound) (codedSlot M marks set b) (x b) (x (f b)) (coded M set b) (way f (codedSlot M marks set) last d (f b))
             (met-stored b o) (adds b o goes) fresh (reads-way bound d (f b) E′ o′ end))
 
         reads-walk : (bound d b : ℕ) → Ends f ends d b → Met M low set tip b → (Met M low set tip (iterate f d b) → End bound (iterate f d b)) → 1 ≤ bound → d + bound ≤ n

@@ -1,5 +1,5 @@
 -- Read's rules on marks that fit: every original is the sum of at most n pages of full blocks.
-use Rattle.flash.proofs.Kit.{_≡_, refl, _⊎_, ⊎-elim, _≢_, true, false, _||_, or-true, List, [], _∷_, ℕ, _+_, _-_, _*_, _≤_, _<_, arith, length}
+use Rattle.flash.proofs.Kit.{_≡_, refl, sym, _∙_, _⊎_, ⊎-elim, _≢_, true, false, _||_, or-true, List, [], _∷_, ℕ, _+_, _-_, _*_, _≤_, _<_, arith, length}
 use Rattle.flash.specs.Lists.{range, any, part}
 use Rattle.flash.specs.declared.sizes.Sizes.{Sizes}
 use Rattle.flash.specs.Geometry.{blockOf, originalCount, letter}
@@ -9,17 +9,19 @@ use Rattle.flash.proofs.Ranges.{any-is, none-is}
 use Rattle.flash.proofs.Blocks.{full-same}
 use Rattle.flash.proofs.Comparisons.{lt-cases}
 use Rattle.split.specs.Split.{setOf}
-use Rattle.method.specs.Move.{Move, AcceptedMove}
+use Rattle.method.specs.Move.{Move, Plan, AcceptedMove}
 use Rattle.method.specs.Cycle.{dest, pred, top, isTop}
 use Rattle.method.specs.Read.{fullOf, plainSlot, finalSlot, goBack, goOn, readSlots, readPage}
+use Rattle.method.specs.State.{countsAs}
 use Rattle.method.specs.inner.Shape.{Shape}
-use Rattle.method.proofs.basics.MoveShape.{Holding}
+use Rattle.method.proofs.basics.MoveShape.{Holding, counted, counts-dropped, holding-shows}
 use Rattle.method.proofs.cycles.Orbits.{DataBlock}
 use Rattle.method.proofs.cycles.SetCycles.{set-in, block-in, D-is, dest-in, dest-is, pred-in}
 use Rattle.method.proofs.cycles.Tops.{top-in, top-ge-self, top-pred}
 use Rattle.method.proofs.walks.WalkSlots.{backEnds}
 use Rattle.method.proofs.walks.WalkBounds.{on-bound}
 use Rattle.method.proofs.walks.StoredPages.{Stored, Reads, reads-one, reads-within, full-clear, plain-stored, final-stored}
+use Rattle.method.proofs.walks.Terms.{page-dropped, page-kept}
 use Rattle.method.proofs.walks.CodedWalks.{Met, reads-back, reads-on}
 
 module _ (M : Move) (A : AcceptedMove M) (marks : List ℕ) (low high i : ℕ) (S : Shape (M .sizes) marks low high i) where
@@ -164,9 +166,12 @@ module _ (M : Move) (A : AcceptedMove M) (marks : List ℕ) (low high : ℕ) (k 
       on-bound M A marks set set-ok v v-in (top-final (rw e at S) gone) not-there extra)
       which
 
--- what is summed is original k
-pub reads-original : (M : Move) (A : AcceptedMove M) (low high i k : ℕ) (originals : List ℕ) (chip : Chip) → (i ≡ 0) ⊎ (i ≡ 2) → Shape (M .sizes) (chip .marks) low high i
-    → length originals ≡ originalCount (M .sizes) * M .sizes .p → Holding M originals chip → k < originalCount (M .sizes) → readPage M chip k ≡ part (M .sizes .p) k originals
-unfolding readPage
-reads-original M A low high i k originals chip which S size H h =
-    reads M A (chip .marks) low high k h i which S .original originals chip refl size H
+-- what is summed is what original k counts as
+pub reads-original : (X : Plan) (A : AcceptedMove (X .move)) (low high i k : ℕ) (originals : List ℕ) (chip : Chip) → (i ≡ 0) ⊎ (i ≡ 2)
+    → Shape (X .move .sizes) (chip .marks) low high i → length originals ≡ originalCount (X .move .sizes) * X .move .sizes .p → Holding X originals chip
+    → k < originalCount (X .move .sizes) → readPage X chip k ≡ countsAs X originals k
+reads-original X A low high i k originals chip which S size H h = ⊎-elim
+    (λ (e : X .isDropped k ≡ true). page-dropped X chip k e ∙ sym (counts-dropped X originals k e))
+    (λ (e : X .isDropped k ≡ false).
+    page-kept X chip k e ∙ reads (X .move) A (chip .marks) low high k h i which S .original (countsAs X originals) (counted X chip) (holding-shows X originals chip size H))
+    (bool-cases (X .isDropped k))

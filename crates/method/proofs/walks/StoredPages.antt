@@ -1,14 +1,12 @@
 -- Slots of full blocks and what their pages hold, and lists of such slots that sum to an original.
-use Rattle.flash.proofs.Kit.{_≡_, sym, ap, ap₂, _∙_, _⊎_, inl, inr, ⊎-elim, _≢_, true, List, [], _∷_, ℕ, suc, _+_, _-_, _*_, _/_, _%_, _≤_, _<_}
+use Rattle.flash.proofs.Kit.{_≡_, sym, ap, ap₂, _∙_, _⊎_, inl, inr, ⊎-elim, _≢_, true, List, [], _∷_, ℕ, zero, suc, _+_, _-_, _*_, _/_, _%_, _≤_, _<_}
 use Rattle.flash.proofs.Kit.{mod-lt, arith, length, getD, lt-ltb}
-use Rattle.flash.specs.Lists.{part}
 use Rattle.flash.specs.declared.sizes.Sizes.{Sizes}
 use Rattle.flash.specs.Geometry.{isLetter, slot, blockOf, originalCount, slotCount, letter}
 use Rattle.flash.specs.PageSum.{_⊕_, sum}
-use Rattle.flash.specs.Chip.{Chip, pageAt, markAt, isWhole, isFull}
+use Rattle.flash.specs.Chip.{markAt, isWhole, isFull}
 use Rattle.flash.proofs.Bools.{never-both}
 use Rattle.flash.proofs.Blocks.{full-at}
-use Rattle.flash.proofs.Parts.{part-fits, length-part}
 use Rattle.flash.proofs.Sums.{⊕-nil, ⊕-comm, ⊕-cancel, sum-one}
 use Rattle.flash.proofs.Comparisons.{lt-cases}
 use Rattle.split.specs.Split.{destBlock}
@@ -18,7 +16,7 @@ use Rattle.method.specs.Cycle.{coded}
 use Rattle.method.specs.Read.{fullOf, codedSlot, plainSlot, finalSlot}
 use Rattle.method.proofs.basics.EachNumber.{Each, each-cons, each-one, distinct-cons}
 use Rattle.method.specs.inner.Shape.{Shape}
-use Rattle.method.proofs.basics.MoveShape.{Holding}
+use Rattle.method.proofs.basics.MoveShape.{Shows}
 use Rattle.method.proofs.basics.Indexes.{slot-div, slot-lt}
 use Rattle.method.proofs.cycles.Orbits.{DataBlock}
 use Rattle.method.proofs.cycles.SetCycles.{block-in, entry-in}
@@ -52,17 +50,16 @@ module _ (M : Move) (marks : List ℕ) where
   pub record Stored (j t : ℕ) (xs : List ℕ) : Type 0 where
     pub site : Sited (M .sizes) marks t
     pub marked : markAt marks t ≡ letter (M .sizes) j
-    pub holds : (originals : List ℕ) (chip : Chip) → chip .marks ≡ marks → Holding M originals chip
-        → pageAt P chip t ≡ sum (λ k. part P k originals) xs
+    pub holds : (value page : ℕ → List ℕ) → Shows M marks value page → page t ≡ sum value xs
 
-  -- at most `bound` slots, none twice, whose pages sum to original k
+  -- at most `bound` slots, none twice, whose pages sum to original k; all but the last hold coded pages
   pub record Reads (bound : ℕ) (ts : List ℕ) (k : ℕ) : Type 0 where
     pub some : 1 ≤ length ts
     pub few : length ts ≤ bound
     pub sited : Each (Sited (M .sizes) marks) ts
     pub distinct : Distinct ts
-    pub original : (originals : List ℕ) (chip : Chip) → chip .marks ≡ marks → length originals ≡ originalCount (M .sizes) * P → Holding M originals chip
-        → sum (pageAt P chip) ts ≡ part P k originals
+    pub coded-first : (i : ℕ) → suc i < length ts → markAt marks (getD ts i 0) ≡ letter (M .sizes) 1
+    pub original : (value page : ℕ → List ℕ) → Shows M marks value page → sum page ts ≡ value k
 
   pub reads-one : (j t k : ℕ) → Stored j t (k ∷ []) → Reads 1 (t ∷ []) k
   reads-one j t k s = record {
@@ -70,25 +67,27 @@ module _ (M : Move) (marks : List ℕ) where
     few = omega arith;
     sited = each-one (Sited (M .sizes) marks) t (s .site);
     distinct = λ i l a b e. omega arith;
-    original = λ originals chip same size H.
-        sum-one (pageAt P chip) t ∙ s .holds originals chip same H ∙ sum-one (λ k. part P k originals) k;
+    coded-first = λ i h. absurd (omega arith);
+    original = λ value page H. sum-one page t ∙ s .holds value page H ∙ sum-one value k;
   }
 
   -- a page that holds x and y before pages that sum to y
-  pub reads-add : (bound j t x y : ℕ) (xs ts : List ℕ) → Stored j t xs → Adds M xs x y → Each (λ u. u ≢ t) ts → Reads bound ts y → Reads (suc bound) (t ∷ ts) x
+  pub reads-add : (bound t x y : ℕ) (xs ts : List ℕ) → Stored 1 t xs → Adds M xs x y → Each (λ u. u ≢ t) ts → Reads bound ts y → Reads (suc bound) (t ∷ ts) x
   unfolding sum
-  reads-add bound j t x y xs ts s a fresh r = record {
+  reads-add bound t x y xs ts s a fresh r = record {
     some = omega arith;
     few = omega (arith, r .few);
     sited = each-cons (Sited (M .sizes) marks) t ts (s .site) (r .sited);
     distinct = distinct-cons t ts fresh (r .distinct);
-    original = λ originals chip same size H.
-        let page : ℕ → List ℕ = λ k. part P k originals in
-        let x-size : length (page x) ≡ P = length-part P x originals (rw size (part-fits x (n * m) P (a .x-in))) in
-        let y-size : length (page y) ≡ P = length-part P y originals (rw size (part-fits y (n * m) P (a .y-in))) in
-        ap₂ _⊕_ (s .holds originals chip same H ∙ a .sums page) (r .original originals chip same size H)
-        ∙ ⊕-cancel (page x) (page y) (omega arith);
+    coded-first = first;
+    original = λ value page H.
+        ap₂ _⊕_ (s .holds value page H ∙ a .sums value) (r .original value page H)
+        ∙ ⊕-cancel (value x) (value y) (omega (arith, H .whole x (a .x-in), H .whole y (a .y-in)));
   }
+    where
+      first : (i : ℕ) → suc i < length (t ∷ ts) → markAt marks (getD (t ∷ ts) i 0) ≡ letter (M .sizes) 1
+      first zero h = s .marked
+      first (suc i) h = r .coded-first i (omega arith)
 
   pub reads-within : (bound wider k : ℕ) (ts : List ℕ) → bound ≤ wider → Reads bound ts k → Reads wider ts k
   reads-within bound wider k ts h r = record {
@@ -96,6 +95,7 @@ module _ (M : Move) (marks : List ℕ) where
     few = omega (arith, r .few);
     sited = r .sited;
     distinct = r .distinct;
+    coded-first = r .coded-first;
     original = r .original;
   }
 
@@ -112,8 +112,7 @@ module _ (M : Move) (marks : List ℕ) where
 
     -- a page of a full block
     stored-at : (j block page : ℕ) (xs : List ℕ) → block ≤ n → page < m → isFull m marks block (letter (M .sizes) j) ≡ true
-        → ((originals : List ℕ) (chip : Chip) → Holding M originals chip → markAt (chip .marks) (slot m block page) ≡ letter (M .sizes) j
-        → pageAt P chip (slot m block page) ≡ sum (λ k. part P k originals) xs)
+        → ((value shown : ℕ → List ℕ) → Shows M marks value shown → markAt marks (slot m block page) ≡ letter (M .sizes) j → shown (slot m block page) ≡ sum value xs)
         → Stored j (slot m block page) xs
     unfolding isWhole isLetter letter
     stored-at j block page xs b-in p-in full holds =
@@ -127,24 +126,24 @@ module _ (M : Move) (marks : List ℕ) where
             whole = rw mark (lt-ltb (letter (M .sizes) j) 3 (omega arith));
           };
           marked = mark;
-          holds = λ originals chip same H. holds originals chip H (rw same mark);
+          holds = λ value shown H. holds value shown H mark;
         }
 
     pub plain-stored : (k : ℕ) → k < originalCount (M .sizes) → fullOf M marks 0 (blockOf m k) ≡ true → Stored 0 (plainSlot M marks k) (k ∷ [])
     unfolding plainSlot fullOf
     plain-stored k h full =
         stored-at 0 (blockOf m k) (k % m) (k ∷ []) (block-in M A k h .high) (mod-lt k (A .ranges .m-low)) full
-        (λ originals chip H mark. H .plain k h mark ∙ sym (sum-one (λ k. part P k originals) k))
+        (λ value shown H mark. H .plain k h mark ∙ sym (sum-one value k))
 
     pub final-stored : (k : ℕ) → k < originalCount (M .sizes) → fullOf M marks 2 (destBlock m (M .list) k) ≡ true → Stored 2 (finalSlot M marks k) (k ∷ [])
     unfolding finalSlot fullOf destBlock
     final-stored k h full =
         let t : ℕ = getD (M .list) k 0 in
         stored-at 2 (blockOf m t) (t % m) (k ∷ []) (block-in M A t (entry-in M A k h) .high) (mod-lt t (A .ranges .m-low)) full
-        (λ originals chip H mark. H .final k h mark ∙ sym (sum-one (λ k. part P k originals) k))
+        (λ value shown H mark. H .final k h mark ∙ sym (sum-one value k))
 
     pub code-stored : (set v : ℕ) → set < m → DataBlock n v → v ≤ low → Stored 1 (codedSlot M marks set v) (coded M set v)
     unfolding codedSlot
     code-stored set v s-in v-in under =
         stored-at 1 (v - 1) set (coded M set v) (omega arith) s-in (S .below (v - 1) (omega arith))
-        (λ originals chip H mark. H .code set v s-in (v-in .low) (v-in .high) mark)
+        (λ value shown H mark. H .code set v s-in (v-in .low) (v-in .high) mark)

@@ -9,6 +9,7 @@ use Rattle.flash.specs.Lists.{all}
 use Rattle.flash.specs.declared.sizes.Sizes.{Sizes}
 use Rattle.flash.specs.Geometry.{originalCount}
 use Rattle.split.specs.OneToOne.{badList}
+use Rattle.split.specs.Drops.{completed}
 use Rattle.split.specs.Rule.{splitByRule}
 use Rattle.split.specs.Request.{unpinned}
 use Rattle.split.specs.Answer.{splitAnswer}
@@ -30,7 +31,7 @@ pub record Readable (Z : Sizes) (list bytes : List ℕ) : Type 0 where
 pub record AcceptedInput (Z : Sizes) (list sets bytes : List ℕ) : Type 0 where
   pub readable : Readable Z list bytes
   pub good : badList (originalCount Z) list ≡ false
-  pub sets-is : sets ≡ splitByRule (Z .n) (Z .m) list
+  pub sets-is : sets ≡ splitByRule (Z .n) (Z .m) (completed list)
 
 -- what the areas for a list and its set bytes hold once the list was judged: both are as they were where an entry is above 16 bits
 abbrev pub judgedList : (entries list : List ℕ) → List ℕ

@@ -6,7 +6,7 @@ use lib.ListN.{length}
 use Rattle.flash.specs.Lists.{count}
 use Rattle.flash.specs.Tables.{refusal}
 use Rattle.split.specs.Request.{Request}
-use Rattle.method.specs.Move.{Move}
+use Rattle.method.specs.Move.{Plan}
 use Rattle.method.specs.Place.{operationAt, lastPlace}
 use Rattle.method.specs.Step.{Running, runningOf, step, steps, isWrite, isErase, operationsFrom}
 use Rattle.method.specs.Answers.{runRows}
@@ -15,8 +15,8 @@ use Rattle.steplist.specs.declared.listed.Shown.{Shown}
 use Rattle.steplist.specs.Output.{stepLine}
 
 -- what all steps leave
-abbrev pub moved : Move → Running → Running
-moved M start = steps M (lastPlace (M .sizes)) 0 start
+abbrev pub moved : Plan → Running → Running
+moved X start = steps X (lastPlace (X .move .sizes)) 0 start
 
 -- sizes within the program's limits, and a run from the place that is not refused
 pub record Listable (R : Request) (run : Running) (place : ℕ) : Type 0 where
@@ -34,9 +34,9 @@ abbrev pub mostOutput : ℕ
 mostOutput = 32768
 
 -- a step was taken at a place, and its line was printed
-pub record Stepped (M : Move) (place : ℕ) (run : Running) (before : List ℕ) (at : ℕ) (shown : Shown) (out store marks work : List ℕ) : Type 0 where
-  pub left : runningOf store marks work ≡ step M place run
-  pub printed : Printed (stepLine place (operationAt (M .sizes) place) work) before at out (shown .at)
-  pub short : length (stepLine place (operationAt (M .sizes) place) work) ≤ mostLine
-  pub writes-is : shown .writes ≡ count isWrite (operationsFrom (M .sizes) place 1)
-  pub erases-is : shown .erases ≡ count isErase (operationsFrom (M .sizes) place 1)
+pub record Stepped (X : Plan) (place : ℕ) (run : Running) (before : List ℕ) (at : ℕ) (shown : Shown) (out store marks work : List ℕ) : Type 0 where
+  pub left : runningOf store marks work ≡ step X place run
+  pub printed : Printed (stepLine place (operationAt (X .move .sizes) place) work) before at out (shown .at)
+  pub short : length (stepLine place (operationAt (X .move .sizes) place) work) ≤ mostLine
+  pub writes-is : shown .writes ≡ count isWrite (operationsFrom (X .move .sizes) place 1)
+  pub erases-is : shown .erases ≡ count isErase (operationsFrom (X .move .sizes) place 1)

@@ -46,7 +46,7 @@ fn play(comparer: &mut Comparer, shape: Sizes, most: usize, random: &mut Random)
     if random.one_in(2) {
         scene.sets = elsewhere(&scene, random);
     }
-    let mut player = Player::new(comparer);
+    let mut player = Player::new(comparer, &scene);
     let block_steps = shape.pages() + 1;
     let mut list = List {
         story: Story::at_rest(scene),

@@ -2,7 +2,7 @@
 //! again in the recovery after it.
 
 use super::other_splits::elsewhere;
-use super::walk::{any_bytes, any_list, compare_split, sizes};
+use super::walk::{any_bytes, compare_split, kept_list, sizes};
 use super::Outcome;
 use crate::harness::compare::Comparer;
 use crate::harness::player::Player;
@@ -22,17 +22,21 @@ pub fn cases(comparer: &mut Comparer, random: &mut Random) -> Outcome {
         .map(|n: usize| [1, 2, 3].map(|m: usize| (n, m)))
         .concat()
     {
-        // A bit of its own for each slot, so that reads show what they sum.
-        let bytes = ((n + 1) * m).div_ceil(8);
+        // A bit of its own for each slot and for 255s, so that reads show what
+        // they sum.
+        let bytes = ((n + 1) * m + 1).div_ceil(8);
         for s in 0..3 {
             // Any bytes: a page of 255s looks the same in a blank place.
             let shape = sizes(n, m, bytes, s);
-            let list = any_list(&shape, random);
-            let mut scene = any_bytes(shape, list, random);
-            if s == 1 {
-                scene.sets = elsewhere(&scene, random);
+            let kept = kept_list(&shape, random);
+            let dropping = random.with_drops(kept.clone());
+            for list in [kept, dropping] {
+                let mut scene = any_bytes(shape, list, random);
+                if s == 1 {
+                    scene.sets = elsewhere(&scene, random);
+                }
+                every_cut(comparer, scene, random)?;
             }
-            every_cut(comparer, scene, random)?;
         }
     }
     Ok(())
@@ -40,7 +44,7 @@ pub fn cases(comparer: &mut Comparer, random: &mut Random) -> Outcome {
 
 fn every_cut(comparer: &mut Comparer, scene: Scene, random: &mut Random) -> Outcome {
     compare_split(comparer, &scene, random)?;
-    let mut player = Player::new(comparer);
+    let mut player = Player::new(comparer, &scene);
     let at_rest = Story::at_rest(scene);
     uncut(&mut player, at_rest.clone())?;
     let steps = all_steps(&at_rest.scene.sizes);

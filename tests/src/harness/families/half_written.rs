@@ -1,6 +1,6 @@
 //! Marks of 3 to 254, at every place and in every slot, alone and in company.
 
-use super::walk::{compare_reads, random_scene, sizes};
+use super::walk::{both_scenes, compare_reads, sizes};
 use super::Outcome;
 use crate::harness::compare::Comparer;
 use crate::random::Random;
@@ -10,11 +10,12 @@ use crate::simulator::request::Call;
 pub fn cases(comparer: &mut Comparer, random: &mut Random) -> Outcome {
     for (n, m) in [(1, 1), (1, 2), (2, 1), (2, 2), (3, 1)] {
         for s in 0..3 {
-            let mut scene = random_scene(sizes(n, m, 1, s), random);
-            for place in 0..=scene.sizes.steps() as u32 {
-                marked(comparer, &scene, place, random)?;
-                let answer = comparer.compare(&scene.run_request(place, 1))?;
-                scene.take_over(&answer);
+            for mut scene in both_scenes(sizes(n, m, 1, s), random) {
+                for place in 0..=scene.sizes.steps() as u32 {
+                    marked(comparer, &scene, place, random)?;
+                    let answer = comparer.compare(&scene.run_request(place, 1))?;
+                    scene.take_over(&answer);
+                }
             }
         }
     }

@@ -1,6 +1,6 @@
 //! Moves at the limits of the sizes, with lists of every kind.
 
-use super::walk::{compare_split, random_scene, scene_with, sizes, walk};
+use super::walk::{both_scenes, compare_split, scene_with, sizes, walk};
 use super::Outcome;
 use crate::harness::compare::Comparer;
 use crate::random::Random;
@@ -20,9 +20,12 @@ pub fn cases(comparer: &mut Comparer, random: &mut Random) -> Outcome {
     for (n, m, bytes) in shapes {
         let shape = sizes(n, m, bytes, random.below(3));
         for list in lists(shape.originals(), random) {
-            let scene = scene_with(shape, list, random);
-            compare_split(comparer, &scene, random)?;
-            walk(comparer, &scene, 1 + shape.steps() / 4, 3, random)?;
+            let dropping = random.with_drops(list.clone());
+            for list in [list, dropping] {
+                let scene = scene_with(shape, list, random);
+                compare_split(comparer, &scene, random)?;
+                walk(comparer, &scene, 1 + shape.steps() / 4, 3, random)?;
+            }
         }
     }
     Ok(())
@@ -41,13 +44,14 @@ fn lists(originals: usize, random: &mut Random) -> Vec<Vec<u16>> {
 /// Every size at its limit; few calls, since each has 17 megabytes to compare.
 pub fn biggest_store(comparer: &mut Comparer, random: &mut Random) -> Outcome {
     let shape = sizes(64, 64, 4096, 2);
-    let mut scene = random_scene(shape, random);
-    compare_split(comparer, &scene, random)?;
-    let half = random.between(1, shape.steps()) as u32;
-    let answer = comparer.compare(&scene.run_request(0, half))?;
-    scene.take_over(&answer);
-    comparer.compare(&scene.read_request(random.below(shape.originals())))?;
-    comparer.compare(&scene.request(Call::Mend))?;
-    comparer.compare(&scene.run_request(answer.numbers.place, u32::MAX))?;
+    for mut scene in both_scenes(shape, random) {
+        compare_split(comparer, &scene, random)?;
+        let half = random.between(1, shape.steps()) as u32;
+        let answer = comparer.compare(&scene.run_request(0, half))?;
+        scene.take_over(&answer);
+        comparer.compare(&scene.read_request(random.below(shape.originals())))?;
+        comparer.compare(&scene.request(Call::Mend))?;
+        comparer.compare(&scene.run_request(answer.numbers.place, u32::MAX))?;
+    }
     Ok(())
 }

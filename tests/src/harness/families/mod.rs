@@ -1,5 +1,6 @@
 //! The families of cases, in the order of the comparison.
 
+mod drops;
 mod events;
 mod every_cut;
 mod half_written;
@@ -38,7 +39,7 @@ const EVENTS: Family = Family {
 /// The families that look at demand 3 over whole lists.
 pub static LISTS: [Family; 2] = [EVERY_CUT, EVENTS];
 
-pub static FAMILIES: [Family; 15] = [
+pub static FAMILIES: [Family; 16] = [
     Family {
         name: "refusals, one and two at once",
         cases: refusals::cases,
@@ -70,6 +71,10 @@ pub static FAMILIES: [Family; 15] = [
     Family {
         name: "pinned pages",
         cases: pins::cases,
+    },
+    Family {
+        name: "dropped pages",
+        cases: drops::cases,
     },
     Family {
         name: "written bytes counted",

@@ -1,6 +1,6 @@
 //! Stores and marks that no move has left.
 
-use super::walk::{compare_reads, random_scene, sizes};
+use super::walk::{both_scenes, compare_reads, random_scene, sizes};
 use super::Outcome;
 use crate::harness::compare::Comparer;
 use crate::random::Random;
@@ -15,19 +15,25 @@ const MARKS: [u8; 6] = [0, 1, 2, 255, 3, 254];
 pub fn all_marks(comparer: &mut Comparer, random: &mut Random) -> Outcome {
     for (n, m) in [(1, 1), (2, 1), (1, 2), (3, 1)] {
         for s in 0..=2 {
-            let mut scene = random_scene(sizes(n, m, 1, s), random);
-            for mut code in 0..MARKS.len().pow(scene.sizes.slots() as u32) {
-                for mark in &mut scene.flash.marks {
-                    *mark = MARKS[code % MARKS.len()];
-                    code /= MARKS.len();
-                }
-                scene.flash.store = random.bytes(scene.sizes.slots());
-                comparer.compare(&scene.request(Call::Mend))?;
-                compare_reads(comparer, &scene, 6, random)?;
-                let place = random.below(scene.sizes.steps() + 3) as u32;
-                comparer.compare(&scene.run_request(place, 1))?;
+            for scene in both_scenes(sizes(n, m, 1, s), random) {
+                every_marking(comparer, scene, random)?;
             }
         }
+    }
+    Ok(())
+}
+
+fn every_marking(comparer: &mut Comparer, mut scene: Scene, random: &mut Random) -> Outcome {
+    for mut code in 0..MARKS.len().pow(scene.sizes.slots() as u32) {
+        for mark in &mut scene.flash.marks {
+            *mark = MARKS[code % MARKS.len()];
+            code /= MARKS.len();
+        }
+        scene.flash.store = random.bytes(scene.sizes.slots());
+        comparer.compare(&scene.request(Call::Mend))?;
+        compare_reads(comparer, &scene, 6, random)?;
+        let place = random.below(scene.sizes.steps() + 3) as u32;
+        comparer.compare(&scene.run_request(place, 1))?;
     }
     Ok(())
 }

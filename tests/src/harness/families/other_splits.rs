@@ -5,6 +5,7 @@ use super::Outcome;
 use crate::harness::compare::Comparer;
 use crate::random::Random;
 use crate::scene::Scene;
+use crate::simulator::sizes::Sizes;
 
 pub fn cases(comparer: &mut Comparer, random: &mut Random) -> Outcome {
     for round in 0..150 {
@@ -42,11 +43,12 @@ fn relabelled(scene: &Scene, random: &mut Random) -> Vec<u8> {
 
 /// One perfect matching of blocks after the other, in a random order of pages.
 fn peeled(scene: &Scene, random: &mut Random) -> Vec<u8> {
+    let destinations = scene.destinations();
     let order = random.permutation(scene.sizes.originals());
     let mut left: Vec<usize> = order.into_iter().map(usize::from).collect();
     let mut sets = vec![0; left.len()];
     for set in 0..scene.sizes.pages() {
-        let matching = Matching::perfect(scene, &left);
+        let matching = Matching::perfect(&scene.sizes, &destinations, &left);
         left.retain(|k| !matching.contains(k));
         for k in matching {
             sets[k] = set as u8;
@@ -57,17 +59,19 @@ fn peeled(scene: &Scene, random: &mut Random) -> Vec<u8> {
 
 /// The page matched to each destination block so far.
 struct Matching<'a> {
-    scene: &'a Scene,
+    sizes: &'a Sizes,
+    destinations: &'a [usize],
     pages: &'a [usize],
     arriving: Vec<Option<usize>>,
 }
 
 impl Matching<'_> {
     /// One page from each block and to each block, among these pages.
-    fn perfect(scene: &Scene, pages: &[usize]) -> Vec<usize> {
-        let blocks = scene.sizes.data_blocks();
+    fn perfect(sizes: &Sizes, destinations: &[usize], pages: &[usize]) -> Vec<usize> {
+        let blocks = sizes.data_blocks();
         let mut matching = Matching {
-            scene,
+            sizes,
+            destinations,
             pages,
             arriving: vec![None; blocks + 1],
         };
@@ -83,9 +87,9 @@ impl Matching<'_> {
 
     /// Finds a page for a source block; others give way where they can.
     fn place(&mut self, source: usize, tried: &mut [bool]) -> bool {
-        let sizes = &self.scene.sizes;
+        let sizes = self.sizes;
         for &k in self.pages.iter().filter(|&&k| sizes.block_of(k) == source) {
-            let destination = sizes.block_of(self.scene.list[k] as usize);
+            let destination = sizes.block_of(self.destinations[k]);
             if std::mem::replace(&mut tried[destination], true) {
                 continue;
             }

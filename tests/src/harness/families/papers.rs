@@ -11,10 +11,12 @@ pub fn cases(comparer: &mut Comparer, random: &mut Random) -> Outcome {
         let n = destinations.len();
         let list: Vec<u16> = destinations.iter().map(|block| block - 1).collect();
         for s in 0..3 {
-            let scene = scene_with(sizes(n, 1, 16, s), list.clone(), random);
-            compare_split(comparer, &scene, random)?;
-            walk(comparer, &scene, 1, n, random)?;
-            comparer.compare(&scene.run_request(0, u32::MAX))?;
+            for list in [list.clone(), random.with_drops(list.clone())] {
+                let scene = scene_with(sizes(n, 1, 16, s), list, random);
+                compare_split(comparer, &scene, random)?;
+                walk(comparer, &scene, 1, n, random)?;
+                comparer.compare(&scene.run_request(0, u32::MAX))?;
+            }
         }
     }
     Ok(())

@@ -4,7 +4,7 @@ use super::refusals::flaws;
 use super::walk::{any_bytes, compare_reads, compare_split, sizes, walk};
 use super::Outcome;
 use crate::harness::compare::Comparer;
-use crate::random::{all_permutations, Random};
+use crate::random::{small_lists, Random};
 use crate::scene::{small_shapes, Scene};
 use crate::simulator::request::Call;
 
@@ -25,7 +25,7 @@ fn compare_calls(comparer: &mut Comparer, scene: &Scene) -> Outcome {
 /// Every list of up to four pages with every choice of pinned pages.
 fn every_choice(comparer: &mut Comparer, random: &mut Random) -> Outcome {
     for (n, m) in small_shapes(4) {
-        for list in all_permutations((n * m) as usize) {
+        for list in small_lists((n * m) as usize, 4, random) {
             let shape = sizes(n as usize, m as usize, 1, random.below(3));
             let mut scene = any_bytes(shape, list, random);
             for choice in 0..1 << shape.originals() {
@@ -40,8 +40,9 @@ fn every_choice(comparer: &mut Comparer, random: &mut Random) -> Outcome {
     Ok(())
 }
 
-/// Two pages trade places: one of them pinned, and then every page but those.
-/// Two pages 256 apart have numbers with the same low byte.
+/// Two pages trade places: one of them pinned, and then every page but those;
+/// at last the first is dropped and pinned too. Two pages 256 apart have numbers
+/// with the same low byte.
 fn one_page(comparer: &mut Comparer, random: &mut Random) -> Outcome {
     let shapes = [(3, 3), (7, 5), (16, 4), (13, 5), (32, 16), (64, 64)];
     for (n, m) in shapes {
@@ -65,6 +66,9 @@ fn one_page(comparer: &mut Comparer, random: &mut Random) -> Outcome {
             compare_calls(comparer, &scene)?;
             scene.pins = random.bytes(originals);
             (scene.pins[at], scene.pins[other]) = (0, 0);
+            compare_calls(comparer, &scene)?;
+            scene.list[at] = u16::MAX;
+            scene.pins[at] = 1;
             compare_calls(comparer, &scene)?;
         }
     }
@@ -94,19 +98,18 @@ fn neighbours(comparer: &mut Comparer, random: &mut Random) -> Outcome {
     Ok(())
 }
 
-/// Whole moves with pinned pages, which travel like the others.
+/// Whole moves with all pages pinned that stay or are dropped, which travel like
+/// the others.
 fn moves(comparer: &mut Comparer, random: &mut Random) -> Outcome {
     for round in 0..150 {
         let widest = 2 + round / 15;
         let (n, m) = (random.between(1, widest), random.between(1, widest));
         let shape = sizes(n, m, random.between(1, 5), round % 3);
-        let mut scene = any_bytes(shape, random.keeping(shape.originals()), random);
-        for (k, pin) in scene.pins.iter_mut().enumerate() {
-            *pin = if scene.list[k] as usize == k {
-                1 + random.byte() % 255
-            } else {
-                0
-            };
+        let list = random.keeping(shape.originals());
+        let mut scene = any_bytes(shape, random.dropping(list), random);
+        for k in 0..shape.originals() {
+            let stays = scene.list[k] as usize == k || scene.is_dropped(k);
+            scene.pins[k] = if stays { 1 + random.byte() % 255 } else { 0 };
         }
         compare_split(comparer, &scene, random)?;
         compare_reads(comparer, &scene, 3, random)?;

@@ -1,43 +1,55 @@
 //! Calls with one flaw and with two, and the same calls without any.
 
-use super::walk::{random_scene, sizes};
+use super::walk::{both_scenes, sizes};
 use super::Outcome;
 use crate::harness::compare::Comparer;
 use crate::random::Random;
+use crate::scene::Scene;
+use crate::simulator::dropping::DROPPED;
+use crate::simulator::flash::Flash;
 use crate::simulator::request::{Call, Part, Request, CALLS};
 
 pub type Flaw = Box<dyn Fn(&mut Request)>;
 
 pub fn cases(comparer: &mut Comparer, random: &mut Random) -> Outcome {
     for (n, m, bytes) in [(1, 1, 1), (2, 1, 1), (1, 2, 2), (2, 2, 1), (3, 2, 3)] {
-        let mut scene = random_scene(sizes(n, m, bytes, random.below(3)), random);
-        let end = scene.sizes.steps() as u32;
-        // Odd and even places, so that the next step is a write or an erase.
-        let places = [0, 1, 2, end / 2, end - 1, end];
-        for place in places {
-            scene.flash = random_scene(scene.sizes, random).flash;
-            scene.run(0, place);
-            for call in CALLS {
-                let mut request = scene.request(call);
-                request.place = place;
-                request.budget = random.below(4) as u32;
-                if call == Call::Split {
-                    // Not the split itself, so that a byte laid there is seen.
-                    request.parts.sets = random.bytes(request.parts.sets.len());
-                }
-                flawed(comparer, &request)?;
-            }
+        let shape = sizes(n, m, bytes, random.below(3));
+        for scene in both_scenes(shape, random) {
+            at_places(comparer, scene, random)?;
         }
     }
     edges_accepted(comparer, random)
 }
 
+/// Each call at places of all kinds.
+fn at_places(comparer: &mut Comparer, mut scene: Scene, random: &mut Random) -> Outcome {
+    let end = scene.sizes.steps() as u32;
+    // Odd and even places, so that the next step is a write or an erase.
+    let places = [0, 1, 2, end / 2, end - 1, end];
+    for place in places {
+        scene.flash = Flash::at_rest(scene.sizes, &scene.originals);
+        scene.run(0, place);
+        for call in CALLS {
+            let mut request = scene.request(call);
+            request.place = place;
+            request.budget = random.below(4) as u32;
+            if call == Call::Split {
+                // Not the split itself, so that a byte laid there is seen.
+                request.parts.sets = random.bytes(request.parts.sets.len());
+            }
+            flawed(comparer, &request)?;
+        }
+    }
+    Ok(())
+}
+
 /// The biggest number of each size is taken, alone.
 fn edges_accepted(comparer: &mut Comparer, random: &mut Random) -> Outcome {
     for (n, m, bytes, s) in [(64, 1, 1, 0), (1, 64, 1, 1), (1, 1, 4096, 2)] {
-        let scene = random_scene(sizes(n, m, bytes, s), random);
-        for call in CALLS {
-            comparer.compare(&scene.request(call))?;
+        for scene in both_scenes(sizes(n, m, bytes, s), random) {
+            for call in CALLS {
+                comparer.compare(&scene.request(call))?;
+            }
         }
     }
     Ok(())
@@ -103,26 +115,33 @@ fn set_entry(request: &mut Request, index: usize, entry: u16) {
 
 fn list_flaws(request: &Request) -> Vec<Flaw> {
     let originals = request.sizes.originals();
-    let first = request.destinations()[0] as u16;
+    let entries = request.entries();
+    let kept = |k: &usize| entries[*k] < originals;
+    let named = (0..originals).find(kept).map_or(0, |k| entries[k]) as u16;
     let mut flaws: Vec<Flaw> = vec![
         Box::new(move |request| set_entry(request, originals - 1, originals as u16)),
-        Box::new(move |request| set_entry(request, 0, 65535)),
         // Right in its low byte.
-        Box::new(move |request| set_entry(request, 0, first + 256)),
+        Box::new(move |request| set_entry(request, 0, named + 256)),
+        // Dropped pages are no flaw of the list, but the split is of another.
+        Box::new(|request| set_entry(request, 0, 65535)),
+        Box::new(|request| request.parts.list.fill(255)),
+        Box::new(|request| set_entry(request, 0, 65534)),
+        Box::new(|request| set_entry(request, 0, 32767)),
     ];
     if originals > 1 {
+        // Met twice, unless no page is kept, or this one alone.
         flaws.push(Box::new(move |request| {
-            set_entry(request, originals - 1, first)
+            set_entry(request, originals - 1, named)
         }));
     }
     flaws
 }
 
-/// Pins on pages that move; all pinned, which is no flaw if none moves; and
-/// none pinned, which is none.
+/// Pins on pages that move; all pinned, which is no flaw if none moves; none
+/// pinned, which is none; and pins on dropped pages, which are none.
 fn pin_flaws(request: &Request) -> Vec<Flaw> {
-    let numbers = request.destinations();
-    let moving = |k: &usize| numbers[*k] != *k;
+    let numbers = request.entries();
+    let moving = |k: &usize| numbers[*k] != *k && numbers[*k] != DROPPED;
     let pin =
         |k: usize, byte: u8| -> Flaw { Box::new(move |request| request.parts.pins[k] = byte) };
     let mut flaws: Vec<Flaw> = vec![
@@ -134,6 +153,9 @@ fn pin_flaws(request: &Request) -> Vec<Flaw> {
     }
     if let Some(last) = (0..numbers.len()).rfind(moving) {
         flaws.push(pin(last, 255));
+    }
+    if let Some(dropped) = (0..numbers.len()).find(|&k| numbers[k] == DROPPED) {
+        flaws.push(pin(dropped, 1));
     }
     flaws
 }

@@ -3,13 +3,13 @@
 use super::walk::{compare_split, scene_with, sizes, walk};
 use super::Outcome;
 use crate::harness::compare::Comparer;
-use crate::random::{all_permutations, Random};
+use crate::random::{small_lists, Random};
 use crate::scene::small_shapes;
 
 pub fn cases(comparer: &mut Comparer, random: &mut Random) -> Outcome {
     for (n, m) in small_shapes(6) {
         let reads = if n * m <= 4 { 4 } else { 1 };
-        for list in all_permutations((n * m) as usize) {
+        for list in small_lists((n * m) as usize, 4, random) {
             let shape = sizes(
                 n as usize,
                 m as usize,

@@ -31,12 +31,12 @@ pub fn any_bytes(sizes: Sizes, list: Vec<u16>, random: &mut Random) -> Scene {
     pinned(Scene::at_rest(sizes, list, originals), random)
 }
 
-/// Some of the pages that the list leaves where they are get a pin.
+/// Some of the pages that the list leaves where they are, or drops, get a pin.
 fn pinned(mut scene: Scene, random: &mut Random) -> Scene {
-    for (k, pin) in scene.pins.iter_mut().enumerate() {
-        if scene.list[k] as usize == k {
+    for k in 0..scene.pins.len() {
+        if scene.list[k] as usize == k || scene.is_dropped(k) {
             let any = random.byte();
-            *pin = *random.pick(&[0, 1, 255, any]);
+            scene.pins[k] = *random.pick(&[0, 1, 255, any]);
         }
     }
     scene
@@ -64,16 +64,25 @@ pub fn pages(sizes: Sizes, random: &mut Random) -> Vec<u8> {
     originals
 }
 
-/// Any list; one in three keeps some of its pages.
-pub fn any_list(sizes: &Sizes, random: &mut Random) -> Vec<u16> {
+/// A list without drops; one in three leaves some of its pages where they are.
+pub fn kept_list(sizes: &Sizes, random: &mut Random) -> Vec<u16> {
     match random.one_in(3) {
         true => random.keeping(sizes.originals()),
         false => random.permutation(sizes.originals()),
     }
 }
 
+/// One scene whose list drops nothing, and one whose list does.
+pub fn both_scenes(sizes: Sizes, random: &mut Random) -> [Scene; 2] {
+    let kept = kept_list(&sizes, random);
+    let dropping = random.with_drops(kept.clone());
+    [kept, dropping].map(|list| scene_with(sizes, list, random))
+}
+
+/// Half of the lists drop pages.
 pub fn random_scene(sizes: Sizes, random: &mut Random) -> Scene {
-    let list = any_list(&sizes, random);
+    let list = kept_list(&sizes, random);
+    let list = random.dropping(list);
     scene_with(sizes, list, random)
 }
 

@@ -17,14 +17,15 @@ pub fn cases(comparer: &mut Comparer, random: &mut Random) -> Outcome {
     mixed(comparer, random)
 }
 
-/// Two blocks of one page of two bytes, which trade places or stay, with each
-/// choice of these bytes: the sum of two of them can be 255, or another.
+/// Two blocks of one page of two bytes, which trade places, stay or are
+/// dropped, with each choice of these bytes: the sum of two of them can be 255, or another.
 fn every_store(comparer: &mut Comparer, random: &mut Random) -> Outcome {
     const BYTES: [u8; 4] = [255, 0, 3, 252];
     for choice in 0..256 {
         let originals: Vec<u8> = (0..4).map(|i| BYTES[choice >> (2 * i) & 3]).collect();
-        for list in [vec![0, 1], vec![1, 0]] {
-            let scene = Scene::at_rest(sizes(2, 1, 2, choice % 3), list, originals.clone());
+        for list in [[0, 1], [1, 0], [1, u16::MAX], [u16::MAX; 2]] {
+            let scene =
+                Scene::at_rest(sizes(2, 1, 2, choice % 3), list.to_vec(), originals.clone());
             comparer.compare(&scene.run_request(0, u32::MAX))?;
             walk(comparer, &scene, 1, 2, random)?;
         }
@@ -58,6 +59,7 @@ fn mixed(comparer: &mut Comparer, random: &mut Random) -> Outcome {
     for (round, (n, m, bytes)) in shapes.into_iter().cycle().take(40).enumerate() {
         let shape = sizes(n, m, bytes, round % 3);
         let list = random.permutation(shape.originals());
+        let list = random.dropping(list);
         let scene = Scene::at_rest(shape, list, pages(shape, random));
         compare_split(comparer, &scene, random)?;
         comparer.compare(&scene.run_request(0, u32::MAX))?;

@@ -14,8 +14,8 @@ decode-requires c κs = search needs
 sizes-of-requires : tie.Need-sizes-of-requires
 sizes-of-requires c κs = search needs
 
-array-share-prefix-entries : tie.Need-array-share-prefix-entries
-array-share-prefix-entries c = omega (arith, count-fits _ _ _ (c .before .before .decode .ensures .0))
+array-borrow-prefix-entries : tie.Need-array-borrow-prefix-entries
+array-borrow-prefix-entries c = omega (arith, count-fits _ _ _ (c .before .before .decode .ensures .0))
 
 slice-aggregate-run : tie.Need-slice-aggregate-run
 slice-aggregate-run c =
@@ -36,10 +36,10 @@ same-length-3 c = search needs
 
 returns : tie.Need-returns
 returns c =
-    let done = c .before .before .before .before .before .before in
+    let done = c .before .before .before .before .before .before .before in
     let z = done .before .before .before .before .before in
     let d = z .before .before .decode .ensures in
-    rw (z .sizes-of .ensures) at (run-exported _ _ _ _ _ (front-is _ _ _ _ (d .0) (d .1)) _ _ _ _ _ (done .run .ensures))
+    rw (z .sizes-of .ensures) at (run-exported _ _ _ _ _ (front-is _ _ _ _ (d .0) (d .1)) _ _ _ _ _ (done .run .ensures .0))
 
 pub mover-run-spec : {M : Type 1} → statement M
 mover-run-spec =
@@ -48,7 +48,7 @@ mover-run-spec =
     slice-aggregate-decode
     decode-requires
     sizes-of-requires
-    array-share-prefix-entries
+    array-borrow-prefix-entries
     slice-aggregate-run
     run-requires
     same-length

@@ -14,8 +14,8 @@ decode-requires c κs = search needs
 sizes-of-requires : tie.Need-sizes-of-requires
 sizes-of-requires c κs = search needs
 
-array-share-prefix-entries : tie.Need-array-share-prefix-entries
-array-share-prefix-entries c = omega (arith, count-fits _ _ _ (c .before .before .decode .ensures .0))
+array-borrow-prefix-entries : tie.Need-array-borrow-prefix-entries
+array-borrow-prefix-entries c = omega (arith, count-fits _ _ _ (c .before .before .decode .ensures .0))
 
 slice-aggregate-split : tie.Need-slice-aggregate-split
 slice-aggregate-split c =
@@ -30,12 +30,12 @@ same-length c = search needs
 
 returns : tie.Need-returns
 returns c =
-    let done = c .before .before in
+    let done = c .before .before .before in
     let z = done .before .before .before in
     let d = z .before .before .decode .ensures in
-    rw (z .sizes-of .ensures) at (split-exported _ _ _ _ _ (front-is _ _ _ _ (d .0) (d .1)) _ (done .split .ensures))
+    rw (z .sizes-of .ensures) at (split-exported _ _ _ _ _ (front-is _ _ _ _ (d .0) (d .1)) _ (done .split .ensures .0))
 
 pub mover-split-spec : {M : Type 1} → statement M
 mover-split-spec =
     tie.close
-    (tie.spec slice-aggregate-decode decode-requires sizes-of-requires array-share-prefix-entries slice-aggregate-split split-requires same-length returns)
+    (tie.spec slice-aggregate-decode decode-requires sizes-of-requires array-borrow-prefix-entries slice-aggregate-split split-requires same-length returns)

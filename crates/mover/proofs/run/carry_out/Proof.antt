@@ -14,8 +14,8 @@ add-if1 c = search needs
 
 take-steps-requires : tie.Need-take-steps-requires
 take-steps-requires c κs =
-    let P = c .before .before .before .before .before .before .before .before .before .before .before .pre in
-    (P .0, P .1, P .2, P .3, λ many. absurd (true≢false many))
+    let P = c .before .before .before .before .before .before .before .before .before .before .before .before .before .pre in
+    (P .0, P .1, P .2, P .3, (λ many. absurd (true≢false many)), P .4)
 
 same-length : tie.Need-same-length
 same-length c = search needs
@@ -31,13 +31,13 @@ returns c = search needs
 
 pages-table-requires : tie.Need-pages-table-requires
 pages-table-requires c κs =
-    let start = c .before .before .before .before .before .before .before .before in
+    let start = c .before .before .before .before .before .before .before .before .before .before in
     (start .pre .0 .ranges, sets-in (moved start) (start .pre .0), refl)
 
 pages-are : (c : tie.After-pages-table)
-    → PagesTable (moved (c .before .before .before .before .before .before .before .before .before)) (c .pages-table .last .1 .1 .0)
+    → PagesTable (moved (c .before .before .before .before .before .before .before .before .before .before .before)) (c .pages-table .last .1 .1 .0)
 pages-are c =
-    let start = c .before .before .before .before .before .before .before .before .before in
+    let start = c .before .before .before .before .before .before .before .before .before .before .before in
     rw (c .pages-table .ensures, start .pre .0 .sets-length) (pages-tell (moved start) (start .pre .0) _ refl)
 
 slice-aggregate-take-steps : tie.Need-slice-aggregate-take-steps
@@ -46,8 +46,8 @@ slice-aggregate-take-steps c = sym (pages-are (c .before .before .before .before
 take-steps-requires-2 : tie.Need-take-steps-requires-2
 take-steps-requires-2 c κs =
     let T = c .before .before .before .before .before in
-    let P = T .before .before .before .before .before .before .before .before .before .pre in
-    (P .0, P .1, P .2, P .3, λ many. pages-are T)
+    let P = T .before .before .before .before .before .before .before .before .before .before .before .pre in
+    (P .0, P .1, P .2, P .3, (λ many. pages-are T), P .4)
 
 same-length-4 : tie.Need-same-length-4
 same-length-4 c = search needs

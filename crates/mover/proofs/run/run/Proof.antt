@@ -1,11 +1,15 @@
 -- The run answers as its definition does: refused by a row of the table, or carried out.
-use Rattle.flash.proofs.Kit.{_≡_, sym, _∙_, [], needs}
+use Rattle.flash.proofs.Kit.{_≡_, refl, sym, ap, _∙_, subst, [], ℕ, needs}
+use Rattle.flash.specs.Lists.{any}
 use Rattle.flash.specs.Tables.{refusal}
 use Rattle.flash.specs.Chip.{Chip}
+use Rattle.split.specs.Drops.{completed, listLeft}
 use Rattle.split.specs.Request.{Request, requestOf}
-use Rattle.method.specs.Move.{AcceptedMove, Lent, move}
-use Rattle.method.specs.Answers.{moveRows}
-use Rattle.method.proofs.basics.AcceptedCalls.{move-accepted}
+use Rattle.split.specs.inner.Dropping.{DropsTold}
+use Rattle.method.specs.Move.{AcceptedMove, Lent, move, Plan}
+use Rattle.method.specs.Answers.{RunAnswer, stepsTaken, moveRows, runCarriedOut}
+use Rattle.method.proofs.basics.AcceptedCalls.{ListFits, move-accepted}
+use Rattle.mover.proofs.PlanLaws.{left-0, move-told, plan-told, drops-told}
 use Rattle.mover.proofs.RefusalLaws.{refused-by-move, refused-by-place, not-refused}
 use Rattle.mover.proofs.run.run.Statement.{statement}
 use Rattle.mover.proofs.run.run.Tie as tie
@@ -16,37 +20,47 @@ asked c = requestOf (c .args .sizes) (c .args .list .now) (c .args .pins .now) (
 abbrev chip : tie.Start → Chip
 chip c = record { store = c .args .store .now; marks = c .args .marks .now }
 
+abbrev begun : tie.After-move-refusal → tie.Start
+begun c = c .before .before .before .before .before .before .before .before .before .before .before .before .before .before
+
 move-refusal-requires : tie.Need-move-refusal-requires
-move-refusal-requires c κs = search needs
+move-refusal-requires c κs = (refl, refl)
 
 refused-requires : tie.Need-refused-requires
 refused-requires c κs = search needs
 
-same-length : tie.Need-same-length
-same-length c = search needs
-
-same-length-2 : tie.Need-same-length-2
-same-length-2 c = search needs
-
-same-length-3 : tie.Need-same-length-3
-same-length-3 c = search needs
-
 returns : tie.Need-returns
 returns c =
-    let r = c .before .before in
-    let s = r .before .before .before .before .before .before .before .before .before .before .before in
-    refused-by-move (asked s) (chip s) (s .args .work .now) (s .args .place) (s .args .budget)
-    (r .move-refusal .result) (r .move-refusal .ensures .0) (c .before .if1 .taken) _ (c .refused .ensures)
+    let r = c .before .before .before .before in
+    let s = begun r in (
+      refused-by-move (asked s) (chip s) (s .args .work .now) (s .args .place) (s .args .budget)
+          (r .move-refusal .result) (r .move-refusal .ensures .0) (c .before .if1 .taken) _ (c .refused .ensures),
+      rw (c .refused .ensures) (r .move-refusal .ensures .1 .0),
+    )
 
 -- ---- past the rows of the move
+abbrev judged : tie.Else1 → tie.After-move-refusal
+judged c = c .before .before .before
+
 abbrev start : tie.Else1 → tie.Start
-start c = c .before .before .before .before .before .before .before .before .before .before .before .before
+start c = begun (judged c)
 
 none : (c : tie.Else1) → 0 ≡ refusal (moveRows (asked (start c)) (chip (start c)) (start c .args .work .now) [])
-none c = sym (c .if1 .left) ∙ c .before .move-refusal .ensures .0
+none c = sym (c .if1 .left) ∙ judged c .move-refusal .ensures .0
 
-accepted : (c : tie.Else1) → AcceptedMove (move (asked (start c))) × Lent (start c .args .sizes) (chip (start c)) (start c .args .work .now)
-accepted c = (let g = move-accepted (asked (start c)) (chip (start c)) (start c .args .work .now) [] (sym (none c)) in (g .0, g .1))
+accepted : (c : tie.Else1)
+    → AcceptedMove (move (asked (start c))) × Lent (start c .args .sizes) (chip (start c)) (start c .args .work .now) × ListFits (asked (start c))
+accepted c = (let g = move-accepted (asked (start c)) (chip (start c)) (start c .args .work .now) [] (sym (none c)) in (g .0, g .1, g .2))
+
+-- the list is completed
+left : (c : tie.Else1) → judged c .move-refusal .last .1 .0 ≡ completed (start c .args .list .now)
+left c =
+    let list = start c .args .list .now in
+    judged c .move-refusal .ensures .1 .0 ∙ ap (λ (x : ℕ). listLeft x list) (c .if1 .left) ∙ left-0 list
+
+told : (c : tie.Else1) → (let l = judged c .move-refusal .last in
+    DropsTold (start c .args .list .now) (l .1 .1 .1 .1 .1 .1 .1 .1 .0) (l .1 .1 .1 .1 .1 .1 .1 .1 .1 .0))
+told c = judged c .move-refusal .ensures .1 .1 (c .if1 .left) .1
 
 is-elsewhere-requires : tie.Need-is-elsewhere-requires
 is-elsewhere-requires c κs = (let g = accepted (c .before .before) in (g .0 .ranges, g .1 .marks-length, g .1 .store-length))
@@ -54,48 +68,51 @@ is-elsewhere-requires c κs = (let g = accepted (c .before .before) in (g .0 .ra
 refused-requires-2 : tie.Need-refused-requires-2
 refused-requires-2 c κs = search needs
 
-same-length-4 : tie.Need-same-length-4
-same-length-4 c = search needs
-
-same-length-5 : tie.Need-same-length-5
-same-length-5 c = search needs
-
-same-length-6 : tie.Need-same-length-6
-same-length-6 c = search needs
-
 returns-2 : tie.Need-returns-2
+unfolding listLeft any
 returns-2 c =
     let e = c .before .before in
     let f = e .before .before .before in
-    let s = start f in
-    refused-by-place (asked s) (chip s) (s .args .work .now) (s .args .place) (s .args .budget)
-    (none f) (sym (c .before .if2 .taken) ∙ e .is-elsewhere .ensures) _ (c .refused2 .ensures)
+    let s = start f in (
+      refused-by-place (asked s) (chip s) (s .args .work .now) (s .args .place) (s .args .budget)
+          (none f) (sym (c .before .if2 .taken) ∙ e .is-elsewhere .ensures) _ (c .refused2 .ensures),
+      rw (c .refused2 .ensures) (left f),
+    )
 
 -- ---- past row 5
+slice-aggregate-carry-out : tie.Need-slice-aggregate-carry-out
+slice-aggregate-carry-out c = sym (told (c .before .before .before .before .before .before .before .before .before .before) .pages-length)
+
+slice-aggregate-carry-out-2 : tie.Need-slice-aggregate-carry-out-2
+slice-aggregate-carry-out-2 c = sym (told (c .before .before .before .before .before .before .before .before .before .before .before) .places-length)
+
 carry-out-requires : tie.Need-carry-out-requires
 carry-out-requires c κs =
-    let e = c .before .before .before .before in
+    let e = c .before .before .before .before .before .before .before in
     let f = e .before .before .before .before in
+    let R = asked (start f) in
     let g = accepted f in
-    (g .0, g .1, sym (e .before .is-elsewhere .ensures) ∙ e .if2 .left, f .before .move-refusal .ensures .1 (f .if1 .left))
-
-same-length-7 : tie.Need-same-length-7
-same-length-7 c = search needs
-
-same-length-8 : tie.Need-same-length-8
-same-length-8 c = search needs
-
-same-length-9 : tie.Need-same-length-9
-same-length-9 c = search needs
+    let same = move-told R _ _ _ (left f) (told f) in (
+      subst AcceptedMove (sym same) (g .0),
+      g .1,
+      sym (e .before .is-elsewhere .ensures) ∙ e .if2 .left,
+      judged f .move-refusal .ensures .1 .1 (f .if1 .left) .0,
+      drops-told R _ _ _ (left f) (told f) (g .2),
+    )
 
 returns-3 : tie.Need-returns-3
+unfolding listLeft any runCarriedOut
 returns-3 c =
     let r = c .before .before .before .before .before .before in
-    let e = r .before .before .before .before .before in
+    let e = r .before .before .before .before .before .before .before .before in
     let f = e .before .before .before .before in
     let s = start f in
-    not-refused (asked s) (chip s) (s .args .work .now) (s .args .place) (s .args .budget)
-    (none f) (sym (e .if2 .left) ∙ e .before .is-elsewhere .ensures) _ (r .carry-out .ensures)
+    let a = s .args in
+    let same = plan-told (asked s) _ _ _ (left f) (told f) in (
+      not-refused (asked s) (chip s) (a .work .now) (a .place) (a .budget) (none f) (sym (e .if2 .left) ∙ e .before .is-elsewhere .ensures) _
+          (r .carry-out .ensures ∙ ap (λ (X : Plan). runCarriedOut X (chip s) (a .work .now) (a .place) (stepsTaken (a .sizes) (a .place) (a .budget))) same),
+      left f ∙ ap (λ (x : ℕ). listLeft x (a .list .now)) (sym (ap (λ (ran : RunAnswer). ran .number) (r .carry-out .ensures))),
+    )
 
 pub run-spec : {M : Type 1} → statement M
 run-spec =
@@ -103,18 +120,23 @@ run-spec =
     (tie.spec
     move-refusal-requires
     refused-requires
-    same-length
-    same-length-2
-    same-length-3
+    (λ c. search needs)
+    (λ c. search needs)
+    (λ c. search needs)
+    (λ c. search needs)
     returns
     is-elsewhere-requires
     refused-requires-2
-    same-length-4
-    same-length-5
-    same-length-6
+    (λ c. search needs)
+    (λ c. search needs)
+    (λ c. search needs)
+    (λ c. search needs)
     returns-2
+    slice-aggregate-carry-out
+    slice-aggregate-carry-out-2
     carry-out-requires
-    same-length-7
-    same-length-8
-    same-length-9
+    (λ c. search needs)
+    (λ c. search needs)
+    (λ c. search needs)
+    (λ c. search needs)
     returns-3)

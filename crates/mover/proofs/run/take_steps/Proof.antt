@@ -4,13 +4,14 @@ use Rattle.flash.specs.Lists.{part}
 use Rattle.flash.specs.Chip.{Chip, pageAt}
 use Rattle.flash.proofs.Bools.{never-both}
 use Rattle.method.specs.declared.tally.Tally.{Tally}
-use Rattle.method.specs.Move.{Move, moveOf}
+use Rattle.method.specs.Move.{Plan, moveOf}
 use Rattle.method.specs.Place.{lastPlace}
 use Rattle.method.specs.Step.{Running, runningOf, steps, tallyOf}
 use Rattle.method.proofs.basics.AcceptedCalls.{stands-at}
 use Rattle.method.proofs.places.Tallies.{few-tallied}
 use Rattle.method.proofs.states.StepsLeadOn.{Stood}
 use Rattle.walk.specs.inner.Slots.{slotsLength}
+use Rattle.walk.specs.inner.Terms.{planBy}
 use Rattle.places.specs.inner.Place.{placeOf}
 use Rattle.places.proofs.PlaceLaws.{last-small, number-is, is-place}
 use Rattle.mover.specs.inner.Steps.{OtherTable, lastSlot}
@@ -19,16 +20,16 @@ use Rattle.mover.proofs.run.take_steps.Statement.{statement}
 use Rattle.mover.proofs.run.take_steps.Tie as tie
 
 abbrev Inv-loop : tie.InvT-loop
-Inv-loop sizes list sets store₀ marks₀ work place budget few pages other₀ tally₀ slots₀ last taken reciprocal at₀ held₀ i₀ store marks other tally slots at held i =
-    _≡_ {A = Chip} (record { store = store; marks = marks }) (steps (moveOf sizes list sets) i place (runningOf store₀ marks₀ work) .chip)
-    × (tally ≡ tallyOf (moveOf sizes list sets) i place (runningOf store₀ marks₀ work)) × (at ≡ placeOf sizes (place + i)) × (i ≤ taken) × OtherTable (moveOf sizes list sets) held other
+Inv-loop sizes list sets store₀ marks₀ work place budget few pages other₀ drops places tally₀ slots₀ last taken reciprocal at₀ held₀ i₀ store marks other tally slots at held i =
+    _≡_ {A = Chip} (record { store = store; marks = marks }) (steps (planBy sizes list sets drops) i place (runningOf store₀ marks₀ work) .chip)
+    × (tally ≡ tallyOf (planBy sizes list sets drops) i place (runningOf store₀ marks₀ work)) × (at ≡ placeOf sizes (place + i)) × (i ≤ taken) × OtherTable (moveOf sizes list sets) held other
     × (length slots ≡ slotsLength)
 
 abbrev μ-loop : tie.MeasureT-loop
-μ-loop sizes list sets store₀ marks₀ work place budget few pages other₀ tally₀ slots₀ last taken reciprocal at₀ held₀ i₀ store marks other tally slots at held i = taken - i
+μ-loop sizes list sets store₀ marks₀ work place budget few pages other₀ drops places tally₀ slots₀ last taken reciprocal at₀ held₀ i₀ store marks other tally slots at held i = taken - i
 
-abbrev moved : tie.Start Inv-loop μ-loop → Move
-moved c = moveOf (c .args .sizes) (c .args .list .now) (c .args .sets .now)
+abbrev planned : tie.Start Inv-loop μ-loop → Plan
+planned c = planBy (c .args .sizes) (c .args .list .now) (c .args .sets .now) (c .args .drops .now)
 
 abbrev from : tie.Start Inv-loop μ-loop → Running
 from c = runningOf (c .args .store .now) (c .args .marks .now) (c .args .work .now)
@@ -38,7 +39,7 @@ last-place-requires c κs = search needs
 
 sub-smaller : tie.Need-sub-smaller Inv-loop μ-loop
 sub-smaller c =
-    let start = c .before .before .before .before .before .before .before .before in
+    let start = c .before .before .before .before .before .before .before .before .before .before in
     omega (arith, c .last-place .ensures, stands-at (start .args .sizes) (from start .chip) (start .args .place) (start .pre .2) .inside)
 
 smaller-requires : tie.Need-smaller-requires Inv-loop μ-loop
@@ -46,22 +47,22 @@ smaller-requires c κs = search needs
 
 -- the steps are in the move, and the move has few
 placed : (c : tie.After-smaller Inv-loop μ-loop)
-    → (let a = c .before .before .before .before .before .before .before .before .before .args in
+    → (let a = c .before .before .before .before .before .before .before .before .before .before .before .args in
     (a .place + c .smaller .result ≤ lastPlace (a .sizes)) × (lastPlace (a .sizes) ≤ 8320))
 placed c =
-    let start = c .before .before .before .before .before .before .before .before .before in
+    let start = c .before .before .before .before .before .before .before .before .before .before .before in
     let in-move = stands-at (start .args .sizes) (from start .chip) (start .args .place) (start .pre .2) .inside in
     (omega (arith, c .smaller .ensures, c .before .last-place .ensures), last-small (start .args .sizes) (start .pre .0 .ranges))
 
 reciprocal-requires : tie.Need-reciprocal-requires Inv-loop μ-loop
-reciprocal-requires c κs = c .before .before .before .before .before .before .before .before .before .pre .0 .ranges .m-low
+reciprocal-requires c κs = c .before .before .before .before .before .before .before .before .before .before .before .pre .0 .ranges .m-low
 
 new-requires : tie.Need-new-requires Inv-loop μ-loop
-new-requires c κs = (c .before .before .before .before .before .before .before .before .before .before .pre .0 .ranges, omega (arith, placed (c .before)))
+new-requires c κs = (c .before .before .before .before .before .before .before .before .before .before .before .before .pre .0 .ranges, omega (arith, placed (c .before)))
 
 loop-holds : tie.Need-loop-holds Inv-loop μ-loop
 loop-holds c =
-    let start = c .before .before .before .before .before .before .before .before .before .before .before in
+    let start = c .before .before .before .before .before .before .before .before .before .before .before .before .before in
     let first : start .args .place ≡ start .args .place + 0 = omega arith in (
       none-taken _ _ _,
       c .before .before .before .before .nothing-done .ensures ∙ none-counted _ _ _,
@@ -73,16 +74,16 @@ loop-holds c =
 
 -- where the loop stands
 abbrev start : tie.At-loop Inv-loop μ-loop → tie.Start Inv-loop μ-loop
-start c = c .before .before .before .before .before .before .before .before .before .before .before .before
+start c = c .before .before .before .before .before .before .before .before .before .before .before .before .before .before
 
 standing : (c : tie.At-loop Inv-loop μ-loop)
     → (let l = c .loop in let s = start c in
     let chip : Chip = record { store = l .store; marks = l .marks } in
-    Stood (moved s) (s .pre .0) (record { chip = chip; work = steps (moved s) (l .i) (s .args .place) (from s) .work }) (s .args .place + l .i))
+    Stood (planned s) (s .pre .0) (record { chip = chip; work = steps (planned s) (l .i) (s .args .place) (from s) .work }) (s .args .place + l .i))
 standing c =
     let s = start c in
     let in-move = placed (c .before .before .before) in
-    goes-on (moved s) (s .pre .0) (from s) (s .args .place) (s .pre .1) (s .pre .2) (c .loop .i) (omega arith) _ (c .loop .inv .0)
+    goes-on (planned s) (s .pre .0) (from s) (s .args .place) (s .pre .1) (s .pre .2) (c .loop .i) (omega arith) _ (c .loop .inv .0)
 
 inside : (c : tie.In-loop Inv-loop μ-loop)
     → (let s = start (c .before) in (s .args .place + c .before .loop .i < lastPlace (s .args .sizes)) × (lastPlace (s .args .sizes) ≤ 8320))
@@ -99,10 +100,11 @@ step-requires c κs =
     let S = standing loop in
     let lent = S .lent in
     let in-move = inside (c .before .before .before .before .before .before .before .before) in
-    let few = counts-fit (moved s) (s .pre .0) (from s) (s .args .place) (s .pre .1) (s .pre .2) (l .i) (l .tally) (omega arith) (l .inv .1) in
+    let few = counts-fit (planned s) (s .pre .0) (from s) (s .args .place) (s .pre .1) (s .pre .2) (l .i) (l .tally) (omega arith) (l .inv .1) in
     let at = number-is _ _ _ (l .inv .2) in (
       record {
         accepted = s .pre .0;
+        drops-in = s .pre .5;
         pages-tell = s .pre .4;
         other-tells = c .before .before .before .before .before .fill-other .ensures;
         room = omega (arith, c .before .before .before .step-arg2 .given);
@@ -130,9 +132,9 @@ loop-again c =
     let l = inner .before .loop in
     let at : l .at .at ≡ s .args .place + l .i = number-is _ _ _ (l .inv .2) in
     let on : l .at .at + 1 ≡ s .args .place + (l .i + 1) = omega arith in (
-      one-taken (moved s) (s .args .place) (l .i) (from s) _ _ (l .inv .0)
+      one-taken (planned s) (s .args .place) (l .i) (from s) _ _ (l .inv .0)
           (rw at at (step .step .ensures .0 .0)),
-      one-counted (moved s) (s .args .place) (l .i) (from s) _ _ _ (l .inv .0) (l .inv .1) (rw at at (step .step .ensures .0 .1)),
+      one-counted (planned s) (s .args .place) (l .i) (from s) _ _ _ (l .inv .0) (l .inv .1) (rw at at (step .step .ensures .0 .1)),
       c .next .ensures ∙ ap (placeOf (s .args .sizes)) on,
       omega arith,
       step .before .before .before .before .before .before .fill-other .ensures,
@@ -147,7 +149,7 @@ sub-keep-last-page : tie.Need-sub-keep-last-page Inv-loop μ-loop
 sub-keep-last-page c =
     let l = c .before .before .before .before in
     let s = start l in
-    let few = few-tallied (moved s) (l .loop .i) (s .args .place) (from s) (omega (arith, placed (l .before .before .before))) in
+    let few = few-tallied (planned s) (l .loop .i) (s .args .place) (from s) (omega (arith, placed (l .before .before .before))) in
     omega (arith, ap (λ (t : Tally). t .writes) (l .loop .inv .1), c .before .if1 .taken)
 
 keep-last-page-requires : tie.Need-keep-last-page-requires Inv-loop μ-loop
@@ -158,18 +160,18 @@ keep-last-page-requires c κs =
 
 -- the work page that is left
 work-is : (c : tie.Joined1 Inv-loop μ-loop) → (let l = c .before .before .before in let s = start l in
-    c .if1 .work ≡ steps (moved s) (l .loop .i) (s .args .place) (from s) .work)
+    c .if1 .work ≡ steps (planned s) (l .loop .i) (s .args .place) (from s) .work)
 unfolding pageAt
 work-is c =
     let l = c .before .before .before in
     let s = start l in
     let Z = s .args .sizes in
     let in-move = placed (l .before .before .before) in
-    let L = work-left (moved s) (s .pre .0) (from s) (s .args .place) (s .pre .1) (s .pre .2) (l .loop .i) (omega arith) in
+    let L = work-left (planned s) (s .pre .0) (from s) (s .args .place) (s .pre .1) (s .pre .2) (l .loop .i) (omega arith) in
     let writes = ap (λ (t : Tally). t .writes) (l .loop .inv .1) in
     let all : l .before .before .before .smaller .result ≡ l .loop .i = omega arith in
     let there : part (Z .p) (lastSlot Z (s .args .place + l .before .before .before .smaller .result - 1)) (l .loop .store)
-    ≡ pageAt (Z .p) (steps (moved s) (l .loop .i) (s .args .place) (from s) .chip) (lastSlot Z (s .args .place + l .loop .i - 1)) =
+    ≡ pageAt (Z .p) (steps (planned s) (l .loop .i) (s .args .place) (from s) .chip) (lastSlot Z (s .args .place + l .loop .i - 1)) =
     ap₂ (λ (i : ℕ) (chip : Chip). pageAt (Z .p) chip (lastSlot Z (s .args .place + i - 1))) all (l .loop .inv .0) in
     ⊎-elim
     (λ t. t .6 ∙ t .3 .ensures ∙ there ∙ sym (L .new (omega (arith, t .0 .taken))))
@@ -197,8 +199,8 @@ returns c =
     let smaller = l .before .before .before in
     let all : l .loop .i ≡ smaller .smaller .result = omega arith in
     let s = start l in
-    let work : c .if1 .work ≡ steps (moved s) (smaller .smaller .result) (s .args .place) (from s) .work =
-    work-is c ∙ ap (λ (i : ℕ). steps (moved s) i (s .args .place) (from s) .work) all in
+    let work : c .if1 .work ≡ steps (planned s) (smaller .smaller .result) (s .args .place) (from s) .work =
+    work-is c ∙ ap (λ (i : ℕ). steps (planned s) i (s .args .place) (from s) .work) all in
     carried _ _ _ _ _ _ _ _ _ _ _ _ (smaller .before .last-place .ensures) (smaller .smaller .ensures)
     (rw all at (l .loop .inv .0)) work (rw all at (l .loop .inv .1))
 

@@ -1,21 +1,25 @@
 -- A step does the operation of its place, and counts it.
 use Rattle.flash.proofs.Kit.{refl, sym, _∙_, subst, Bool, _+_, _*_, _≤_, _<_, arith, needs}
 use Rattle.flash.proofs.Bounds.{slot-in-marks, slot-in-store, block-in-marks, block-in-store, product-le}
-use Rattle.method.specs.Move.{Move, moveOf}
+use Rattle.method.specs.Move.{Move, moveOf, Plan}
 use Rattle.method.specs.Place.{write, erase, done, operationAt}
 use Rattle.method.specs.Step.{perform, tallied}
 use Rattle.places.specs.inner.Place.{passOf}
 use Rattle.places.proofs.StepTold.{IsWrite, is-write, IsErase, is-erase, told-done}
+use Rattle.walk.specs.inner.Terms.{planBy}
 use Rattle.mover.specs.inner.Steps.{PassTables}
 use Rattle.mover.proofs.StepLaws.{wrote, wrote-bytes, stepped, WriteKnown, write-known}
 use Rattle.mover.proofs.step.step.Statement.{statement}
 use Rattle.mover.proofs.step.step.Tie as tie
 
 abbrev start : tie.After-operation → tie.Start
-start c = c .before .before .before .before .before .before .before
+start c = c .before .before .before .before .before .before .before .before .before
 
 abbrev moved : tie.Start → Move
 moved c = moveOf (c .args .sizes) (c .args .list .now) (c .args .sets .now)
+
+abbrev planned : tie.Start → Plan
+planned c = planBy (c .args .sizes) (c .args .list .now) (c .args .sets .now) (c .args .drops .now)
 
 operation-requires : tie.Need-operation-requires
 operation-requires c κs = search needs
@@ -46,11 +50,11 @@ inside c =
     let W = writes c in
     (slot-in-marks Z (v .1 .0) (v .1 .1 .0) (W .block-in) (W .page-in), product-le (Z .n + 1) (Z .m) {c = 65} {d = 64} (omega (arith, R .n-high)) (R .m-high))
 
-write-slots-requires : tie.Need-write-slots-requires
-write-slots-requires c κs =
+write-terms-requires : tie.Need-write-terms-requires
+write-terms-requires c κs =
     let s = start (c .before .before .before .before) in
     let W = writes (c .before .before) in
-    let tables = subst (λ (t : Bool). PassTables (moved s) (s .args .few) t (s .args .pages .now) (s .args .other .now)) (known (c .before .before) .pass-is) (s .pre .0) in
+    let tables = subst (λ (t : Bool). PassTables (moved s) (s .args .few) t (s .args .pages .now) (s .args .other .now) (s .args .drops .now) (s .args .places .now)) (known (c .before .before) .pass-is) (s .pre .0) in
     (tables, (s .pre .1 .0, s .pre .1 .3, W .page-in, W .block-in, W .low, W .high))
 
 mul-slot : tie.Need-mul-slot
@@ -59,14 +63,14 @@ mul-slot c = omega (arith, inside (c .before .before .before .before))
 add-slot : tie.Need-add-slot
 add-slot c = omega (arith, inside (c .before .before .before .before))
 
-sum-to-slot-requires : tie.Need-sum-to-slot-requires
-sum-to-slot-requires c κs =
+total-to-slot-requires : tie.Need-total-to-slot-requires
+total-to-slot-requires c κs =
     let b = c .before .before .before .before .before .before .before in
     let s = start (b .before .before) in
-    let F = c .before .before .before .before .write-slots .ensures .0 in
+    let F = c .before .before .before .before .write-terms .ensures .0 in
     let fits = slot-in-store (s .args .sizes) in (
-      (F .0, omega (arith, F .1, F .2), omega (arith, F .1), rw (s .pre .1 .4) (fits _ (inside b .0))),
-      ((λ j h. rw (s .pre .1 .4) (fits _ (F .3 j h .0))), λ j h. F .3 j h .1),
+      (omega (arith, F .0, F .1), omega (arith, F .0), rw (s .pre .1 .4) (fits _ (inside b .0))),
+      ((λ j h. rw (s .pre .1 .4) (fits _ (F .2 j h .0))), λ j h. F .2 j h .1),
     )
 
 slice-write-marks : tie.Need-slice-write-marks
@@ -85,13 +89,13 @@ cast-tally : tie.Need-cast-tally
 cast-tally c =
     let w = c .before .before .before .before in
     let s = start (w .before .before .before .before .before .before .before .before .before .before) in
-    omega (arith, w .sum-to-slot .ensures .2, s .pre .0 .accepted .ranges .p-high)
+    omega (arith, w .total-to-slot .ensures .2, s .pre .0 .accepted .ranges .p-high)
 
 add-tally-3 : tie.Need-add-tally-3
 add-tally-3 c =
     let w = c .before .before .before .before .before in
     let s = start (w .before .before .before .before .before .before .before .before .before .before) in
-    omega (arith, w .sum-to-slot .ensures .2, s .pre .0 .accepted .ranges .p-high, s .pre .1 .6)
+    omega (arith, w .total-to-slot .ensures .2, s .pre .0 .accepted .ranges .p-high, s .pre .1 .6)
 
 -- ---- it is this erase
 enum-known-block : tie.Need-enum-known-block
@@ -127,19 +131,18 @@ same-length-2 c = search needs
 returns : tie.Need-returns
 unfolding tallied
 returns c =
-    let summed = c .before .before .before .before .before .sum-to-slot .ensures in
+    let summed = c .before .before .before .before .before .total-to-slot .ensures in
     let w = c .before .before .before .before .before .before .before .before .before .before in
     let b = w .before .before .before in
     let s = start (b .before .before) in
     let a = s .args in
     let v = b .backward .given .0 in
     let W = writes b in
-    let sums = w .write-slots .ensures .1 (a .marks .now) (known b .moment-is) in
     let pass = passOf (v .0) in
-    let bytes = wrote-bytes (moved s) pass (v .1 .0) (v .1 .1 .0) (a .store .now) (a .marks .now) _ (w .write-slots .result) _ (summed .1) sums in
-    stepped (moved s) (a .place .at) (write pass (v .1 .0) (v .1 .1 .0)) (W .is) _ _ _ _
-    (wrote (moved s) pass (v .1 .0) (v .1 .1 .0) (a .store .now) (a .marks .now) _ _ (w .write-slots .result) (v .1 .1 .1 .0) (summed .0) sums (W .mark-is))
-    (rw (← bytes)) (w .write-slots .ensures .0 .2)
+    let sums = w .write-terms .ensures .1 (a .marks .now) (known b .shape) in
+    stepped (planned s) (a .place .at) (write pass (v .1 .0) (v .1 .1 .0)) (W .is) _ _ _ _
+    (wrote (planned s) pass (v .1 .0) (v .1 .1 .0) (a .store .now) (a .marks .now) (s .pre .1 .4) _ _ sums _ (v .1 .1 .1 .0) (summed .0) (W .mark-is))
+    (rw (← wrote-bytes (planned s) pass (v .1 .0) (v .1 .1 .0) (a .store .now) (a .marks .now) (s .pre .1 .4) _ _ sums _ (summed .1))) (w .write-terms .ensures .0 .1)
 
 same-length-3 : tie.Need-same-length-3
 same-length-3 c = search needs
@@ -153,14 +156,14 @@ returns-2 c =
     let e = c .before .before .before .before .before .before in
     let b = e .before .before .before .before in
     let s = start (b .before .before) in
-    stepped (moved s) (s .args .place .at) (erase (b .block .given .0 .0)) (erases b .is) _ _ _ _ (e .erase-block .ensures) refl (s .pre .1 .3)
+    stepped (planned s) (s .args .place .at) (erase (b .block .given .0 .0)) (erases b .is) _ _ _ _ (e .erase-block .ensures) refl (s .pre .1 .3)
 
 returns-3 : tie.Need-returns-3
 unfolding perform tallied
 returns-3 c =
     let s = start (c .before .before) in
     let Z = s .args .sizes in
-    stepped (moved s) (s .args .place .at) done
+    stepped (planned s) (s .args .place .at) done
     (told-done Z (operationAt Z (s .args .place .at)) (sym (c .enum-told .given .1) ∙ c .before .before .operation .ensures)) _ _ _ _ refl refl (s .pre .1 .3)
 
 pub step-spec : {M : Type 1} → statement M
@@ -169,10 +172,10 @@ step-spec =
     (tie.spec
     operation-requires
     enum-known-backward
-    write-slots-requires
+    write-terms-requires
     mul-slot
     add-slot
-    sum-to-slot-requires
+    total-to-slot-requires
     slice-write-marks
     add-tally
     add-tally-2

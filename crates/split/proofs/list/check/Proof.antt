@@ -1,5 +1,5 @@
--- `check` tells whether a list is one-to-one, window by window.
-use Rattle.flash.proofs.Kit.{_≡_, sym, _∙_, _+_, _-_, _≤_, arith, below-more, needs, not-true, not-false}
+-- `check` tells whether the entries of the kept pages are one-to-one, window by window.
+use Rattle.flash.proofs.Kit.{_≡_, sym, ap, _∙_, not, _+_, _-_, _≤_, arith, below-more, needs, not-true, not-false}
 use Rattle.split.proofs.CheckLaws.{Passed, one-fails, all-differ}
 use Rattle.split.proofs.list.check.Statement.{statement}
 use Rattle.split.proofs.list.check.Tie as tie
@@ -28,7 +28,7 @@ window-passed c =
 returns : tie.Need-returns Inv-loop μ-loop
 returns c =
     let d = c .before in
-    sym (one-fails _ _ (d .before .before .loop .window) (sym (d .differ-within .ensures) ∙ not-true _ (c .if1 .taken)))
+    sym (ap not (one-fails _ _ (d .before .before .loop .window) (sym (d .differ-within .ensures) ∙ not-true _ (c .if1 .taken))))
 
 add-if2 : tie.Need-add-if2 Inv-loop μ-loop
 add-if2 c = search needs
@@ -39,7 +39,7 @@ mul-if2 c = search needs
 returns-2 : tie.Need-returns-2 Inv-loop μ-loop
 returns-2 c =
     let l = c .before .before .before .before .loop in
-    sym (all-differ _ _ (l .window + 1) (omega arith) (window-passed (c .before)) (λ k h small. omega arith))
+    sym (ap not (all-differ _ _ (l .window + 1) (omega arith) (window-passed (c .before)) (λ k h small. omega arith)))
 
 add-window : tie.Need-add-window Inv-loop μ-loop
 add-window c = search needs
@@ -54,8 +54,8 @@ returns-3 : tie.Need-returns-3 Inv-loop μ-loop
 returns-3 c =
     let l = c .before .loop in
     let e : l .window ≡ 16 = omega arith in
-    sym (all-differ _ _ (l .window) (omega arith) (l .inv .1)
-    (λ k h small. omega (arith, c .before .before .shared-slice-known .given k)))
+    sym (ap not (all-differ _ _ (l .window) (omega arith) (l .inv .1)
+    (λ k h small. omega (arith, c .before .before .shared-slice-known .given k))))
 
 pub check-spec : {M : Type 1} → statement M
 check-spec = tie.close (tie.spec Inv-loop μ-loop loop-holds differ-within-requires returns add-if2 mul-if2 returns-2 add-window loop-less loop-again returns-3)

@@ -1,5 +1,5 @@
 -- A list is refused or listed as the output has it, and judged before it is cut to 16 bits.
-use Rattle.flash.proofs.Kit.{arith, _≡_, sym, ap, _∙_, not-true, not-false, needs}
+use Rattle.flash.proofs.Kit.{arith, _≡_, sym, ap, _∙_, not-true, not-false, needs, length}
 use Rattle.split.specs.Request.{unpinned}
 use Rattle.split.specs.Answer.{SplitAnswer, splitAnswer}
 use Rattle.steplist.specs.inner.Given.{judgedList, judgedSets}
@@ -49,8 +49,9 @@ put-entries-requires c κs =
 
 split-unpinned-requires : tie.Need-split-unpinned-requires
 split-unpinned-requires c κs =
-    let l = bounded _ (c .before .before .before .before .before .before .before .before .before .before .before .before .before .pre .0 .allowed) in
-    (l .few-blocks, l .few-pages)
+    let start = c .before .before .before .before .before .before .before .before .before .before .before .before .before in
+    let l = bounded _ (start .pre .0 .allowed) in
+    (l .few-blocks, l .few-pages, ap length (c .before .before .before .before .put-entries .ensures) ∙ start .pre .0 .list-length)
 
 put-refused-requires-2 : tie.Need-put-refused-requires-2
 put-refused-requires-2 c κs = omega (arith, refused-short 3 (omega arith))

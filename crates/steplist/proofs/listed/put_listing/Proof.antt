@@ -1,7 +1,7 @@
 -- The loop over the places shows every step once and counts them; with the end line that is the listing of the move.
 use Rattle.flash.proofs.Kit.{_≡_, refl, _+_, _-_, _≤_, arith, length, needs}
 use Rattle.split.specs.Request.{unpinned}
-use Rattle.method.specs.Move.{moveOf}
+use Rattle.method.specs.Move.{plan}
 use Rattle.steplist.proofs.LengthLaws.{few-steps, end-short}
 use Rattle.method.specs.Place.{lastPlace}
 use Rattle.method.specs.Step.{runningOf}
@@ -11,7 +11,7 @@ use Rattle.steplist.proofs.listed.put_listing.Tie as tie
 
 abbrev Inv-loop : tie.InvT-loop
 Inv-loop out₀ sizes list sets store₀ marks₀ work₀ last at₀ writes₀ erases₀ place₀ out store marks work at writes erases place =
-    Shows (moveOf sizes list sets) (runningOf store₀ marks₀ work₀) place at writes erases out₀ out store marks work
+    Shows (plan (unpinned sizes list sets)) (runningOf store₀ marks₀ work₀) place at writes erases out₀ out store marks work
     × (place ≤ last) × (length out ≡ length out₀) × (length store ≡ length store₀) × (length marks ≡ length marks₀) × (length work ≡ length work₀)
 
 abbrev μ-loop : tie.MeasureT-loop
@@ -20,11 +20,11 @@ abbrev μ-loop : tie.MeasureT-loop
 -- a step more is shown
 shown : (c : tie.After-put-step Inv-loop μ-loop)
     → (let a = c .before .before .before .before .before .before .before .before .before .before .before .before .before .before .args in let l = c .before .before .before .before .before .before .loop in let r = c .put-step .result in
-    Shows (moveOf (a .sizes) (a .list .now) (a .sets .now)) (runningOf (a .store .now) (a .marks .now) (a .work .now)) (l .place + 1) (r .at) (l .writes + r .writes) (l .erases + r .erases) (a .out .now) (c .put-step .last .0) (c .put-step .last .1 .1 .1 .1 .1 .0) (c .put-step .last .1 .1 .1 .1 .1 .1 .0) (c .put-step .last .1 .1 .1 .1 .1 .1 .1 .0))
+    Shows (plan (unpinned (a .sizes) (a .list .now) (a .sets .now))) (runningOf (a .store .now) (a .marks .now) (a .work .now)) (l .place + 1) (r .at) (l .writes + r .writes) (l .erases + r .erases) (a .out .now) (c .put-step .last .0) (c .put-step .last .1 .1 .1 .1 .1 .0) (c .put-step .last .1 .1 .1 .1 .1 .1 .0) (c .put-step .last .1 .1 .1 .1 .1 .1 .1 .0))
 shown c =
     let a = c .before .before .before .before .before .before .before .before .before .before .before .before .before .before .args in
     let l = c .before .before .before .before .before .before .loop in
-    shows-more (moveOf (a .sizes) (a .list .now) (a .sets .now)) (runningOf (a .store .now) (a .marks .now) (a .work .now)) (l .place) (l .at) (l .writes) (l .erases) _ _ _ _ _ _ _ _ _ (c .put-step .result) (l .inv .0) (c .put-step .ensures)
+    shows-more (plan (unpinned (a .sizes) (a .list .now) (a .sets .now))) (runningOf (a .store .now) (a .marks .now) (a .work .now)) (l .place) (l .at) (l .writes) (l .erases) _ _ _ _ _ _ _ _ _ (c .put-step .result) (l .inv .0) (c .put-step .ensures)
 
 -- and few steps are counted
 counted : (c : tie.After-put-step Inv-loop μ-loop)
@@ -35,7 +35,7 @@ counted c =
 
 -- behind the loop all steps are shown
 all-steps : (c : tie.After-loop Inv-loop μ-loop) → (let a = c .before .before .before .before .before .before .before .before .before .args in let l = c .before .loop in
-    Shows (moveOf (a .sizes) (a .list .now) (a .sets .now)) (runningOf (a .store .now) (a .marks .now) (a .work .now)) (lastPlace (a .sizes)) (l .at) (l .writes) (l .erases) (a .out .now) (l .out) (l .store) (l .marks) (l .work))
+    Shows (plan (unpinned (a .sizes) (a .list .now) (a .sets .now))) (runningOf (a .store .now) (a .marks .now) (a .work .now)) (lastPlace (a .sizes)) (l .at) (l .writes) (l .erases) (a .out .now) (l .out) (l .store) (l .marks) (l .work))
 all-steps c =
     let all : c .before .loop .place ≡ lastPlace (c .before .before .before .before .before .before .before .before .before .args .sizes) = omega (arith, c .before .before .last-place .ensures) in
     rw all at (c .before .loop .inv .0)
@@ -46,7 +46,7 @@ last-place-requires c κs = (omega (arith, c .before .before .before .before .be
 loop-holds : tie.Need-loop-holds Inv-loop μ-loop
 loop-holds c =
     let a = c .before .before .before .before .before .before .before .args in
-    (shows-none (moveOf (a .sizes) (a .list .now) (a .sets .now)) (runningOf (a .store .now) (a .marks .now) (a .work .now)) (a .out .now), omega arith, refl, refl, refl, refl)
+    (shows-none (plan (unpinned (a .sizes) (a .list .now) (a .sets .now))) (runningOf (a .store .now) (a .marks .now) (a .work .now)) (a .out .now), omega arith, refl, refl, refl, refl)
 
 put-step-requires : tie.Need-put-step-requires Inv-loop μ-loop
 put-step-requires c κs =

@@ -1,7 +1,7 @@
 -- One step is taken as the run takes it, and its line printed.
 use Rattle.flash.proofs.Kit.{_∙_, arith, needs}
 use Rattle.split.specs.Request.{unpinned}
-use Rattle.method.specs.Move.{moveOf}
+use Rattle.method.specs.Move.{plan}
 use Rattle.method.specs.Step.{runningOf}
 use Rattle.method.proofs.basics.AcceptedCalls.{run-taken}
 use Rattle.steplist.proofs.StepLaws.{OneStep, one-step}
@@ -11,7 +11,7 @@ use Rattle.steplist.proofs.listed.put_step.Tie as tie
 -- what the run left and counted
 told : (c : tie.After-run-unpinned)
     → (let a = c .before .before .before .before .before .before .before .before .before .before .args in let l = c .run-unpinned .last in
-    OneStep (moveOf (a .sizes) (a .list .now) (a .sets .now)) (runningOf (a .store .now) (a .marks .now) (a .work .now)) (a .place) (c .run-unpinned .result) (l .1 .1 .1 .0) (l .1 .1 .1 .1 .0) (l .1 .1 .1 .1 .1 .0))
+    OneStep (plan (unpinned (a .sizes) (a .list .now) (a .sets .now))) (runningOf (a .store .now) (a .marks .now) (a .work .now)) (a .place) (c .run-unpinned .result) (l .1 .1 .1 .0) (l .1 .1 .1 .1 .0) (l .1 .1 .1 .1 .1 .0))
 told c =
     let start = c .before .before .before .before .before .before .before .before .before .before in
     let a = start .args in
@@ -20,7 +20,9 @@ told c =
 run-unpinned-requires : tie.Need-run-unpinned-requires
 run-unpinned-requires c κs =
     let start = c .before .before .before .before .before .before .before .before .before in
-    (start .pre .0 .few-blocks, start .pre .0 .few-pages)
+    let a = start .args in
+    let fits = run-taken (unpinned (a .sizes) (a .list .now) (a .sets .now)) _ _ (a .place) (start .pre .0 .taken) .fits in
+    (start .pre .0 .few-blocks, start .pre .0 .few-pages, fits .list-length)
 
 put-line-requires : tie.Need-put-line-requires
 put-line-requires c κs =

@@ -1,0 +1,11 @@
+/* What the files of the test from C share. */
+#ifndef CALLS_H
+#define CALLS_H
+
+/* Counts a check, and prints what it was if it failed. */
+void check(const char *what, int good);
+
+/* Lists with dropped pages. */
+void drops_checked(void);
+
+#endif
