@@ -1,13 +1,13 @@
 -- Worked cases with dropped pages, as those of Cases.antt: the program's case with its last page dropped, step by step, and what is refused.
 use mathlib.Core.Path.{_≡_}
-use mathlib.Core.List.{List, [], _∷_}
-use Prim.Native.Nat.{ℕ}
+use mathlib.Core.List.{[], _∷_}
 use Rattle.flash.specs.Chip.{Chip}
 use Rattle.split.specs.Drops.{completed}
 use Rattle.split.specs.Request.{Request, requestOf, unpinned}
 use Rattle.split.specs.Answer.{splitAnswer}
 use Rattle.method.specs.Move.{plan}
 use Rattle.method.specs.Answers.{runAnswer, readAnswer}
+use Rattle.method.specs.Runs.{Start}
 use Rattle.method.specs.Cases.{W, E, listing, Reaches, sizes, chip, junk, counts, ran, small, three, threeAtRest, ListRefused}
 
 -- page 2 is dropped, and place 0 is free: the completed list is that of `three`
@@ -38,6 +38,8 @@ abbrev thrownAll : Request
 thrownAll = small 3 (65535 ∷ 65535 ∷ 65535 ∷ [])
 
 pub record DropCasesHold : Type 0 where
+  -- the premises of demand 3 can be met with a list that drops pages
+  pub starts : Start thrown threeAtRest
   -- dropped pages and free places are paired, both ascending
   pub pairs : (completed (65535 ∷ 3 ∷ 65535 ∷ 65535 ∷ 0 ∷ []) ≡ 1 ∷ 3 ∷ 2 ∷ 4 ∷ 0 ∷ [])
       × (completed (thrown .list) ≡ three .list)

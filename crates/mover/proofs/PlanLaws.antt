@@ -9,7 +9,7 @@ use Rattle.split.specs.inner.Mask.{isMarked}
 use Rattle.split.specs.inner.Dropping.{DropsTold}
 use Rattle.split.proofs.DropLaws.{undropped-each}
 use Rattle.split.proofs.MarkLaws.{unmarked}
-use Rattle.method.specs.Move.{Move, moveOf, move, Plan, plan}
+use Rattle.method.specs.Move.{moveOf, move, Plan, plan}
 use Rattle.method.proofs.basics.AcceptedCalls.{ListFits}
 use Rattle.walk.specs.inner.Terms.{planBy}
 use Rattle.mover.specs.inner.Steps.{DropsIn}

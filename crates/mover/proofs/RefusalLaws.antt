@@ -1,5 +1,5 @@
 -- Rows 1, 2, 3, 11 and 4 of the table, and what a move is given that they do not refuse.
-use Rattle.flash.proofs.Kit.{_≡_, refl, _∙_, _≢_, Bool, true, false, cond, _&&_, not, List, [], _∷_, ℕ, _*_, arith, eqb, length, ne-eqb}
+use Rattle.flash.proofs.Kit.{_≡_, refl, _∙_, _≢_, Bool, true, false, cond, _&&_, not, List, [], _∷_, ℕ, _*_, arith, eqb, ne-eqb}
 use Rattle.flash.specs.Lists.{any}
 use Rattle.flash.specs.Tables.{Row, firstFit, numberOr0, refusal}
 use Rattle.flash.specs.declared.sizes.Sizes.{Sizes}
@@ -14,7 +14,6 @@ use Rattle.split.proofs.DropLaws.{undropped-completed, undropped-bad}
 use Rattle.method.specs.Move.{move, plan}
 use Rattle.method.specs.Step.{nothingDone}
 use Rattle.method.specs.Answers.{badParts, isElsewhere, moveRows, runRows, RunAnswer, stepsTaken, runCarriedOut, runRefused, runAnswer}
-use Rattle.method.proofs.basics.AcceptedCalls.{parts-ok}
 use Rattle.mover.specs.Answers.{ranAs}
 use Rattle.mover.specs.declared.run.RunResult.{RunResult}
 

@@ -3,7 +3,7 @@ use Rattle.flash.proofs.Kit.{[], _≡_, refl, sym, ap, _∙_, subst, ⊎-elim, 
 use Rattle.flash.proofs.Kit.{length, getD, set, take, drop}
 use Rattle.flash.specs.Lists.{part, setPart}
 use Rattle.flash.specs.declared.sizes.Sizes.{Sizes}
-use Rattle.flash.specs.Geometry.{slot, numberAt, originalCount, storeLength}
+use Rattle.flash.specs.Geometry.{slot, numberAt, storeLength}
 use Rattle.flash.specs.PageSum.{writtenBytes}
 use Rattle.flash.specs.Chip.{Chip, writePage}
 use Rattle.flash.specs.inner.Totals.{totalPage}

@@ -1,6 +1,6 @@
 -- What whole pages hold, which the proofs about a move start from, and what they count as in sums.
-use Rattle.flash.proofs.Kit.{_≡_, refl, sym, ap, ap₂, _∙_, _≢_, ⊎-elim, true, false, cond, _&&_, and-true, and-false, List, ℕ, _+_, _-_, _*_, _/_, _%_, _≤_, _<_}
-use Rattle.flash.proofs.Kit.{arith, div-add-mod', suc-mul, length, getD, length-replicate, eqb, eq-eqb, ne-eqb}
+use Rattle.flash.proofs.Kit.{_≡_, sym, ap, _∙_, _≢_, ⊎-elim, true, false, and-false, List, ℕ, _-_, _*_, _/_, _≤_, _<_}
+use Rattle.flash.proofs.Kit.{arith, div-add-mod', suc-mul, length, getD, length-replicate, eq-eqb, ne-eqb}
 use Rattle.flash.specs.Lists.{part}
 use Rattle.flash.specs.declared.sizes.Sizes.{Sizes}
 use Rattle.flash.specs.Geometry.{slot, slotOf, originalCount, letter}
@@ -10,7 +10,7 @@ use Rattle.flash.proofs.Bools.{bool-cases}
 use Rattle.flash.proofs.Parts.{part-fits, length-part}
 use Rattle.method.specs.Move.{Move, Plan}
 use Rattle.method.specs.Cycle.{coded}
-use Rattle.method.specs.Read.{Term, stored, filler, fillerPage, termPage, termAt}
+use Rattle.method.specs.Read.{stored, filler, fillerPage, termPage, termAt}
 use Rattle.method.specs.State.{countsAs}
 
 -- it goes by the page's slot and its letter

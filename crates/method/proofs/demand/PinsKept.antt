@@ -1,6 +1,6 @@
 -- A pinned page is kept as every other, and its entry is its own number: so it ends where it lay.
-use Rattle.flash.proofs.Kit.{_≡_, refl, sym, _∙_, Bool, true, false, _&&_, not, List, [], _∷_, ℕ, _<_, arith, eqb, length, getD, eqb-true, not-false}
-use Rattle.flash.specs.Geometry.{slotOf, originalCount}
+use Rattle.flash.proofs.Kit.{_≡_, Bool, true, false, _&&_, not, List, [], _∷_, ℕ, _<_, arith, eqb, length, getD, eqb-true, not-false}
+use Rattle.flash.specs.Geometry.{originalCount}
 use Rattle.flash.specs.Chip.{Chip}
 use Rattle.flash.proofs.Ranges.{none-in}
 use Rattle.split.specs.Drops.{isDropped}
@@ -8,9 +8,8 @@ use Rattle.split.specs.Pins.{isPinned, movesPinned}
 use Rattle.split.specs.Request.{Request}
 use Rattle.method.specs.Runs.{Start}
 use Rattle.method.specs.Events.{History}
-use Rattle.method.specs.Demand3.{Keeps, AtEach, Demand3}
+use Rattle.method.specs.Demand3.{Keeps, AtEach}
 use Rattle.method.specs.PinsStay.{Pinned, PinsStay}
-use Rattle.method.proofs.basics.AcceptedCalls.{ListFits}
 use Rattle.method.proofs.states.RunsAddUp.{start-fits}
 use Rattle.method.proofs.demand.EveryEvent.{demand-3}
 

@@ -7,6 +7,7 @@ use Rattle.method.proofs.basics.Open.{all-open}
 pub drop-cases-hold : DropCasesHold
 unfolding all-open listing lineOf chipsFrom
 drop-cases-hold = record {
+  starts = record { store-length = refl; marks-length = refl; at-rest = refl; list-accepted = refl; split-correct = refl };
   pairs = (refl, refl, refl, refl);
   lines = refl;
   inner-lines = refl;

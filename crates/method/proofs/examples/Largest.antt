@@ -16,7 +16,7 @@ use Rattle.split.proofs.DropLaws.{undropped-completed}
 use Rattle.method.specs.Move.{plan}
 use Rattle.method.specs.Read.{storedSlots, readTerms, readPage}
 use Rattle.method.specs.Mend.{seen, reading}
-use Rattle.method.specs.Answers.{badParts, fitsNone, isElsewhere, moveRows, runRows, readRows, stepsTaken, runCarriedOut, runAnswer, ReadAnswer, readGives, readAnswer}
+use Rattle.method.specs.Answers.{badParts, fitsNone, isElsewhere, moveRows, runRows, readRows, stepsTaken, runCarriedOut, runAnswer, readGives, readAnswer}
 use Rattle.method.specs.Cases.{sizes, junk, counts, ran, small, resting}
 use Rattle.method.proofs.basics.Open.{all-open}
 use Rattle.method.proofs.states.RunsAddUp.{run-answer}

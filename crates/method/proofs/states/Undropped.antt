@@ -1,7 +1,7 @@
 -- With nothing dropped, the terms of a sum are the slots.
-use Rattle.flash.proofs.Kit.{_≡_, refl, sym, ap, ap₂, _∙_, fun-ext, Bool, false, and-false, List, [], _∷_, map, ℕ}
+use Rattle.flash.proofs.Kit.{_≡_, refl, sym, ap, ap₂, _∙_, fun-ext, Bool, and-false, List, [], _∷_, map, ℕ}
 use Rattle.flash.specs.Lists.{concatMap}
-use Rattle.flash.specs.PageSum.{_⊕_, sum}
+use Rattle.flash.specs.PageSum.{sum}
 use Rattle.flash.specs.Chip.{Chip, pageAt}
 use Rattle.flash.proofs.Sums.{sum-map}
 use Rattle.split.proofs.DropLaws.{undropped-each, undropped-completed}

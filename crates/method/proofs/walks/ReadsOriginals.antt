@@ -1,6 +1,6 @@
 -- Read's rules on marks that fit: every original is the sum of at most n pages of full blocks.
 use Rattle.flash.proofs.Kit.{_≡_, refl, sym, _∙_, _⊎_, ⊎-elim, _≢_, true, false, _||_, or-true, List, [], _∷_, ℕ, _+_, _-_, _*_, _≤_, _<_, arith, length}
-use Rattle.flash.specs.Lists.{range, any, part}
+use Rattle.flash.specs.Lists.{range, any}
 use Rattle.flash.specs.declared.sizes.Sizes.{Sizes}
 use Rattle.flash.specs.Geometry.{blockOf, originalCount, letter}
 use Rattle.flash.specs.Chip.{Chip}

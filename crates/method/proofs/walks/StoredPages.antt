@@ -1,5 +1,5 @@
 -- Slots of full blocks and what their pages hold, and lists of such slots that sum to an original.
-use Rattle.flash.proofs.Kit.{_≡_, sym, ap, ap₂, _∙_, _⊎_, inl, inr, ⊎-elim, _≢_, true, List, [], _∷_, ℕ, zero, suc, _+_, _-_, _*_, _/_, _%_, _≤_, _<_}
+use Rattle.flash.proofs.Kit.{_≡_, sym, ap, ap₂, _∙_, _⊎_, inl, inr, ⊎-elim, _≢_, true, List, [], _∷_, ℕ, zero, suc, _+_, _-_, _/_, _%_, _≤_, _<_}
 use Rattle.flash.proofs.Kit.{mod-lt, arith, length, getD, lt-ltb}
 use Rattle.flash.specs.declared.sizes.Sizes.{Sizes}
 use Rattle.flash.specs.Geometry.{isLetter, slot, blockOf, originalCount, slotCount, letter}

@@ -1,14 +1,14 @@
 -- From the slots of a walk to the terms of a sum: what a read adds, and that 255s are added at most once.
-use Rattle.flash.proofs.Kit.{_≡_, refl, sym, ap, _∙_, subst, _⊎_, inl, inr, ⊎-elim, _≢_, true, false, _&&_, List, [], _∷_, map, ℕ, zero, suc, _-_, _≤_, _<_, arith}
+use Rattle.flash.proofs.Kit.{_≡_, refl, sym, ap, _∙_, _⊎_, inl, inr, ⊎-elim, true, false, _&&_, List, [], _∷_, map, ℕ, suc, _-_, _≤_, _<_, arith}
 use Rattle.flash.proofs.Kit.{length, getD, eqb}
 use Rattle.flash.specs.declared.sizes.Sizes.{Sizes}
 use Rattle.flash.specs.Geometry.{letter}
 use Rattle.flash.specs.PageSum.{_⊕_, sum}
 use Rattle.flash.specs.Chip.{Chip, pageAt, markAt}
 use Rattle.flash.proofs.Bools.{bool-cases}
-use Rattle.flash.proofs.Sums.{⊕-nil, ⊕-comm, ⊕-assoc, sum-one, sum-map}
+use Rattle.flash.proofs.Sums.{⊕-nil, ⊕-assoc, sum-one, sum-map}
 use Rattle.method.specs.Move.{Plan}
-use Rattle.method.specs.Read.{Term, stored, filler, fillerPage, termPage, storedSlots, termAt, readSlots, readTerms, readPage}
+use Rattle.method.specs.Read.{stored, filler, fillerPage, termPage, storedSlots, termAt, readSlots, readTerms, readPage}
 use Rattle.method.proofs.basics.EachNumber.{Each, each-cons}
 use Rattle.method.proofs.basics.MoveShape.{counted, term-other}
 

@@ -7,7 +7,7 @@ use Rattle.flash.proofs.Bounds.{slot-in-store}
 use Rattle.split.specs.Drops.{completed, listLeft}
 use Rattle.split.specs.Request.{Request, requestOf}
 use Rattle.split.specs.inner.Dropping.{DropsTold}
-use Rattle.method.specs.Move.{AcceptedMove, Lent, moveOf, move, Plan, plan}
+use Rattle.method.specs.Move.{AcceptedMove, Lent, move, Plan, plan}
 use Rattle.method.specs.Read.{readTerms, readPage}
 use Rattle.method.specs.Answers.{moveRows}
 use Rattle.method.proofs.basics.AcceptedCalls.{move-accepted}

@@ -1,5 +1,5 @@
 -- What is summed for a write, gathered by the rows of its set in the pass that it is of.
-use Rattle.flash.proofs.Kit.{refl, arith, needs}
+use Rattle.flash.proofs.Kit.{refl, arith}
 use Rattle.mover.proofs.StepLaws.{drop-sent}
 use Rattle.method.specs.Move.{moveOf}
 use Rattle.mover.proofs.step.row_terms.Statement.{statement}

@@ -1,5 +1,5 @@
 -- The run with a copy of the list, and as many zeros for pins as there are pages.
-use Rattle.flash.proofs.Kit.{_≡_, sym, ap, ap₂, _∙_, List, ℕ, _*_, _≤_, arith, needs, length}
+use Rattle.flash.proofs.Kit.{_≡_, sym, ap, ap₂, _∙_, List, ℕ, _≤_, arith, needs, length}
 use Rattle.split.specs.Request.{requestOf}
 use Rattle.method.specs.Answers.{runAnswer}
 use Rattle.listing.proofs.InputLaws.{few-originals}
