@@ -72,7 +72,7 @@ pub fn move_refusal(
         return 2;
     }
     if has_drop(list) {
-        let number = list_refusal(list, pins, original_count(sizes));
+        let number = list_refusal(list, pins, original_count(sizes), places);
         if number != 0 {
             return number;
         }

@@ -1,175 +1,103 @@
--- The check of a list, window by window: a table of bits tells which entries of a window were met.
-use Rattle.flash.proofs.Kit.{_≡_, refl, sym, ap, _∙_, inl, inr, _≢_, ⊎-elim, true, false, List, ℕ, _+_, _*_, _/_, _%_, _≤_, _<_, arith}
-use Rattle.flash.proofs.Kit.{not-suc-le-zero, below-more, eqb, ltb, length, getD, replicate, eq-eqb, ne-eqb, ltb-true, lt-ltb, not-true}
+-- The check of a list, entry by entry: marks tell which numbers the kept pages met so far are sent to.
+use Rattle.flash.proofs.Kit.{_≡_, refl, sym, ap, _∙_, _≢_, ⊎-elim, true, false, _||_, or-true, List, ℕ, _+_, _≤_, _<_, arith}
+use Rattle.flash.proofs.Kit.{not-suc-le-zero, below-more, eqb, length, getD, replicate, eqb-true, eq-eqb}
 use Rattle.split.specs.OneToOne.{dropped, badList}
 use Rattle.split.specs.Drops.{isDropped}
-use Rattle.split.specs.inner.Window.{isGood, differWithin}
-use Rattle.split.specs.inner.Mask.{bitAt, FlippedAt}
-use Rattle.flash.proofs.Bools.{bool-cases, never-both, fails, and-left, and-right}
-use Rattle.flash.proofs.Ranges.{all-in, all-is, all-not, none-in, none-is}
+use Rattle.split.specs.inner.Mask.{isMarked}
+use Rattle.split.specs.inner.Dropping.{KeptMarked}
+use Rattle.flash.proofs.Bools.{bool-cases, never-both, or-cases}
 use Rattle.flash.proofs.Comparisons.{eq-cases, ne-lt}
-use Rattle.split.proofs.MaskLaws.{zeros-at, no-bits, bit-lt}
-use Rattle.split.proofs.DropLaws.{kept-of, good-of}
+use Rattle.split.proofs.MarkLaws.{unmarked}
+use Rattle.split.proofs.DropLaws.{kept-of, good-of, kept-some, none-kept}
 
--- ---- one entry
 same-drop : (list : List ℕ) (i j : ℕ) → getD list i 0 ≡ getD list j 0 → isDropped list i ≡ isDropped list j
 unfolding isDropped
 same-drop list i j e = ap (λ (x : ℕ). eqb x dropped) e
 
-module _ (originals window : ℕ) (list : List ℕ) (k : ℕ) where
-  pub good-dropped : isDropped list k ≡ true → isGood originals window list k ≡ true
-  unfolding isGood
-  good-dropped d = rw d
-
-  module _ (kept : isDropped list k ≡ false) where
-    good-lt : isGood originals window list k ≡ true → getD list k 0 < originals
-    unfolding isGood
-    good-lt e = ltb-true _ _ (and-left (ltb (getD list k 0) originals) _ (rw kept at e))
-
-    -- a good entry of the window differs from those before it
-    good-new : isGood originals window list k ≡ true → getD list k 0 / 4096 ≡ window → (j : ℕ) → j < k → getD list j 0 ≢ getD list k 0
-    unfolding isGood
-    good-new e w j h q =
-        let new = rw (eq-eqb _ window w) at (and-right (ltb (getD list k 0) originals) _ (rw kept at e)) in
-        never-both (eq-eqb _ _ q) (none-in (λ j. eqb (getD list j 0) (getD list k 0)) 0 k (not-true _ new) j (omega arith) (omega arith))
-
-    pub good-kept : getD list k 0 < originals
-        → (getD list k 0 / 4096 ≡ window → (j : ℕ) → j < k → getD list j 0 ≢ getD list k 0) → isGood originals window list k ≡ true
-    unfolding isGood
-    good-kept small new = rw (kept, lt-ltb _ _ small) (⊎-elim
-        (λ (w : getD list k 0 / 4096 ≡ window).
-        rw (none-is (λ j. eqb (getD list j 0) (getD list k 0)) 0 k (λ j a h. ne-eqb _ _ (new w j (omega arith))), eq-eqb _ window w))
-        (λ (w : getD list k 0 / 4096 ≢ window). rw (ne-eqb _ window w))
-        (eq-cases (getD list k 0 / 4096) window))
-
--- ---- one window
-halves : (a : ℕ) → a / 4096 ≡ a / 64 / 64
-halves a = omega arith
-
--- numbers of one window that share a bit are the same
-same-number : (a b : ℕ) → a / 4096 ≡ b / 4096 → a / 64 % 64 ≡ b / 64 % 64 → a % 64 ≡ b % 64 → a ≡ b
-same-number a b window mask bit = joined a b (joined (a / 64) (b / 64) (sym (halves a) ∙ window ∙ halves b) mask) bit
-  where
-    joined : (a b : ℕ) → a / 64 ≡ b / 64 → a % 64 ≡ b % 64 → a ≡ b
-    joined a b p q = omega arith
-
--- the bit of an entry
-abbrev pub bitOf : (seen : List ℕ) (entry : ℕ) → ℕ
-bitOf seen entry = bitAt (getD seen (entry / 64 % 64) 0) (entry % 64)
-
--- the first k entries are good, and the bits tell which of them lie in the window
-pub record Seen (originals window : ℕ) (list seen : List ℕ) (k : ℕ) : Type 0 where
+-- of the first k entries those of kept pages are small, differ and are marked, and nothing else is
+pub record Checked (originals : ℕ) (list marks : List ℕ) (k : ℕ) : Type 0 where
   pub within : k ≤ length list
-  pub good : (j : ℕ) → j < k → isGood originals window list j ≡ true
-  pub marked : (j : ℕ) → j < k → isDropped list j ≡ false → getD list j 0 / 4096 ≡ window → bitOf seen (getD list j 0) ≡ 1
-  pub only : (entry : ℕ) → entry / 4096 ≡ window → bitOf seen entry ≡ 1 → (j : ℕ) × (j < k) × (getD list j 0 ≡ entry)
+  pub sized : length marks ≡ 64
+  pub small : (j : ℕ) → j < k → isDropped list j ≡ false → getD list j 0 < originals
+  pub apart : (j : ℕ) → j < k → isDropped list j ≡ false → (i : ℕ) → i < j → getD list i 0 ≢ getD list j 0
+  pub marked : (j : ℕ) → j < k → isDropped list j ≡ false → isMarked marks (getD list j 0) ≡ true
+  pub only : (x : ℕ) → isMarked marks x ≡ true → (j : ℕ) × (j < k) × (isDropped list j ≡ false) × (getD list j 0 ≡ x)
 
-pub nothing-seen : (originals window n : ℕ) (list : List ℕ) → Seen originals window list (replicate n 0) 0
-nothing-seen originals window n list = record {
+pub none-checked : (originals : ℕ) (list marks : List ℕ) → marks ≡ replicate 64 0 → length marks ≡ 64 → Checked originals list marks 0
+none-checked originals list marks e sized = record {
   within = omega arith;
-  good = λ j h. absurd (not-suc-le-zero h);
+  sized = sized;
+  small = λ j h. absurd (not-suc-le-zero h);
+  apart = λ j h. absurd (not-suc-le-zero h);
   marked = λ j h. absurd (not-suc-le-zero h);
-  only = λ entry w e. absurd (no-bit entry e);
+  only = λ x m. absurd (never-both m (ap (λ (masks : List ℕ). isMarked masks x) e ∙ unmarked 64 x));
 }
-  where
-    no-bit : (entry : ℕ) → bitOf (replicate n 0) entry ≡ 1 → ⊥
-    no-bit entry e = let z = ap (λ (mask : ℕ). bitAt mask (entry % 64)) (zeros-at n (entry / 64 % 64)) ∙ no-bits (entry % 64) in omega arith
 
-module _ (originals window : ℕ) (list seen : List ℕ) (k : ℕ) (S : Seen originals window list seen k) where
-  pub all-good : length list ≤ k → differWithin originals window list ≡ true
-  unfolding differWithin
-  all-good h = all-is (isGood originals window list) 0 (length list) (λ j a l. S .good j (omega arith))
+module _ (originals : ℕ) (list marks : List ℕ) (k : ℕ) (C : Checked originals list marks k) where
+  module _ (h : length list ≤ k) where
+    pub all-checked : badList originals list ≡ false
+    all-checked = good-of originals list (record {
+      below = λ j l d. C .small j (omega arith) d;
+      distinct = λ i j l m d q. ⊎-elim
+          (λ (e : i ≡ j). e)
+          (λ (ne : i ≢ j). ⊎-elim
+          (λ (o : i < j). absurd (C .apart j (omega arith) (sym (same-drop list i j q) ∙ d) i o q))
+          (λ (o : j < i). absurd (C .apart i (omega arith) d j o (sym q)))
+          (ne-lt i j ne))
+          (eq-cases i j);
+    })
+
+    pub all-marked : KeptMarked list marks
+    all-marked = record {
+      masks-length = C .sized;
+      kept-marked = λ x. ⊎-elim
+          (λ (m : isMarked marks x ≡ true).
+          let r = C .only x m in
+          m ∙ sym (rw (r .3) at (kept-some list (r .0) (omega (arith, r .1, C .within)) (r .2))))
+          (λ (m : isMarked marks x ≡ false).
+          m ∙ sym (none-kept x list (λ j l d q. never-both (C .marked j (omega arith) d) (rw q at m))))
+          (bool-cases (isMarked marks x));
+    }
 
   module _ (more : k < length list) where
-    bad : isGood originals window list k ≡ false → differWithin originals window list ≡ false
-    unfolding differWithin
-    bad e = all-not (isGood originals window list) 0 (length list) k (omega arith) (omega arith) e
-
-    -- an entry that is not looked for in this window
-    pub one-beside : isGood originals window list k ≡ true → (isDropped list k ≡ false → getD list k 0 / 4096 ≢ window)
-        → Seen originals window list seen (k + 1)
-    one-beside good beside = record {
+    -- the page is dropped
+    pub check-dropped : isDropped list k ≡ true → Checked originals list marks (k + 1)
+    check-dropped d = record {
       within = omega arith;
-      good = below-more (λ j. isGood originals window list j ≡ true) k (S .good) good;
-      marked = below-more (λ j. isDropped list j ≡ false → getD list j 0 / 4096 ≡ window → bitOf seen (getD list j 0) ≡ 1) k (S .marked)
-          (λ d w. absurd (beside d w));
-      only = λ entry w e. let r = S .only entry w e in (r .0, omega (arith, r .1), r .2);
+      sized = C .sized;
+      small = below-more (λ j. isDropped list j ≡ false → getD list j 0 < originals) k (C .small) (λ e. absurd (never-both d e));
+      apart = below-more (λ j. isDropped list j ≡ false → (i : ℕ) → i < j → getD list i 0 ≢ getD list j 0) k (C .apart) (λ e. absurd (never-both d e));
+      marked = below-more (λ j. isDropped list j ≡ false → isMarked marks (getD list j 0) ≡ true) k (C .marked) (λ e. absurd (never-both d e));
+      only = λ x m. let r = C .only x m in (r .0, omega (arith, r .1), r .2, r .3);
     }
 
     module _ (kept : isDropped list k ≡ false) where
-      pub too-large : originals ≤ getD list k 0 → differWithin originals window list ≡ false
-      too-large h = bad (fails (λ e. let l = good-lt originals window list k kept e in omega arith))
+      refuted : (badList originals list ≡ false → ⊥) → badList originals list ≡ true
+      refuted f = ⊎-elim (λ (b : badList originals list ≡ true). b) (λ (b : badList originals list ≡ false). absurd (f b)) (bool-cases (badList originals list))
 
-      pub repeated : getD list k 0 / 4096 ≡ window → bitOf seen (getD list k 0) ≡ 1 → differWithin originals window list ≡ false
-      repeated w e = bad (fails (λ good.
-          let r = S .only (getD list k 0) w e in good-new originals window list k kept good w (r .0) (r .1) (r .2)))
+      pub too-large : originals ≤ getD list k 0 → badList originals list ≡ true
+      too-large h = refuted (λ good. let l = kept-of originals list good .below k more kept in omega arith)
 
-      -- an entry of this window, whose bit was not set
-      pub one-more : (after : List ℕ) → getD list k 0 < originals → getD list k 0 / 4096 ≡ window → bitOf seen (getD list k 0) ≢ 1
-          → FlippedAt seen (getD list k 0 / 64 % 64) (getD list k 0 % 64) after → Seen originals window list after (k + 1)
-      one-more after small here fresh flip = record {
+      pub repeated : isMarked marks (getD list k 0) ≡ true → badList originals list ≡ true
+      repeated m = refuted (λ good.
+          let r = C .only (getD list k 0) m in
+          let s : r .0 ≡ k = kept-of originals list good .distinct (r .0) k (omega (arith, r .1)) more (r .2) (r .3) in
+          omega (arith, r .1, s))
+
+      -- a number that was not met before
+      pub check-kept : (after : List ℕ) → getD list k 0 < originals → isMarked marks (getD list k 0) ≡ false → length after ≡ 64
+          → ((x : ℕ) → isMarked after x ≡ (isMarked marks x || eqb x (getD list k 0))) → Checked originals list after (k + 1)
+      check-kept after small fresh sized more-marked = record {
         within = omega arith;
-        good = below-more (λ j. isGood originals window list j ≡ true) k (S .good) (good-kept originals window list k kept small (λ w. new));
-        marked = below-more (λ j. isDropped list j ≡ false → getD list j 0 / 4096 ≡ window → bitOf after (getD list j 0) ≡ 1) k
-            (λ j l d w. other (getD list j 0) w (new j l) ∙ S .marked j l d w) (λ d w. set-now);
-        only = λ entry w e. ⊎-elim
-            (λ (q : entry ≡ getD list k 0). (k, omega arith, sym q))
-            (λ (q : entry ≢ getD list k 0). (let r = S .only entry w (sym (other entry w q) ∙ e) in (r .0, omega (arith, r .1), r .2)))
-            (eq-cases entry (getD list k 0));
+        sized = sized;
+        small = below-more (λ j. isDropped list j ≡ false → getD list j 0 < originals) k (C .small) (λ d. small);
+        apart = below-more (λ j. isDropped list j ≡ false → (i : ℕ) → i < j → getD list i 0 ≢ getD list j 0) k (C .apart)
+            (λ d i l q. never-both (C .marked i l (same-drop list i k q ∙ kept)) (rw (← q) at fresh));
+        marked = below-more (λ j. isDropped list j ≡ false → isMarked after (getD list j 0) ≡ true) k
+            (λ j l d. more-marked (getD list j 0) ∙ rw (C .marked j l d))
+            (λ d. more-marked (getD list k 0) ∙ rw (eq-eqb (getD list k 0) (getD list k 0) refl, or-true));
+        only = λ x m. ⊎-elim
+            (λ (o : isMarked marks x ≡ true). let r = C .only x o in (r .0, omega (arith, r .1), r .2, r .3))
+            (λ (o : eqb x (getD list k 0) ≡ true). (k, omega arith, kept, sym (eqb-true x (getD list k 0) o)))
+            (or-cases (isMarked marks x) (eqb x (getD list k 0)) (sym (more-marked x) ∙ m));
       }
-        where
-          set-now : bitOf after (getD list k 0) ≡ 1
-          set-now = flip .changed ∙ omega (arith, bit-lt (getD seen (getD list k 0 / 64 % 64) 0) (getD list k 0 % 64))
-
-          new : (j : ℕ) → j < k → getD list j 0 ≢ getD list k 0
-          new j h e = fresh (ap (bitOf seen) (sym e) ∙ S .marked j h (same-drop list j k e ∙ kept) (ap (λ (x : ℕ). x / 4096) e ∙ here))
-
-          other : (entry : ℕ) → entry / 4096 ≡ window → entry ≢ getD list k 0 → bitOf after entry ≡ bitOf seen entry
-          other entry w ne = flip .same (entry / 64 % 64) (entry % 64) (⊎-elim
-              (λ (q : entry / 64 % 64 ≡ getD list k 0 / 64 % 64). inr (λ r. ne (same-number entry (getD list k 0) (w ∙ sym here) q r)))
-              (λ (q : entry / 64 % 64 ≢ getD list k 0 / 64 % 64). inl q)
-              (eq-cases (entry / 64 % 64) (getD list k 0 / 64 % 64)))
-
--- ---- all windows
-module _ (originals : ℕ) (list : List ℕ) where
-  pub one-fails : (window : ℕ) → differWithin originals window list ≡ false → badList originals list ≡ true
-  unfolding differWithin
-  one-fails window e = ⊎-elim
-      (λ (b : badList originals list ≡ true). b)
-      (λ (b : badList originals list ≡ false).
-      let K = kept-of originals list b in
-      absurd (never-both (all-is (isGood originals window list) 0 (length list) (λ k a h. ⊎-elim
-      (λ (d : isDropped list k ≡ true). good-dropped originals window list k d)
-      (λ (d : isDropped list k ≡ false). good-kept originals window list k d (K .below k (omega arith) d)
-      (λ w j l q. let s : k ≡ j = K .distinct k j (omega arith) (omega arith) d (sym q) in omega arith))
-      (bool-cases (isDropped list k)))) e))
-      (bool-cases (badList originals list))
-
-  -- the first windows are passed
-  abbrev pub Passed : ℕ → Type 0
-  Passed windows = (w : ℕ) → w < windows → differWithin originals w list ≡ true
-
-  pub all-differ : (windows : ℕ) → 0 < windows → Passed windows
-      → ((k : ℕ) → k < length list → getD list k 0 < originals → getD list k 0 < windows * 4096) → badList originals list ≡ false
-  unfolding differWithin
-  all-differ windows some differ within = good-of originals list (record {
-    below = below;
-    distinct = λ i j h l d q. ⊎-elim
-        (λ (e : i ≡ j). e)
-        (λ (ne : i ≢ j). ⊎-elim
-        (λ (o : i < j). absurd (apart i j o l (sym (same-drop list i j q) ∙ d) q))
-        (λ (o : j < i). absurd (apart j i o h d (sym q)))
-        (ne-lt i j ne))
-        (eq-cases i j);
-  })
-    where
-      good : (w k : ℕ) → w < windows → k < length list → isGood originals w list k ≡ true
-      good w k a h = all-in (isGood originals w list) 0 (length list) (differ w a) k (omega arith) (omega arith)
-
-      below : (k : ℕ) → k < length list → isDropped list k ≡ false → getD list k 0 < originals
-      below k h d = good-lt originals 0 list k d (good 0 k some h)
-
-      apart : (i j : ℕ) → i < j → j < length list → isDropped list j ≡ false → getD list i 0 ≢ getD list j 0
-      apart i j o h d =
-          let l = within j h (below j h d) in
-          good-new originals (getD list j 0 / 4096) list j d (good (getD list j 0 / 4096) j (omega arith) h) refl i o

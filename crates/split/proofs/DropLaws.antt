@@ -35,21 +35,12 @@ pub record Kept (originals : ℕ) (list : List ℕ) : Type 0 where
   pub distinct : (i j : ℕ) → i < length list → j < length list → isDropped list i ≡ false → getD list i 0 ≡ getD list j 0 → i ≡ j
 
 -- a number is a kept entry
-abbrev pub keeps : (x : ℕ) → List ℕ → Bool
+abbrev keeps : (x : ℕ) → List ℕ → Bool
 keeps x list = any (λ entry. isKept entry && eqb x entry) list
 
-pub keeps-all : (x : ℕ) (list : List ℕ) → any (eqb x) (keptEntries list) ≡ keeps x list
+keeps-all : (x : ℕ) (list : List ℕ) → any (eqb x) (keptEntries list) ≡ keeps x list
 unfolding keptEntries
 keeps-all x list = any-filter isKept (eqb x) list
-
-module _ (x : ℕ) (list : List ℕ) (k : ℕ) (h : k < length list) where
-  pub keeps-more : isDropped list k ≡ false → keeps x (take (k + 1) list) ≡ (keeps x (take k list) || eqb x (getD list k 0))
-  unfolding isDropped
-  keeps-more d = any-more (λ entry. isKept entry && eqb x entry) list k h ∙ rw d
-
-  pub keeps-same : isDropped list k ≡ true → keeps x (take (k + 1) list) ≡ keeps x (take k list)
-  unfolding isDropped
-  keeps-same d = any-more (λ entry. isKept entry && eqb x entry) list k h ∙ rw (d, or-false)
 
 -- a number that is no kept entry
 kept-none : (x : ℕ) (list : List ℕ) (j : ℕ) → any (eqb x) (keptEntries list) ≡ false → j < length list → isDropped list j ≡ false → x ≢ getD list j 0
@@ -58,13 +49,13 @@ kept-none x list j e h k q =
     let f : (isKept (getD list j 0) && eqb x (getD list j 0)) ≡ false = none-at (λ y. isKept y && eqb x y) list j 0 (sym (keeps-all x list) ∙ e) h in
     never-both (eq-eqb x (getD list j 0) q) (rw k at f)
 
-kept-some : (list : List ℕ) (k : ℕ) → k < length list → isDropped list k ≡ false → any (eqb (getD list k 0)) (keptEntries list) ≡ true
+pub kept-some : (list : List ℕ) (k : ℕ) → k < length list → isDropped list k ≡ false → any (eqb (getD list k 0)) (keptEntries list) ≡ true
 unfolding isDropped
 kept-some list k h d =
     let x = getD list k 0 in
     keeps-all x list ∙ any-of (λ entry. isKept entry && eqb x entry) list k 0 h (rw (d, eq-eqb x x refl))
 
-none-kept : (x : ℕ) (list : List ℕ) → ((j : ℕ) → j < length list → isDropped list j ≡ false → x ≢ getD list j 0)
+pub none-kept : (x : ℕ) (list : List ℕ) → ((j : ℕ) → j < length list → isDropped list j ≡ false → x ≢ getD list j 0)
     → any (eqb x) (keptEntries list) ≡ false
 unfolding isDropped
 none-kept x list f = keeps-all x list ∙ none-of (λ y. isKept y && eqb x y) list 0 (λ j h. ⊎-elim

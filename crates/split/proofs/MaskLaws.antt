@@ -149,6 +149,13 @@ ones-below mask bit h = ⊎-elim
     (λ (f : Missed (λ bit. eqb (bitAt mask bit) 0) 0 64 64 (lowestZero mask)). let n = eqb-false (bitAt mask bit) 0 (f .none bit (omega arith) (omega (arith, f .is))) in omega (arith, bit-lt mask bit))
     (first-cases (λ bit. eqb (bitAt mask bit) 0) 0 64 64)
 
+pub zero-there : (mask : ℕ) → lowestZero mask < 64 → bitAt mask (lowestZero mask) ≡ 0
+unfolding lowestZero
+zero-there mask h = ⊎-elim
+    (λ (f : First (λ bit. eqb (bitAt mask bit) 0) 0 64 (lowestZero mask)). eqb-true (bitAt mask (lowestZero mask)) 0 (f .passes))
+    (λ (f : Missed (λ bit. eqb (bitAt mask bit) 0) 0 64 64 (lowestZero mask)). absurd (omega (arith, f .is)))
+    (first-cases (λ bit. eqb (bitAt mask bit) 0) 0 64 64)
+
 -- the lowest zero is no lower where all bits below are ones
 pub lowest-above : (mask limit : ℕ) → limit ≤ 64 → ((bit : ℕ) → bit < limit → bitAt mask bit ≡ 1) → limit ≤ lowestZero mask
 unfolding lowestZero

@@ -1,5 +1,4 @@
--- How the code works inside: masks, windows, tables and what the loops keep. Nothing here has to be believed.
-pub mod Window
+-- How the code works inside: masks, tables and what the loops keep. Nothing here has to be believed.
 pub mod Rows
 pub mod Mask
 pub mod Dropping

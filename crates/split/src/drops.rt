@@ -8,10 +8,10 @@ ghost use Rattle.flash.specs.Lists.{range, any, first};
 ghost use Rattle.split.specs.OneToOne.{dropped, keptEntries, badList};
 ghost use Rattle.split.specs.Drops.{isDropped, completed};
 ghost use Rattle.split.specs.inner.Mask.{isMarked};
-ghost use Rattle.split.specs.inner.Dropping.{DropsTold};
+ghost use Rattle.split.specs.inner.Dropping.{KeptMarked, DropsTold};
 use crate::mask::has;
+use crate::mask::lowest_free;
 use crate::mask::with_bit;
-use flash::casts::entry;
 
 // The entry of a page that is dropped.
 pub const DROPPED: u16 = 65535;
@@ -43,27 +43,11 @@ pub fn is_marked(masks: &[u64], k: usize) -> bool
     has(masks[k / BITS], (k % BITS) as u16)
 }
 
-fn mark(masks: &mut [u64], k: usize)
+pub fn mark(masks: &mut [u64], k: usize)
     requires { ⌜ (length (now masks) ≡ 64) × (k < 4096) ⌝ }
     ensures { λ _. ⌜ ((x : ℕ) → isMarked (now (masks .exit)) x ≡ (isMarked (now (masks .entry)) x || eqb x k)) ⌝ }
 {
     masks[k / BITS] = with_bit(masks[k / BITS], k % BITS);
-}
-
-// Marks the places that the kept pages are sent to.
-fn mark_kept(list: &[u16], masks: &mut [u64])
-    requires { ⌜ (length (now masks) ≡ 64) × (length (now list) ≤ 4096) × (badList (length (now list)) (now list) ≡ false) ⌝ }
-    requires { ⌜ ((x : ℕ) → isMarked (now masks) x ≡ false) ⌝ }
-    ensures { λ _. ⌜ ((x : ℕ) → isMarked (now (masks .exit)) x ≡ any (eqb x) (keptEntries (now (list .entry)))) ⌝ }
-{
-    let mut k = 0;
-    while k < list.len() {
-        let lent = list[k];
-        if lent != DROPPED {
-            mark(masks, entry(lent));
-        }
-        k += 1;
-    }
 }
 
 fn flip_all(masks: &mut [u64])
@@ -77,14 +61,18 @@ fn flip_all(masks: &mut [u64])
     }
 }
 
-// The first mark from `start` on, or 4,096.
+// The first mark from `start` on, or 4,096. A mask without one is passed over at once.
 fn next_mark(masks: &[u64], start: usize) -> usize
     requires { ⌜ (length (now masks) ≡ 64) × (start ≤ 4096) ⌝ }
     ensures { λ r. ⌜ r ≡ first (isMarked (now (masks .entry))) (range start (4096 - start)) 4096 ⌝ }
 {
     let mut at = start;
-    while at < PAGES && !is_marked(masks, at) {
-        at += 1;
+    while at < PAGES {
+        let skipped = lowest_free(!(masks[at / BITS] >> (at % BITS)));
+        if skipped < BITS {
+            return at + skipped;
+        }
+        at = (at / BITS + 1) * BITS;
     }
     at
 }
@@ -111,26 +99,25 @@ fn pair(list: &mut [u16], pages: &mut [u64], places: &[u64])
     }
 }
 
-// Completes a list that is not refused as 3; the bits tell of the dropped pages and of the places that they get.
+// Completes a list that is not refused as 3, where `places` has the marks of its check; then the bits tell of the dropped pages and of the places that they
+// get.
 pub fn complete(list: &mut [u16], pages: &mut [u64; MASKS], places: &mut [u64; MASKS])
     requires { ⌜ (length (now list) ≤ 4096) × (badList (length (now list)) (now list) ≡ false) ⌝ }
-    requires { ⌜ (now pages ≡ replicate 64 0) × (now places ≡ replicate 64 0) ⌝ }
+    requires { ⌜ (now pages ≡ replicate 64 0) × KeptMarked (now list) (now places) ⌝ }
     ensures { λ _. ⌜ now (list .exit) ≡ completed (now (list .entry)) ⌝ }
     ensures { λ _. ⌜ DropsTold (now (list .entry)) (now (pages .exit)) (now (places .exit)) ⌝ }
 {
-    mark_kept(list, places);
     flip_all(places);
     pair(list, pages, places);
 }
 
 // The same where the bits are not asked for. A list that drops no page is left as it is.
-pub fn complete_list(list: &mut [u16])
-    requires { ⌜ (length (now list) ≤ 4096) × (badList (length (now list)) (now list) ≡ false) ⌝ }
+pub fn complete_list(list: &mut [u16], places: &mut [u64; MASKS])
+    requires { ⌜ (length (now list) ≤ 4096) × (badList (length (now list)) (now list) ≡ false) × KeptMarked (now list) (now places) ⌝ }
     ensures { λ _. ⌜ now (list .exit) ≡ completed (now (list .entry)) ⌝ }
 {
     if has_drop(list) {
         let mut pages = [0u64; MASKS];
-        let mut places = [0u64; MASKS];
-        complete(list, &mut pages, &mut places);
+        complete(list, &mut pages, places);
     }
 }

@@ -1,30 +1,24 @@
 // The check of a list of destinations, and of its pins.
 ghost use mathlib.Core.Path.{_≡_};
-ghost use mathlib.Core.Bool.{cond, not};
+ghost use mathlib.Core.Bool.{true, cond, not};
 ghost use Prim.Native.Nat.{_≤_};
-ghost use lib.ListN.{length};
+ghost use lib.ListN.{length, replicate};
 ghost use Rattle.split.specs.OneToOne.{badList};
 ghost use Rattle.split.specs.Pins.{movesPinned};
-ghost use Rattle.split.specs.inner.Window.{differWithin};
+ghost use Rattle.split.specs.inner.Dropping.{KeptMarked};
 use crate::drops::DROPPED;
-use crate::mask::flip;
+use crate::drops::MASKS;
+use crate::drops::is_marked;
+use crate::drops::mark;
 use crate::pins::moves_pinned;
 use flash::casts::entry;
 
-// The numbers of 16 bits are so many windows of so many numbers, each with a bit.
-const WINDOWS: usize = 16;
-
-const WINDOW: usize = 4096;
-
-const BITS: usize = 64;
-
-const MASKS: usize = WINDOW / BITS;
-
-// Whether no entry of a kept page is at or above `originals`, and none of the numbers of a window is met twice there.
-fn differ_within(list: &[u16], originals: usize, window: usize) -> bool
-    ensures { λ r. ⌜ r ≡ differWithin originals window (now (list .entry)) ⌝ }
+// Whether no entry of a kept page is at or above `originals` and none is met twice; then the marks tell which numbers were met.
+fn check(list: &[u16], originals: usize, marks: &mut [u64; MASKS]) -> bool
+    requires { ⌜ (originals ≤ 4096) × (now marks ≡ replicate 64 0) ⌝ }
+    ensures { λ r. ⌜ r ≡ not (badList originals (now (list .entry))) ⌝ }
+    ensures { λ r. ⌜ (r ≡ true → KeptMarked (now (list .entry)) (now (marks .exit))) ⌝ }
 {
-    let mut seen = [0u64; MASKS];
     let mut k = 0;
     while k < list.len() {
         let lent = list[k];
@@ -33,43 +27,23 @@ fn differ_within(list: &[u16], originals: usize, window: usize) -> bool
             if originals <= number {
                 return false;
             }
-            if number / WINDOW == window
-                && flip(
-                    &mut seen,
-                    (number / BITS % MASKS) as u16,
-                    (number % BITS) as u16,
-                )
-            {
+            if is_marked(marks, number) {
                 return false;
             }
+            mark(marks, number);
         }
         k += 1;
     }
     true
 }
 
-// Whether no entry of a kept page is at or above `originals` and none is met twice there. The windows are looked at one by one, since bits for all
-// numbers of 16 bits would take 8 KiB of stack; a list of a move is done with the first.
-pub fn check(list: &[u16], originals: usize) -> bool
-    ensures { λ r. ⌜ r ≡ not (badList originals (now (list .entry))) ⌝ }
-{
-    for window in 0..WINDOWS {
-        if !differ_within(list, originals, window) {
-            return false;
-        }
-        if originals <= (window + 1) * WINDOW {
-            return true;
-        }
-    }
-    true
-}
-
-// Number 3 or 11 of a lent list, or 0.
-pub fn list_refusal(list: &[u16], pins: &[u8], originals: usize) -> u32
-    requires { ⌜ (length (now pins) ≡ length (now list)) × (length (now list) ≤ 4096) ⌝ }
+// Number 3 or 11 of a lent list, or 0; then the marks are on the numbers that kept pages are sent to.
+pub fn list_refusal(list: &[u16], pins: &[u8], originals: usize, marks: &mut [u64; MASKS]) -> u32
+    requires { ⌜ (length (now pins) ≡ length (now list)) × (length (now list) ≤ 4096) × (originals ≤ 4096) × (now marks ≡ replicate 64 0) ⌝ }
     ensures { λ r. ⌜ r ≡ cond (badList originals (now (list .entry))) 3 (cond (movesPinned (now (pins .entry)) (now (list .entry))) 11 0) ⌝ }
+    ensures { λ r. ⌜ (r ≡ 0 → KeptMarked (now (list .entry)) (now (marks .exit))) ⌝ }
 {
-    if !check(list, originals) {
+    if !check(list, originals, marks) {
         return 3;
     }
     if moves_pinned(pins, list) {

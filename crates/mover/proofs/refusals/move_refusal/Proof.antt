@@ -79,13 +79,16 @@ original-count-requires : tie.Need-original-count-requires
 original-count-requires c κs = let B = ranges (c .before .before .before .before .before .before .before) in (B .n-high, B .m-high)
 
 list-refusal-requires : tie.Need-list-refusal-requires
-list-refusal-requires c κs = let l = lengths (c .before .before .before .before .before) in (l .1 ∙ sym (l .0), omega arith)
+list-refusal-requires c κs =
+    let e = c .before .before .before .before .before .before in
+    let l = lengths e in
+    (l .1 ∙ sym (l .0), omega (arith, l .0, l .3), omega (arith, c .before .original-count .ensures, l .3), start e .pre .1)
 
 -- what was found
-judged : (c : tie.After-list-refusal) → (let e = c .before .before .before .before .before .before in let s = start e in
+judged : (c : tie.After-list-refusal) → (let e = c .before .before .before .before .before .before .before in let s = start e in
     c .list-refusal .result ≡ cond (badList (s .args .sizes .n * s .args .sizes .m) (s .args .list .now)) 3
     (cond (movesPinned (s .args .pins .now) (s .args .list .now)) 11 0))
-judged c = rw (← c .before .original-count .ensures) (c .list-refusal .ensures)
+judged c = rw (← c .before .before .original-count .ensures) (c .list-refusal .ensures .0)
 
 same-length-2 : tie.Need-same-length-2
 same-length-2 c = search needs
@@ -93,7 +96,7 @@ same-length-2 c = search needs
 returns-3 : tie.Need-returns-3
 returns-3 c =
     let r = c .before in
-    let e = r .before .before .before .before .before .before in
+    let e = r .before .before .before .before .before .before .before in
     let s = start e in
     let list = s .args .list .now in
     let ne = subst (λ (x : ℕ). x ≢ 0) (judged r) (c .if4 .taken) in (
@@ -102,26 +105,26 @@ returns-3 c =
     )
 
 -- ---- and it is completed
-past : (c : tie.Else4) → (let e = c .before .before .before .before .before .before .before in let s = start e in let Z = s .args .sizes in
+past : (c : tie.Else4) → (let e = c .before .before .before .before .before .before .before .before in let s = start e in let Z = s .args .sizes in
     (badList (Z .n * Z .m) (s .args .list .now) ≡ false)
     × (refusal (moveRows (asked s) (chip s) (s .args .work .now) []) ≡ cond (isSplit (Z .n) (Z .m) (completed (s .args .list .now)) (s .args .sets .now)) 0 4))
 past c =
-    let e = c .before .before .before .before .before .before .before in
+    let e = c .before .before .before .before .before .before .before .before in
     let s = start e in
     past-drops (asked s) (chip s) (s .args .work .now) (in-sizes e) (parts e) (sym (judged (c .before)) ∙ c .if4 .left)
 
 complete-requires : tie.Need-complete-requires
 complete-requires c κs =
     let f = c .before .before .before in
-    let e = f .before .before .before .before .before .before .before in
+    let e = f .before .before .before .before .before .before .before .before in
     let s = start e in
     let l = lengths e in
-    ((omega arith, rw (l .0) (past f .0)), s .pre)
+    ((omega arith, rw (l .0) (past f .0)), (s .pre .0, f .before .list-refusal .ensures .1 (f .if4 .left)))
 
 sets-refusal-requires : tie.Need-sets-refusal-requires
 sets-refusal-requires c κs =
     let k = c .before .before .before .before in
-    let e = k .before .before .before .before .before .before .before .before .before .before .before in
+    let e = k .before .before .before .before .before .before .before .before .before .before .before .before in
     let l = lengths e in
     let B = ranges (e .before .before .before) in
     let size = ap length (k .complete .ensures .0) ∙ completed-length (start e .args .list .now) ∙ l .0 in
@@ -130,14 +133,14 @@ sets-refusal-requires c κs =
 same-length-3 : tie.Need-same-length-3
 same-length-3 c =
     let k = c .before .before .before .before .before in
-    let s = start (k .before .before .before .before .before .before .before .before .before .before .before) in
+    let s = start (k .before .before .before .before .before .before .before .before .before .before .before .before) in
     ap length (k .complete .ensures .0) ∙ completed-length (s .args .list .now)
 
 returns-4 : tie.Need-returns-4
 returns-4 c =
     let k = c .before .before .before .before .before in
     let f = k .before .before .before .before in
-    let e = f .before .before .before .before .before .before .before in
+    let e = f .before .before .before .before .before .before .before .before in
     let s = start e in
     let Z = s .args .sizes in
     let list = s .args .list .now in

@@ -1,61 +1,71 @@
--- `check` tells whether the entries of the kept pages are one-to-one, window by window.
-use Rattle.flash.proofs.Kit.{_≡_, sym, ap, _∙_, not, _+_, _-_, _≤_, arith, below-more, needs, not-true, not-false}
-use Rattle.split.proofs.CheckLaws.{Passed, one-fails, all-differ}
+-- `check` tells whether the entries of the kept pages are one-to-one, and leaves their marks.
+use Rattle.flash.proofs.Kit.{_≡_, refl, sym, ap, _∙_, ⊎-elim, not, ℕ, _-_, arith, needs, length}
+use Rattle.flash.proofs.Bools.{never-both}
+use Rattle.split.specs.inner.Mask.{isMarked}
+use Rattle.split.proofs.DropLaws.{is-kept, is-dropped}
+use Rattle.split.proofs.CheckLaws.{Checked, none-checked, all-checked, all-marked, check-dropped, too-large, repeated, check-kept}
 use Rattle.split.proofs.list.check.Statement.{statement}
 use Rattle.split.proofs.list.check.Tie as tie
 
 abbrev Inv-loop : tie.InvT-loop
-Inv-loop list originals window₀ window = (window ≤ 16) × Passed originals list window
+Inv-loop list originals marks₀ k₀ marks k = Checked originals list marks k
 
 abbrev μ-loop : tie.MeasureT-loop
-μ-loop list originals window₀ window = 16 - window
+μ-loop list originals marks₀ k₀ marks k = length list - k
 
 loop-holds : tie.Need-loop-holds Inv-loop μ-loop
-loop-holds c = (omega arith, λ w h. absurd (omega arith))
-
-differ-within-requires : tie.Need-differ-within-requires Inv-loop μ-loop
-differ-within-requires c κs = search needs
-
--- a window that was not refused is passed
-window-passed : (c : tie.Else1 Inv-loop μ-loop)
-    → (let a = c .before .before .before .before .before .args in
-    Passed (a .originals) (a .list .now) (c .before .before .before .loop .window + 1))
-window-passed c =
-    let d = c .before in
-    let l = d .before .before .loop in
-    below-more _ (l .window) (l .inv .1) (sym (d .differ-within .ensures) ∙ not-false _ (c .if1 .left))
+loop-holds c = let s = c .before in none-checked _ _ _ (s .pre .1) (ap length (s .pre .1))
 
 returns : tie.Need-returns Inv-loop μ-loop
 returns c =
-    let d = c .before in
-    sym (ap not (one-fails _ _ (d .before .before .loop .window) (sym (d .differ-within .ensures) ∙ not-true _ (c .if1 .taken))))
+    let t = c .before .before in
+    let i = t .before .before in (
+      sym (ap not (too-large _ _ _ _ (i .before .loop .inv) (i .loop-test .taken) (is-kept _ _ (t .if1 .taken)) (omega arith))),
+      λ e. absurd (never-both e refl),
+    )
 
-add-if2 : tie.Need-add-if2 Inv-loop μ-loop
-add-if2 c = search needs
-
-mul-if2 : tie.Need-mul-if2 Inv-loop μ-loop
-mul-if2 c = search needs
+is-marked-requires : tie.Need-is-marked-requires Inv-loop μ-loop
+is-marked-requires c κs =
+    let e = c .before .before in
+    let l = e .before .before .before .before .before in
+    (l .loop .inv .sized, omega (arith, e .if2 .left, l .before .before .pre .0))
 
 returns-2 : tie.Need-returns-2 Inv-loop μ-loop
 returns-2 c =
-    let l = c .before .before .before .before .loop in
-    sym (ap not (all-differ _ _ (l .window + 1) (omega arith) (window-passed (c .before)) (λ k h small. omega arith)))
+    let e = c .before .before .before .before .before in
+    let t = e .before in
+    let i = t .before .before in
+    let met = ap (isMarked (i .before .loop .marks)) (sym (e .entry .ensures)) ∙ sym (c .before .is-marked .ensures) ∙ c .if3 .taken in (
+      sym (ap not (repeated _ _ _ _ (i .before .loop .inv) (i .loop-test .taken) (is-kept _ _ (t .if1 .taken)) met)),
+      λ e. absurd (never-both e refl),
+    )
 
-add-window : tie.Need-add-window Inv-loop μ-loop
-add-window c = search needs
-
-loop-less : tie.Need-loop-less Inv-loop μ-loop
-loop-less c = search needs
+mark-requires : tie.Need-mark-requires Inv-loop μ-loop
+mark-requires c κs =
+    let e = c .before .before .before .before .before in
+    let l = e .before .before .before .before .before in
+    (l .loop .inv .sized, omega (arith, e .if2 .left, l .before .before .pre .0))
 
 loop-again : tie.Need-loop-again Inv-loop μ-loop
-loop-again c = (omega arith, window-passed (c .before))
+loop-again c =
+    let i = c .before .before in
+    let l = i .before .loop in
+    ⊎-elim
+    (λ w.
+    let number = w .1 .ensures in
+    let fresh = ap (isMarked (l .marks)) (sym number) ∙ sym (w .5 .ensures) ∙ w .6 .left in
+    rw (w .9) (check-kept _ _ _ _ (l .inv) (i .loop-test .taken) (is-kept _ _ (w .0 .taken)) (w .8 .last .0) (omega arith) fresh
+    (omega (arith, w .8 .kept .0, l .inv .sized)) (λ x. rw (← number) (w .8 .ensures x))))
+    (λ w. rw (w .1) (check-dropped _ _ _ _ (l .inv) (i .loop-test .taken) (is-dropped _ _ (w .0 .left))))
+    (c .if1 .came)
 
 returns-3 : tie.Need-returns-3 Inv-loop μ-loop
 returns-3 c =
     let l = c .before .loop in
-    let e : l .window ≡ 16 = omega arith in
-    sym (ap not (all-differ _ _ (l .window) (omega arith) (l .inv .1)
-    (λ k h small. omega (arith, c .before .before .shared-slice-known .given k))))
+    (sym (ap not (all-checked _ _ _ _ (l .inv) (c .loop-test .left))), λ e. all-marked _ _ _ _ (l .inv) (c .loop-test .left))
 
 pub check-spec : {M : Type 1} → statement M
-check-spec = tie.close (tie.spec Inv-loop μ-loop loop-holds differ-within-requires returns add-if2 mul-if2 returns-2 add-window loop-less loop-again returns-3)
+check-spec =
+    tie.close
+    (tie.spec Inv-loop μ-loop loop-holds (λ c. search needs) (λ c. search needs) (λ c κs. search needs) returns is-marked-requires returns-2 mark-requires
+    (λ c. search needs) (λ c. search needs) loop-again returns-3)
