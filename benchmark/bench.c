@@ -85,7 +85,8 @@ static void time_copies(struct copies *copies, const struct scene *from, uint64_
     copies->pages = least(copies->pages, now() - began);
 }
 
-/* Times the two in turn, and the copies if there are any; best nanoseconds of each. */
+/* Times the two in turn, and then the copies if there are any; best nanoseconds of each. Copies between the rounds would leave one of the two stores
+ * in the caches, and the mover that has it would look faster by a tenth. */
 static void measure(const struct task *task, double best[BOTH], struct copies *copies)
 {
     struct scene scenes[BOTH];
@@ -105,9 +106,9 @@ static void measure(const struct task *task, double best[BOTH], struct copies *c
         }
         if (!scene_same(&scenes[LIBRARY], &scenes[PLAIN]))
             stop(task->name);
-        if (copies != NULL)
-            time_copies(copies, &scenes[PLAIN], plain_bytes_summed);
     }
+    for (uint32_t round = 0; copies != NULL && round < rounds; round++)
+        time_copies(copies, &scenes[PLAIN], plain_bytes_summed);
     for (int i = 0; i < BOTH; i++)
         scene_free(&scenes[i]);
 }

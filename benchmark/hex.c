@@ -64,6 +64,8 @@ static void one_line(const char *name, hex_call call, struct scene scenes[BOTH],
         if (!scene_same(&scenes[LIBRARY], &scenes[PLAIN])
             || memcmp(scenes[LIBRARY].text, scenes[PLAIN].text, scenes[PLAIN].text_len) != 0)
             stop(name);
+    }
+    for (uint32_t round = 0; round < times; round++) {
         began = now();
         memcpy(copy, scenes[PLAIN].text, scenes[PLAIN].text_len);
         __asm__ volatile("" : : "r"(copy) : "memory");
