@@ -12,6 +12,7 @@ use Rattle.flash.specs.Tables.{Row, First, refusal}
 use Rattle.flash.specs.declared.sizes.Sizes.{Sizes}
 use Rattle.flash.specs.Geometry.{inRange, blockOf, originalCount, slotCount}
 use Rattle.flash.specs.Chip.{Chip, erased, isWhole, isUnfinished}
+use Rattle.flash.specs.declared.wear.Wear.{Wear}
 use Rattle.split.specs.Split.{setOf}
 use Rattle.split.specs.Request.{Request}
 use Rattle.split.specs.Answer.{splitRows}
@@ -133,7 +134,8 @@ ErasesNext =
 -- rule 7.8: every call gives the first number that applies, in the one order of all calls
 pub record FirstReturned : Type 0 where
   pub by-split : (R : Request) → First order (splitRows R) (refusal (splitRows R))
-  pub by-run : (R : Request) (chip : Chip) (work : List ℕ) (place : ℕ) → First order (runRows R chip work place) (refusal (runRows R chip work place))
+  pub by-run : (R : Request) (chip : Chip) (work : List ℕ) (wear : Wear) (place limit : ℕ)
+      → First order (runRows R chip work wear place limit) (refusal (runRows R chip work wear place limit))
   pub by-mend : (Z : Sizes) (chip : Chip) → First order (mendRows Z chip) (refusal (mendRows Z chip))
   pub by-read : (R : Request) (chip : Chip) (work : List ℕ) (k : ℕ) → First order (readRows R chip work k) (refusal (readRows R chip work k))
 

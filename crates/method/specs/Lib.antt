@@ -7,11 +7,13 @@ pub mod State
 pub mod Step
 pub mod Cut
 pub mod Mend
+pub mod Worn
 pub mod Answers
 pub mod Runs
 pub mod Counts
 pub mod Events
 pub mod Demand3
+pub mod WearCounts
 pub mod PinsStay
 pub mod NoDrops
 pub mod Cases

@@ -1,0 +1,2 @@
+-- The counters of erases, and number 12.
+pub mod WornLaws
