@@ -27,6 +27,7 @@ use Rattle.method.specs.Answers.{order, runRows, mendRows, readRows}
 use Rattle.method.specs.Runs.{RunsAddUp, StatesReached}
 use Rattle.method.specs.Counts.{RunsCount}
 use Rattle.method.specs.Demand3.{Demand3}
+use Rattle.method.specs.WearCounts.{WearCounts}
 use Rattle.method.specs.PinsStay.{PinsStay}
 use Rattle.method.specs.NoDrops.{NoDrops}
 use Rattle.method.specs.Example.{ExampleHolds, BoundsMet}
@@ -157,6 +158,7 @@ pub record Claims : Type 0 where
   pub erases-next : ErasesNext
   pub first : FirstReturned
   pub demand-3 : Demand3
+  pub wear : WearCounts
   pub pins : PinsStay
   pub no-drops : NoDrops
   pub bounds : BoundsMet
