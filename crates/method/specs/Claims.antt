@@ -34,6 +34,7 @@ use Rattle.method.specs.Example.{ExampleHolds, BoundsMet}
 use Rattle.method.specs.TwoPages.{TwoPagesHold}
 use Rattle.method.specs.Cases.{CasesHold}
 use Rattle.method.specs.DropCases.{DropCasesHold}
+use Rattle.method.specs.WearCases.{WearCasesHold}
 
 -- rule 4.3: there are as many steps as the last place says
 unfoldable pub StepsCounted : Type 0
@@ -143,6 +144,7 @@ pub record FirstReturned : Type 0 where
 pub record Claims : Type 0 where
   pub cases : (byte : ℕ) → CasesHold byte
   pub drop-cases : DropCasesHold
+  pub wear-cases : WearCasesHold
   pub runs : RunsAddUp
   pub states : StatesReached
   pub counts : RunsCount
