@@ -7,7 +7,8 @@ use Rattle.flash.specs.Wear.{counterEnd, unworn}
 use Rattle.method.specs.Answers.{runAnswer, mendAnswer}
 use Rattle.method.specs.Events.{run, mend, uncut, inside, Event, starting, wearAtEnd, erasesReported}
 use Rattle.method.specs.WearCounts.{Carried}
-use Rattle.method.specs.Cases.{chip, junk, counts, wears, ran, recovered, resting, three, threeAtRest, threeFinished, threeBeforeErase, threeTorn}
+use Rattle.method.specs.Cases.{chip, junk, counts, wears, ran, recovered, resting, three, threeAtRest, threeFinished, threeBeforeErase}
+use Rattle.method.specs.Cases.{threeTorn}
 
 -- from rest, with these counters and this limit, the whole move is made and leaves these
 abbrev Lasts : (counters : List ℕ) → (limit : ℕ) → (left : List ℕ) → Type 0
