@@ -38,12 +38,6 @@ module _ (wear : Wear) (C : Counters wear) where
   }
 
 -- ---- operations
-worn-once : (operation : Operation) (wear : Wear) → Counters wear → Counters (wornOnce operation wear)
-unfolding wornOnce
-worn-once (write pass b q) wear C = C
-worn-once (erase b) wear C = risen-counters wear C b
-worn-once done wear C = C
-
 pub each-worn : (operations : List Operation) (wear : Wear) → Counters wear → (b : ℕ) → b < counterCount
     → counterAt (wornBy operations wear) b ≡ min (counterAt wear b + count (erasesBlock b) operations) counterEnd
 unfolding wornBy wornOnce count erasesBlock
