@@ -1,4 +1,4 @@
--- Rule 11.6: the record of erases in the C calls.
+-- Rule 12.6: the record of erases in the C calls.
 use mathlib.Core.List.{List, [], _∷_, map}
 use Prim.Native.Nat.{ℕ, _+_, _*_, _/_, _%_}
 use lib.ListN.{getD}

@@ -1,4 +1,4 @@
--- Rule 11.1: how often blocks were erased.
+-- Rule 12.1: how often blocks were erased.
 use mathlib.Core.Bool.{cond}
 use Prim.Native.Nat.{ℕ, _+_}
 use lib.Dec.{ltb}

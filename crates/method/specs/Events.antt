@@ -151,7 +151,7 @@ moments [] h = h ∷ []
 moments (event ∷ events) h =
     map (during h (event .call)) (range 0 (suc (stepsFinished h (event .call) (event .cut)))) ++ moments events (after event h)
 
--- ---- Rule 11.5: the counters along a list. A call that returns gives them back; a cut one returns nothing, and what it erased is in no record.
+-- ---- Rule 12.5: the counters along a list. A call that returns gives them back; a cut one returns nothing, and what it erased is in no record.
 -- the record that a call is given; a read is given none, and the caller keeps his
 unfoldable pub wearGiven : Call → (kept : Wear) → Wear
 wearGiven (run R work wear place budget limit) kept = wear

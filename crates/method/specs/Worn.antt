@@ -1,4 +1,4 @@
--- Rules 11.2 to 11.4: what the erases of a call add to the counters, and whether a move would wear a block out.
+-- Rules 12.2 to 12.4: what the erases of a call add to the counters, and whether a move would wear a block out.
 use mathlib.Core.Bool.{Bool, cond, _&&_, _||_}
 use mathlib.Core.List.{List, [], _∷_}
 use Prim.Native.Nat.{ℕ, _+_}
