@@ -11,10 +11,11 @@ static uint8_t torn_mark(uint64_t *random)
     return random_below(random, 2) == 0 ? 255 : (uint8_t)(3 + random_below(random, 252));
 }
 
-/* One fault, or none: a size, a length, an entry, a pin, a set, a mark, a byte; or all pinned, beside a fault that comes before or after. */
+/* One fault, or none: a size, a length, an entry, a pin, a set, a mark, a byte, a counter, the limit; or all pinned, beside a fault that comes
+ * before or after. */
 static void spoil(struct scene *z, uint64_t *random)
 {
-    switch (random_below(random, 32)) {
+    switch (random_below(random, 36)) {
     case 0: z->n = random_below(random, 3) * 40; break;
     case 1: z->m = random_below(random, 3) * 40; break;
     case 2: z->page_bytes = random_below(random, 2) * 5000; break;
@@ -39,6 +40,10 @@ static void spoil(struct scene *z, uint64_t *random)
     case 21: mover_drop(z->list, random_below(random, z->n * z->m)); break;
     case 22: memset(z->list, 255, z->list_len); break;
     case 23: mover_send(z->list, random_below(random, z->n * z->m), 65534 - random_below(random, 2)); break;
+    case 24: z->wear_len -= 1 + random_below(random, 4); break;
+    case 25: mover_set_counter(z->wear, random_below(random, MOVER_COUNTERS), UINT32_MAX - random_below(random, 4)); break;
+    case 26: z->wear_limit = random_below(random, 4); break;
+    case 27: memset(z->wear, 255, z->wear_len); break;
     default: break;
     }
 }
@@ -95,6 +100,21 @@ static void drop_some(struct scene *z, uint64_t *random)
         }
 }
 
+/* Half of the records have any counters; half of the limits are just kept, or passed by one. */
+static void wear_some(struct scene *z, uint64_t *random)
+{
+    uint32_t most = 0;
+    if (random_below(random, 2) == 0)
+        return;
+    for (uint32_t block = 0; block < MOVER_COUNTERS; block++)
+        mover_set_counter(z->wear, block, random_below(random, 1 << 8 * random_below(random, 4)));
+    for (uint32_t block = 0; block <= z->n; block++)
+        if (mover_counter(z->wear, block) > most)
+            most = mover_counter(z->wear, block);
+    if (random_below(random, 2) == 0)
+        z->wear_limit = most + random_below(random, 3);
+}
+
 /* Makes a move that stands somewhere. */
 static void make_standing(struct scene *z, const struct mover *mover, uint32_t place, uint32_t n, uint32_t m, uint64_t *random)
 {
@@ -106,6 +126,7 @@ static void make_standing(struct scene *z, const struct mover *mover, uint32_t p
     memset(z->marks + m, (int)z->s, (size_t)n * m);
     call_split(mover, z);
     call_run(mover, z, 0, place);
+    wear_some(z, random);
 }
 
 /* One request, with the same fault for both. Most are small. */

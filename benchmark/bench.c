@@ -54,6 +54,7 @@ static void put_back(struct scene *to, const struct scene *from)
     memcpy(to->store, from->store, from->store_len);
     memcpy(to->marks, from->marks, from->marks_len);
     memcpy(to->work, from->work, from->work_len);
+    memcpy(to->wear, from->wear, from->wear_len);
 }
 
 double least(double a, double b)

@@ -120,7 +120,7 @@ static int carries(const struct sizes *z, const uint8_t *list, const uint8_t *se
 
 uint32_t plain_refusal(const struct sizes *z, const uint8_t *list, uint64_t list_len, const uint8_t *pins, uint64_t pins_len,
                        const uint8_t *sets, uint64_t sets_len, uint64_t store_len, uint64_t marks_len, uint64_t work_len,
-                       struct list *completed, uint8_t *set_of)
+                       uint64_t wear_len, struct list *completed, uint8_t *set_of)
 {
     uint32_t originals, slots;
     int good;
@@ -129,7 +129,7 @@ uint32_t plain_refusal(const struct sizes *z, const uint8_t *list, uint64_t list
     originals = z->n * z->m;
     slots = originals + z->m;
     if (list_len != 2 * originals || pins_len != originals || sets_len != originals || store_len != (uint64_t)slots * z->p
-        || marks_len != slots || work_len != z->p)
+        || marks_len != slots || work_len != z->p || wear_len != WEAR_BYTES)
         return 2;
     if (!plain_complete(completed, list, originals))
         return 3;

@@ -6,7 +6,7 @@
 #include <stdint.h>
 #include <string.h>
 
-enum { BLOCKS = 64, PAGES = 64, ORIGINALS = BLOCKS * PAGES, ERASED = 255, NONE = 255, DROPPED = 65535 };
+enum { BLOCKS = 64, PAGES = 64, ORIGINALS = BLOCKS * PAGES, ERASED = 255, NONE = 255, DROPPED = 65535, WEAR_BYTES = 260 };
 
 struct sizes {
     uint32_t n, m, p, s;
@@ -32,6 +32,13 @@ static inline uint32_t entry(const uint8_t *list, size_t k)
 #else
     return list[2 * k] | (uint32_t)list[2 * k + 1] << 8;
 #endif
+}
+
+/* A counter of the record, four bytes, in the same order. */
+static inline uint32_t counter(const uint8_t *wear, size_t block)
+{
+    const uint8_t *at = wear + 4 * block;
+    return at[0] | (uint32_t)at[1] << 8 | (uint32_t)at[2] << 16 | (uint32_t)at[3] << 24;
 }
 
 /* A number below 64 * m is divided by m as block_of(number, inverse_of(m)). */
@@ -70,14 +77,14 @@ static inline int drops(const struct list *list, uint32_t k)
     return list->whole != list->lent && entry(list->lent, k) == DROPPED;
 }
 
-/* plain_check.c: lists, pins, sets, and the refusals 1, 2, 3, 11 and 4 of run and read. The list is completed, and set_of gets the set of the
- * original that goes to each number. */
+/* plain_check.c: lists, pins, sets, and the refusals 1, 2, 3, 11 and 4 of run and read, which lends no record. The list is completed, and set_of gets
+ * the set of the original that goes to each number. */
 int plain_complete(struct list *list, const uint8_t *lent, uint32_t originals);
 int plain_one_to_one(const uint8_t *list, uint32_t originals);
 int plain_moves_pinned(const uint8_t *list, const uint8_t *pins, uint32_t originals);
 uint32_t plain_refusal(const struct sizes *z, const uint8_t *list, uint64_t list_len, const uint8_t *pins, uint64_t pins_len,
                        const uint8_t *sets, uint64_t sets_len, uint64_t store_len, uint64_t marks_len, uint64_t work_len,
-                       struct list *completed, uint8_t *set_of);
+                       uint64_t wear_len, struct list *completed, uint8_t *set_of);
 void plain_row(struct row *row, const struct sizes *z, const uint8_t *list, const uint8_t *sets, uint32_t set);
 void plain_rows(struct row *rows, const struct sizes *z, const uint8_t *list, const uint8_t *sets);
 
@@ -89,7 +96,10 @@ struct moment {
 };
 
 int plain_moment(const struct sizes *z, const uint8_t *marks, struct moment *found);
-void plain_erase(const struct sizes *z, uint8_t *store, uint8_t *marks, uint32_t block);
+/* Counts the erase too. */
+void plain_erase(const struct sizes *z, uint8_t *store, uint8_t *marks, uint8_t *wear, uint32_t block);
+/* Whether a whole move would wear a block past the limit. */
+int plain_worn(const struct sizes *z, const uint8_t *wear, uint32_t limit);
 
 /* plain_sum.c: `to` becomes the sum of the pages, which lie elsewhere, turned over if 255s are to be added. Returns how many of its bytes
  * are not 255. */

@@ -1,12 +1,32 @@
-/* By hand: how the marks are read, and mend. */
+/* By hand: erases and their count, how the marks are read, and mend. */
 #include "plain.h"
 #include "plain_inner.h"
 
-void plain_erase(const struct sizes *z, uint8_t *store, uint8_t *marks, uint32_t block)
+/* A full counter stays. */
+static void count_erase(uint8_t *wear, uint32_t block)
+{
+    uint8_t *at = wear + 4 * block;
+    uint32_t count = counter(wear, block);
+    count += count != UINT32_MAX;
+    for (int i = 0; i < 4; i++)
+        at[i] = (uint8_t)(count >> 8 * i);
+}
+
+void plain_erase(const struct sizes *z, uint8_t *store, uint8_t *marks, uint8_t *wear, uint32_t block)
 {
     uint64_t first = (uint64_t)block * z->m;
+    count_erase(wear, block);
     memset(store + first * z->p, ERASED, (uint64_t)z->m * z->p);
     memset(marks + first, ERASED, z->m);
+}
+
+/* Blocks 0 and n are erased once, and those between twice. */
+int plain_worn(const struct sizes *z, const uint8_t *wear, uint32_t limit)
+{
+    for (uint32_t block = 0; block <= z->n; block++)
+        if ((uint64_t)counter(wear, block) + (block == 0 || block == z->n ? 1 : 2) > limit)
+            return 1;
+    return 0;
 }
 
 /* The first block that is not full of the letter, if the marks fit: its first mark is the last in the row of those that are the
@@ -45,7 +65,7 @@ int plain_moment(const struct sizes *z, const uint8_t *marks, struct moment *fou
 }
 
 uint32_t plain_mend(uint32_t n, uint32_t m, uint32_t page_bytes, uint32_t s,
-                    uint8_t *store, uint64_t store_len, uint8_t *marks, uint64_t marks_len,
+                    uint8_t *store, uint64_t store_len, uint8_t *marks, uint64_t marks_len, uint8_t *wear, uint64_t wear_len,
                     uint32_t *place, uint32_t *erases)
 {
     struct sizes z = {n, m, page_bytes, s};
@@ -54,13 +74,14 @@ uint32_t plain_mend(uint32_t n, uint32_t m, uint32_t page_bytes, uint32_t s,
     *place = *erases = 0;
     if (!sizes_fit(&z))
         return 1;
-    if (store_len != (uint64_t)(n + 1) * m * page_bytes || marks_len != (n + 1) * m)
+    if (store_len != (uint64_t)(n + 1) * m * page_bytes || marks_len != (n + 1) * m
+        || wear_len != WEAR_BYTES)
         return 2;
     if (!plain_moment(&z, marks, &found))
         return 6;
     turn = !found.forward ? 2 * n - found.block : found.torn ? found.block : found.block - 1;
     if (found.torn)
-        plain_erase(&z, store, marks, found.block);
+        plain_erase(&z, store, marks, wear, found.block);
     *place = turn * (m + 1) + (found.torn ? 0 : m);
     *erases = found.torn ? 1 : 0;
     return 0;

@@ -100,7 +100,8 @@ uint32_t plain_read(uint32_t n, uint32_t m, uint32_t page_bytes, uint32_t s,
     struct moment at;
     struct reading r;
     uint8_t set_of[ORIGINALS];
-    uint32_t number = plain_refusal(&z, list, list_len, pins, pins_len, sets, sets_len, store_len, marks_len, work_len, &r.list, set_of);
+    uint32_t number = plain_refusal(&z, list, list_len, pins, pins_len, sets, sets_len, store_len, marks_len, work_len, WEAR_BYTES, &r.list,
+                                    set_of);
     *count = *written_bytes = 0;
     if (number != 0)
         return number;

@@ -5,7 +5,7 @@
 struct running {
     struct sizes z;
     const uint8_t *sets;
-    uint8_t *store, *marks;
+    uint8_t *store, *marks, *wear;
     uint32_t turn, filled;                 /* the place: turns of m + 1 steps, and the pages written in this one */
     int all_rows;                          /* whether all rows are made; if not, each write makes its own */
     const uint8_t *last;                   /* the page written last */
@@ -125,7 +125,7 @@ static uint32_t take_steps(struct running *r, uint32_t steps)
         write_pages(r, r->filled + writes);
         steps -= writes;
         if (steps > 0) {
-            plain_erase(&r->z, r->store, r->marks, r->turn < r->z.n ? filling(r) + 1 : filling(r) - 1);
+            plain_erase(&r->z, r->store, r->marks, r->wear, r->turn < r->z.n ? filling(r) + 1 : filling(r) - 1);
             erases++;
             steps--;
             r->turn++;
@@ -138,7 +138,7 @@ static uint32_t take_steps(struct running *r, uint32_t steps)
 uint32_t plain_run(uint32_t n, uint32_t m, uint32_t page_bytes, uint32_t s,
                    const uint8_t *list, uint64_t list_len, const uint8_t *pins, uint64_t pins_len, const uint8_t *sets, uint64_t sets_len,
                    uint8_t *store, uint64_t store_len, uint8_t *marks, uint64_t marks_len, uint8_t *work, uint64_t work_len,
-                   uint32_t place, uint32_t budget,
+                   uint8_t *wear, uint64_t wear_len, uint32_t place, uint32_t budget, uint32_t wear_limit,
                    uint32_t *place_reached, uint32_t *steps, uint32_t *writes, uint32_t *erases, uint32_t *finished,
                    uint32_t *written_bytes)
 {
@@ -146,7 +146,7 @@ uint32_t plain_run(uint32_t n, uint32_t m, uint32_t page_bytes, uint32_t s,
     uint32_t end, taken, number;
     *place_reached = *steps = *writes = *erases = *finished = *written_bytes = 0;
     r.z = (struct sizes){n, m, page_bytes, s};
-    number = plain_refusal(&r.z, list, list_len, pins, pins_len, sets, sets_len, store_len, marks_len, work_len, &r.list,
+    number = plain_refusal(&r.z, list, list_len, pins, pins_len, sets, sets_len, store_len, marks_len, work_len, wear_len, &r.list,
                            r.set_of);
     if (number != 0)
         return number;
@@ -156,12 +156,15 @@ uint32_t plain_run(uint32_t n, uint32_t m, uint32_t page_bytes, uint32_t s,
     r.sets = sets;
     r.store = store;
     r.marks = marks;
+    r.wear = wear;
     r.last = NULL;
     r.bytes = 0;
     r.turn = place / (m + 1);
     r.filled = place % (m + 1);
     if (!stands(&r))
         return 5;
+    if (place == 0 && plain_worn(&r.z, wear, wear_limit))
+        return 12;
     taken = budget < end - place ? budget : end - place;
     r.all_rows = taken > m / 8 + 1;
     if (r.all_rows)

@@ -18,15 +18,16 @@ struct answer call_run(const struct mover *mover, struct scene *z, uint32_t plac
 {
     struct answer a;
     a.number = mover->run(z->n, z->m, z->page_bytes, z->s, z->list, z->list_len, z->pins, z->pins_len, z->sets, z->sets_len,
-                          z->store, z->store_len, z->marks, z->marks_len, z->work, z->work_len, place, budget, &a.out[0], &a.out[1],
-                          &a.out[2], &a.out[3], &a.out[4], &a.out[5]);
+                          z->store, z->store_len, z->marks, z->marks_len, z->work, z->work_len, z->wear, z->wear_len, place, budget,
+                          z->wear_limit, &a.out[0], &a.out[1], &a.out[2], &a.out[3], &a.out[4], &a.out[5]);
     return a;
 }
 
 struct answer call_mend(const struct mover *mover, struct scene *z)
 {
     struct answer a = {0, {0}};
-    a.number = mover->mend(z->n, z->m, z->page_bytes, z->s, z->store, z->store_len, z->marks, z->marks_len, &a.out[0], &a.out[1]);
+    a.number = mover->mend(z->n, z->m, z->page_bytes, z->s, z->store, z->store_len, z->marks, z->marks_len, z->wear, z->wear_len,
+                          &a.out[0], &a.out[1]);
     return a;
 }
 
@@ -70,12 +71,14 @@ static void make_parts(struct scene *z)
     z->store_len = mover_store_bytes(z->n, z->m, z->page_bytes);
     z->marks_len = mover_marks_bytes(z->n, z->m);
     z->work_len = z->page_bytes;
+    z->wear_len = MOVER_WEAR_BYTES;
     z->list = take(z->list_len);
     z->pins = take(z->pins_len);
     z->sets = take(z->sets_len);
     z->store = take(z->store_len);
     z->marks = take(z->marks_len);
     z->work = take(z->work_len);
+    z->wear = take(z->wear_len);
 }
 
 static uint32_t number_of(const struct scene *z, enum order order, uint32_t k)
@@ -116,6 +119,8 @@ void scene_make(struct scene *z, uint32_t n, uint32_t m, uint32_t page_bytes, en
     memset(z->store, 255, z->store_len);
     memset(z->marks, 255, z->marks_len);
     memset(z->work, 0, page_bytes);
+    memset(z->wear, 0, z->wear_len);
+    z->wear_limit = UINT32_MAX;
     random_bytes(random, z->store + (uint64_t)m * page_bytes, (uint64_t)n * m * page_bytes);
     memset(z->marks + m, 0, (size_t)n * m);
 }
@@ -130,6 +135,7 @@ void scene_copy(struct scene *to, const struct scene *from)
     memcpy(to->store, from->store, from->store_len);
     memcpy(to->marks, from->marks, from->marks_len);
     memcpy(to->work, from->work, from->work_len);
+    memcpy(to->wear, from->wear, from->wear_len);
 }
 
 void scene_free(struct scene *z)
@@ -140,10 +146,12 @@ void scene_free(struct scene *z)
     free(z->store);
     free(z->marks);
     free(z->work);
+    free(z->wear);
 }
 
 int scene_same(const struct scene *a, const struct scene *b)
 {
     return memcmp(a->sets, b->sets, a->sets_len) == 0 && memcmp(a->store, b->store, a->store_len) == 0
-        && memcmp(a->marks, b->marks, a->marks_len) == 0 && memcmp(a->work, b->work, a->work_len) == 0;
+        && memcmp(a->marks, b->marks, a->marks_len) == 0 && memcmp(a->work, b->work, a->work_len) == 0
+        && memcmp(a->wear, b->wear, a->wear_len) == 0;
 }

@@ -6,8 +6,9 @@
 
 struct scene {
     uint32_t n, m, page_bytes, s;
-    uint64_t list_len, pins_len, sets_len, store_len, marks_len, work_len;
-    uint8_t *list, *pins, *sets, *store, *marks, *work;
+    uint64_t list_len, pins_len, sets_len, store_len, marks_len, work_len, wear_len;
+    uint8_t *list, *pins, *sets, *store, *marks, *work, *wear;
+    uint32_t wear_limit;
     uint64_t text_len;                     /* a HEX text, which is not the scene's own: neither copied nor freed with it */
     uint8_t *text;
 };
@@ -17,9 +18,10 @@ struct mover {
     const char *name;
     uint32_t (*split)(uint32_t, uint32_t, uint32_t, uint32_t, const uint8_t *, uint64_t, const uint8_t *, uint64_t, uint8_t *, uint64_t);
     uint32_t (*run)(uint32_t, uint32_t, uint32_t, uint32_t, const uint8_t *, uint64_t, const uint8_t *, uint64_t, const uint8_t *,
-                    uint64_t, uint8_t *, uint64_t, uint8_t *, uint64_t, uint8_t *, uint64_t, uint32_t, uint32_t, uint32_t *,
-                    uint32_t *, uint32_t *, uint32_t *, uint32_t *, uint32_t *);
-    uint32_t (*mend)(uint32_t, uint32_t, uint32_t, uint32_t, uint8_t *, uint64_t, uint8_t *, uint64_t, uint32_t *, uint32_t *);
+                    uint64_t, uint8_t *, uint64_t, uint8_t *, uint64_t, uint8_t *, uint64_t, uint8_t *, uint64_t, uint32_t, uint32_t, uint32_t,
+                    uint32_t *, uint32_t *, uint32_t *, uint32_t *, uint32_t *, uint32_t *);
+    uint32_t (*mend)(uint32_t, uint32_t, uint32_t, uint32_t, uint8_t *, uint64_t, uint8_t *, uint64_t, uint8_t *, uint64_t, uint32_t *,
+                     uint32_t *);
     uint32_t (*read)(uint32_t, uint32_t, uint32_t, uint32_t, const uint8_t *, uint64_t, const uint8_t *, uint64_t, const uint8_t *,
                      uint64_t, const uint8_t *, uint64_t, const uint8_t *, uint64_t, uint8_t *, uint64_t, uint32_t, uint32_t *,
                      uint32_t *);
@@ -46,7 +48,7 @@ enum order { RANDOM, DROPPING, CYCLE_UP, CYCLE_DOWN, TRANSPOSED };
 /* Memory; ends the program if there is none. */
 uint8_t *take(uint64_t bytes);
 
-/* A scene at rest with random pages, none of them pinned, and no text. */
+/* A scene at rest with random pages, none of them pinned, no erase counted, no limit, and no text. */
 void scene_make(struct scene *scene, uint32_t n, uint32_t m, uint32_t page_bytes, enum order order, uint64_t *random);
 void scene_copy(struct scene *to, const struct scene *from);
 void scene_free(struct scene *scene);

@@ -5,8 +5,8 @@
 int main(void)
 {
     static const uint8_t pins[4], blank[4] = {255, 255, 255, 255};
-    uint8_t list[8], sets[4], store[24], marks[6], work[4];
-    const struct mover_move move = {2, 2, 4, 0, list, pins, sets, store, marks, work};
+    uint8_t list[8], sets[4], store[24], marks[6], work[4], wear[MOVER_WEAR_BYTES] = {0};
+    const struct mover_move move = {2, 2, 4, 0, list, pins, sets, store, marks, work, wear};
     struct mover_state at;
     uint32_t count, bytes;
 
@@ -26,7 +26,7 @@ int main(void)
     if (mover_read_move(&move, 0, &count, &bytes) != MOVER_DONE || count != 0 || bytes != 0 || memcmp(work, blank, 4) != 0)
         return 1;
 
-    if (mover_run_move(&move, 0, UINT32_MAX, &at) != MOVER_DONE || !at.finished)
+    if (mover_run_move(&move, 0, UINT32_MAX, UINT32_MAX, &at) != MOVER_DONE || !at.finished)
         return 1;
     /* no entry names pages 1 and 3: they hold 255s */
     return memcmp(store + 8, "fit2\377\377\377\377fit1\377\377\377\377", 16) != 0;

@@ -6,8 +6,9 @@
 
 enum { N = 4, M = 2, P = 16, S = 0, LONGEST = 65536 };
 
-static uint8_t list[2 * N * M], pins[N * M], sets[N * M], store[(N + 1) * M * P], marks[(N + 1) * M], work[P], text[LONGEST];
-static const struct mover_move move = {N, M, P, S, list, pins, sets, store, marks, work};
+static uint8_t list[2 * N * M], pins[N * M], sets[N * M], store[(N + 1) * M * P], marks[(N + 1) * M], work[P];
+static uint8_t wear[MOVER_WEAR_BYTES], text[LONGEST];
+static const struct mover_move move = {N, M, P, S, list, pins, sets, store, marks, work, wear};
 
 static int fail(const char *what, uint32_t number)
 {
@@ -33,7 +34,7 @@ int main(int count, char **words)
         mover_send(list, k, N * M - 1 - k);                                     /* the last page comes first */
     number = mover_split_move(&move);
     if (number == MOVER_DONE)
-        number = mover_run_move(&move, 0, UINT32_MAX, &at);
+        number = mover_run_move(&move, 0, UINT32_MAX, UINT32_MAX, &at);
     if (number != MOVER_DONE)
         return fail("no move", number);
 

@@ -21,6 +21,7 @@
  *                the s of the next move
  *   place        how many steps of the move are done, 0 to 2 * n * (m + 1)
  *   budget       how many steps to take at most, any number
+ *   wear_limit   how many erases a block may have had after the move, any number; UINT32_MAX unless the record nears it
  *   original     an original page, 0 to n * m - 1: number k is page k % m of block k / m + 1 before the move
  *
  * Lent parts: a pointer and a length in bytes, which must be exact. NULL goes with length 0.
@@ -33,12 +34,18 @@
  *   marks        (n + 1) * m bytes, one a page in the same order: 0, 1 or 2 where a page is written, 255 where none is; 3 to 254 only
  *                where a cut left it so: mover_mend and mover_read count it as 255, mover_run refuses it with 5
  *   work         page_bytes bytes to work in
+ *   wear         MOVER_WEAR_BYTES: a counter of erases for each of blocks 0 to 64, however many there are, four bytes each, low byte first. It
+ *                belongs to the chip and not to the move: keep it as long as the chip
  *   text         an Intel HEX file; mover_hex_write fills exactly mover_hex_bytes, mover_hex_read takes any length
  *
  * A DROPPED PAGE, whose entry is MOVER_DROPPED, is 255s throughout from the first call that takes the list: read gives them at once, while
  * its old bytes may still lie in the store, and they cannot be had back. At the end the first dropped page, by number, has left its 255s at the
  * first page number that no entry names, the second at the second, and so on. They are written, marked like any other page, and no byte of
  * them counts as a load. Any number of pages may be dropped, also all. The list is never changed.
+ *
+ * WEAR. mover_run and mover_mend add one to the counter of a block for each erase that they finish; a counter at UINT32_MAX stays there. A
+ * call that is cut returns nothing, and its erases are in no record: with one step a call a cut loses one erase at most. mover_run looks at the
+ * limit where a move begins, at place 0, and nowhere else: what has begun is never refused for wear.
  *
  * Before a move the pages of blocks 1 to n have mark s, and those of block 0 have mark 255 and bytes 255 throughout.
  *
@@ -79,12 +86,19 @@ enum mover_refusal {
     MOVER_BAD_RECORD = 8,    /* a HEX record of another form or type, or with a wrong checksum */
     MOVER_BAD_ADDRESS = 9,   /* a HEX data byte outside the image, or a record that runs over a 64 KiB span */
     MOVER_BAD_TEXT = 10,     /* a HEX data byte given twice, no end record, or anything after it */
-    MOVER_BAD_PINS = 11      /* the list sends a pinned page to another address and does not drop it; this comes between 3 and 4 */
+    MOVER_BAD_PINS = 11,     /* the list sends a pinned page to another address and does not drop it; this comes between 3 and 4 */
+    MOVER_BAD_WEAR = 12      /* a move from place 0 would wear a block past the limit; this comes after 5 */
 };
 
 /* The list entry of a page that is thrown away. */
 enum mover_entry {
     MOVER_DROPPED = 65535
+};
+
+/* The length of the record of erases, and the blocks it has counters for. */
+enum mover_wear {
+    MOVER_COUNTERS = 65,
+    MOVER_WEAR_BYTES = 4 * MOVER_COUNTERS
 };
 
 /* What the step at a place does. */
@@ -107,14 +121,16 @@ uint32_t mover_split(uint32_t n, uint32_t m, uint32_t page_bytes, uint32_t s,
  *   *finished       1 if the place reached is 2 * n * (m + 1), else 0
  *   *written_bytes  how many bytes of the pages written, all together, are not 255: the load of programming them. 0 to *writes * page_bytes,
  *                   and never above 2 * n * m * page_bytes, which is at most 33554432
- * Changes `store`, `marks` and `work`; `work` is left with the last page written, or as it was if none was. A pinned page travels
+ * Changes `store`, `marks`, `work` and `wear`; `work` is left with the last page written, or as it was if none was. A pinned page travels
  * like any other and lies at its old address again only from when it is written there in the second pass. A dropped page adds 255s
  * to the pages that are written, whatever bytes it has left.
- * Returns 0, or 1, 2, 3, 11, 4 or 5. */
+ * From place 0, with a budget of 0 too, the number is 12 if a block of the store would come to more erases than wear_limit by a whole move without
+ * a cut, which erases the first block and the last once and the others twice. From another place the limit does nothing.
+ * Returns 0, or 1, 2, 3, 11, 4, 5 or 12. */
 uint32_t mover_run(uint32_t n, uint32_t m, uint32_t page_bytes, uint32_t s,
                    const uint8_t *list, uint64_t list_len, const uint8_t *pins, uint64_t pins_len, const uint8_t *sets, uint64_t sets_len,
                    uint8_t *store, uint64_t store_len, uint8_t *marks, uint64_t marks_len, uint8_t *work, uint64_t work_len,
-                   uint32_t place, uint32_t budget,
+                   uint8_t *wear, uint64_t wear_len, uint32_t place, uint32_t budget, uint32_t wear_limit,
                    uint32_t *place_reached, uint32_t *steps, uint32_t *writes, uint32_t *erases, uint32_t *finished,
                    uint32_t *written_bytes);
 
@@ -122,7 +138,7 @@ uint32_t mover_run(uint32_t n, uint32_t m, uint32_t page_bytes, uint32_t s,
  * there is one; it may itself be cut, and called again.
  *   *place   where the move goes on; 2 * n * (m + 1) if it is finished
  *   *erases  1 if a block was erased, else 0; it is the block that mover_operation tells of at *place, which at the end is 0, the spare
- * Changes only that block's bytes and marks.
+ * Changes only that block's bytes, marks and counter.
  * A block whose pages all have the same letter is full of it; a block that is full of none is unfinished. The number is 6 unless, letters
  * counted modulo 3, one of these is so:
  *   one block is unfinished, all below it are full of s + 1, and all above it of s
@@ -132,7 +148,7 @@ uint32_t mover_run(uint32_t n, uint32_t m, uint32_t page_bytes, uint32_t s,
  * What marks an unfinished block has, and where, is not looked into.
  * Returns 0, or 1, 2 or 6. */
 uint32_t mover_mend(uint32_t n, uint32_t m, uint32_t page_bytes, uint32_t s,
-                    uint8_t *store, uint64_t store_len, uint8_t *marks, uint64_t marks_len,
+                    uint8_t *store, uint64_t store_len, uint8_t *marks, uint64_t marks_len, uint8_t *wear, uint64_t wear_len,
                     uint32_t *place, uint32_t *erases);
 
 /* Reads an original at any moment of the move, also after a cut and before recovery: puts it into `work`. A dropped one is 255s.
@@ -227,6 +243,20 @@ static inline void mover_drop(uint8_t *list, uint32_t k)
     mover_send(list, k, MOVER_DROPPED);
 }
 
+/* How many erases a record has counted for a block, 0 to 64. */
+static inline uint32_t mover_counter(const uint8_t *wear, uint32_t block)
+{
+    const uint8_t *counter = wear + 4 * (uint64_t)block;
+    return counter[0] | (uint32_t)counter[1] << 8 | (uint32_t)counter[2] << 16 | (uint32_t)counter[3] << 24;
+}
+
+static inline void mover_set_counter(uint8_t *wear, uint32_t block, uint32_t count)
+{
+    int i;
+    for (i = 0; i < 4; i++)
+        wear[4 * (uint64_t)block + (uint64_t)i] = (uint8_t)(count >> 8 * i & 255);
+}
+
 /* The sizes and lent parts of a move, gathered once. Each part must have the length that the functions above give; the pins, n * m zeros
  * where no page is pinned, must not be NULL. With it a move, or the rest of one after a power cut, is
  *
@@ -234,12 +264,12 @@ static inline void mover_drop(uint8_t *list, uint32_t k)
  *     if (number == MOVER_DONE)
  *         number = mover_mend_move(&move, &at);
  *     if (number == MOVER_DONE)
- *         number = mover_run_move(&move, at.place, UINT32_MAX, &at);
+ *         number = mover_run_move(&move, at.place, UINT32_MAX, wear_limit, &at);
  */
 struct mover_move {
     uint32_t n, m, page_bytes, s;
     const uint8_t *list, *pins;
-    uint8_t *sets, *store, *marks, *work;
+    uint8_t *sets, *store, *marks, *work, *wear;
 };
 
 /* How a call left the move: the place reached, and what it took. */
@@ -256,15 +286,15 @@ struct mover_step {
  * are left for the call to refuse. */
 static inline int mover_apart_from(const struct mover_move *move, const uint8_t *text, uint64_t text_len)
 {
-    const uint8_t *const part[7] = {move->list, move->pins, move->sets, move->store, move->marks, move->work, text};
-    const uint64_t bytes[7] = {mover_list_bytes(move->n, move->m), mover_pins_bytes(move->n, move->m),
+    const uint8_t *const part[8] = {move->list, move->pins, move->sets, move->store, move->marks, move->work, move->wear, text};
+    const uint64_t bytes[8] = {mover_list_bytes(move->n, move->m), mover_pins_bytes(move->n, move->m),
                                mover_sets_bytes(move->n, move->m), mover_store_bytes(move->n, move->m, move->page_bytes),
-                               mover_marks_bytes(move->n, move->m), move->page_bytes, text_len};
+                               mover_marks_bytes(move->n, move->m), move->page_bytes, MOVER_WEAR_BYTES, text_len};
     int i, j;
     if (move->n - 1 > 63 || move->m - 1 > 63 || move->page_bytes - 1 > 4095)
         return 1;
-    for (i = 0; i < 7; i++)
-        for (j = 0; j < 7; j++)
+    for (i = 0; i < 8; i++)
+        for (j = 0; j < 8; j++)
             if (i != j && part[i] && part[j] && (uintptr_t)part[i] <= (uintptr_t)part[j]
                 && (uintptr_t)part[j] < (uintptr_t)part[i] + bytes[i])
                 return 0;
@@ -283,14 +313,15 @@ static inline uint32_t mover_split_move(const struct mover_move *move)
                        mover_pins_bytes(move->n, move->m), move->sets, mover_sets_bytes(move->n, move->m));
 }
 
-static inline uint32_t mover_run_move(const struct mover_move *move, uint32_t place, uint32_t budget, struct mover_state *state)
+static inline uint32_t mover_run_move(const struct mover_move *move, uint32_t place, uint32_t budget, uint32_t wear_limit,
+                                      struct mover_state *state)
 {
     assert(mover_apart(move));
     return mover_run(move->n, move->m, move->page_bytes, move->s, move->list, mover_list_bytes(move->n, move->m), move->pins,
                      mover_pins_bytes(move->n, move->m), move->sets, mover_sets_bytes(move->n, move->m), move->store,
                      mover_store_bytes(move->n, move->m, move->page_bytes), move->marks, mover_marks_bytes(move->n, move->m),
-                     move->work, move->page_bytes, place, budget, &state->place, &state->steps, &state->writes, &state->erases,
-                     &state->finished, &state->written_bytes);
+                     move->work, move->page_bytes, move->wear, MOVER_WEAR_BYTES, place, budget, wear_limit, &state->place,
+                     &state->steps, &state->writes, &state->erases, &state->finished, &state->written_bytes);
 }
 
 /* As mover_mend: sets place and erases, an erase being a step, and finished if the place is the last; it writes no page. */
@@ -300,7 +331,7 @@ static inline uint32_t mover_mend_move(const struct mover_move *move, struct mov
     assert(mover_apart(move));
     number = mover_mend(move->n, move->m, move->page_bytes, move->s, move->store,
                         mover_store_bytes(move->n, move->m, move->page_bytes), move->marks, mover_marks_bytes(move->n, move->m),
-                        &state->place, &state->erases);
+                        move->wear, MOVER_WEAR_BYTES, &state->place, &state->erases);
     state->steps = state->erases;
     state->writes = state->written_bytes = 0;
     state->finished = number == MOVER_DONE && state->place == mover_last_place(move->n, move->m) ? 1 : 0;

@@ -1,6 +1,7 @@
 #include "chip.h"
 #include "spare.h"
 
+#include <stdlib.h>
 #include <string.h>
 
 int chip_make(struct chip *chip, uint32_t blocks, uint32_t pages, uint32_t page_bytes, uint64_t seed)
@@ -10,12 +11,14 @@ int chip_make(struct chip *chip, uint32_t blocks, uint32_t pages, uint32_t page_
     chip->cells.page_bytes = page_bytes;
     chip->cells.spare_bytes = SPARE_BYTES;
     chip->cells.random = seed;
-    return cells_make(&chip->cells);
+    chip->erased = calloc(blocks, sizeof *chip->erased);
+    return cells_make(&chip->cells) && chip->erased != NULL;
 }
 
 void chip_free(struct chip *chip)
 {
     cells_free(&chip->cells);
+    free(chip->erased);
 }
 
 /* What is to be in the spare area of a page. A raw mark is a byte, and the others stay blank. */
@@ -54,15 +57,21 @@ void chip_fill(struct chip *chip, const uint8_t *bytes, uint32_t letter)
     }
 }
 
-void chip_load(struct chip *chip, uint8_t *store, uint8_t *marks)
+void chip_load(struct chip *chip, uint8_t *store, uint8_t *marks, uint8_t *record)
 {
     const struct cells *cells = &chip->cells;
     uint64_t slots = (uint64_t)cells->blocks * cells->pages;
     memcpy(store, cells->bytes, slots * cells->page_bytes);
+    memcpy(record, chip->record, MOVER_WEAR_BYTES);
     for (uint64_t slot = 0; slot < slots; slot++) {
         marks[slot] = mark_of(chip, slot);
         chip->inexact += marks[slot] > 2 && !all_blank(cells_spare(cells, slot), SPARE_BYTES);
     }
+}
+
+void chip_keep(struct chip *chip, const uint8_t *record)
+{
+    memcpy(chip->record, record, MOVER_WEAR_BYTES);
 }
 
 /* The bytes first, and the spare area once they are there; a raw mark goes with the bytes. Returns 0 if the power failed. */
@@ -86,5 +95,8 @@ enum chip_answer chip_program(struct chip *chip, uint32_t block, uint32_t page, 
 
 enum chip_answer chip_erase(struct chip *chip, uint32_t block)
 {
-    return cells_erase(&chip->cells, block) ? CHIP_DONE : CHIP_DOWN;
+    if (!cells_erase(&chip->cells, block))
+        return CHIP_DOWN;
+    chip->erased[block]++;
+    return CHIP_DONE;
 }

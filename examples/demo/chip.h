@@ -6,11 +6,14 @@
 #define CHIP_H
 
 #include "cells.h"
+#include "mover.h"
 
 struct chip {
     struct cells cells;
     int raw;
     uint32_t inexact;       /* how many pages were read without a letter although their spare area was not blank */
+    uint32_t *erased;       /* how many erases of each block were done */
+    uint8_t record[MOVER_WEAR_BYTES];   /* the counters of erases, in a memory of its own that keeps them without power */
 };
 
 enum chip_answer {
@@ -26,8 +29,11 @@ void chip_free(struct chip *chip);
 /* The state before a move: the spare block, number 0, is blank, and the others are filled with pages that have this letter. */
 void chip_fill(struct chip *chip, const uint8_t *bytes, uint32_t letter);
 
-/* At power-up: the bytes of all pages as they read, and their marks. */
-void chip_load(struct chip *chip, uint8_t *store, uint8_t *marks);
+/* At power-up: the bytes of all pages as they read, their marks, and the record. */
+void chip_load(struct chip *chip, uint8_t *store, uint8_t *marks, uint8_t *record);
+
+/* The record after a call that returned, once the chip has done the same. */
+void chip_keep(struct chip *chip, const uint8_t *record);
 
 enum chip_answer chip_program(struct chip *chip, uint32_t block, uint32_t page, const uint8_t *bytes, uint32_t mark);
 enum chip_answer chip_erase(struct chip *chip, uint32_t block);

@@ -1,7 +1,7 @@
 /* Moves of pages on a flash chip whose power fails again and again.
  *
  * The chip is driven as a real one would be: the library takes one step on an image of the chip in RAM, and the program then does
- * the same on the chip. A power cut takes the image away. What is left is the chip, the list, the pins,
+ * the same on the chip. A power cut takes the image away. What is left is the chip with its record of erases, the list, the pins,
  * the sizes and s. */
 #define _POSIX_C_SOURCE 200809L
 
@@ -14,7 +14,7 @@
 #include <time.h>
 #include <unistd.h>
 
-enum outcome { DONE, POWER_CUT, WRONG };
+enum outcome { DONE, POWER_CUT, WRONG, WORN };
 
 /* The move cannot go on. */
 static enum outcome wrong(struct demo *demo, const char *what)
@@ -33,20 +33,24 @@ static enum outcome outcome_of(struct demo *demo, enum chip_answer answer)
     return answer == CHIP_DOWN ? POWER_CUT : DONE;
 }
 
-/* One step: on the image in RAM first, then on the chip. */
+/* One step: on the image in RAM first, then on the chip, and then its erase is put down. A worn module is refused before the first. */
 static enum outcome take_step(struct demo *demo)
 {
     struct mover_step step;
     struct mover_state state;
     enum outcome outcome;
-    if (mover_step_of(&demo->move, demo->place, &step) != MOVER_DONE
-        || mover_run_move(&demo->move, demo->place, 1, &state) != MOVER_DONE)
+    uint32_t number = mover_run_move(&demo->move, demo->place, 1, demo->options.limit, &state);
+    if (number == MOVER_BAD_WEAR)
+        return WORN;
+    if (number != MOVER_DONE || mover_step_of(&demo->move, demo->place, &step) != MOVER_DONE)
         return wrong(demo, "a step was refused");
     demo->written_bytes += state.written_bytes;
     if (step.kind == MOVER_WRITE)
         outcome = outcome_of(demo, chip_program(&demo->chip, step.block, step.page, demo->move.work, step.mark));
     else
         outcome = outcome_of(demo, chip_erase(&demo->chip, step.block));
+    if (outcome == DONE)
+        chip_keep(&demo->chip, demo->move.wear);
     demo->place = state.place;
     return outcome;
 }
@@ -56,11 +60,16 @@ static enum outcome recover(struct demo *demo)
 {
     struct mover_step step;
     struct mover_state state;
+    enum outcome outcome = DONE;
     demo->recoveries++;
     if (mover_mend_move(&demo->move, &state) != MOVER_DONE || mover_step_of(&demo->move, state.place, &step) != MOVER_DONE)
         return wrong(demo, "recovery was refused");
     demo->place = state.place;
-    return state.erases == 0 ? DONE : outcome_of(demo, chip_erase(&demo->chip, step.block));
+    if (state.erases == 1)
+        outcome = outcome_of(demo, chip_erase(&demo->chip, step.block));
+    if (outcome == DONE)
+        chip_keep(&demo->chip, demo->move.wear);
+    return outcome;
 }
 
 /* Reads an original and compares it. */
@@ -100,7 +109,7 @@ static enum outcome power_on(struct demo *demo)
     demo->chip.cells.fuse = fuse_of(demo);
     memset(demo->move.work, 0xA5, o->page_bytes);
     memset(demo->move.sets, 0xA5, mover_sets_bytes(o->blocks, o->pages));
-    chip_load(&demo->chip, demo->move.store, demo->move.marks);
+    chip_load(&demo->chip, demo->move.store, demo->move.marks, demo->move.wear);
     demo->place = demo->last + 1;   /* forgotten as well */
     return mover_split_move(&demo->move) == MOVER_DONE ? DONE : wrong(demo, "the list was refused");
 }
@@ -202,7 +211,7 @@ static uint32_t pages_out_of_place(struct demo *demo, uint8_t *filled)
 {
     const struct options *o = &demo->options;
     uint32_t bad = 0;
-    chip_load(&demo->chip, demo->move.store, demo->move.marks);
+    chip_load(&demo->chip, demo->move.store, demo->move.marks, demo->move.wear);
     memset(filled, 0, (size_t)o->blocks * o->pages);
     for (uint32_t k = 0; k < o->blocks * o->pages; k++) {
         uint32_t number = entry_of(demo, k);
@@ -242,6 +251,7 @@ static void count_pinned(struct demo *demo)
 static void move_pages(struct demo *demo)
 {
     uint32_t wrong_before = demo->reads_wrong, astray_before = demo->pinned_astray, emptied_before = demo->emptied_wrong, bad = 0;
+    const struct options *o = &demo->options;
     uint8_t filled[64 * 64];
     enum outcome outcome;
     pin_some(demo);
@@ -250,6 +260,9 @@ static void move_pages(struct demo *demo)
     fill_chip(demo);
     while ((outcome = go_on(demo)) == POWER_CUT)
         demo->cuts++;
+    demo->worn = outcome == WORN;
+    if (outcome == WORN && read_some(demo, o->blocks * o->pages) == WRONG)
+        outcome = WRONG;
     if (outcome == DONE) {
         bad = pages_out_of_place(demo, filled);
         count_pinned(demo);
@@ -282,9 +295,12 @@ static int prepare(struct demo *demo)
     move->store = malloc(mover_store_bytes(o->blocks, o->pages, o->page_bytes));
     move->marks = malloc(mover_marks_bytes(o->blocks, o->pages));
     move->work = malloc(o->page_bytes);
+    move->wear = malloc(MOVER_WEAR_BYTES);
+    for (uint32_t block = 0; block < MOVER_COUNTERS; block++)
+        mover_set_counter(demo->chip.record, block, o->wear);
     demo->originals = malloc(mover_store_bytes(o->blocks, o->pages, o->page_bytes));
     return demo->list != NULL && demo->pins != NULL && move->sets != NULL && move->store != NULL && move->marks != NULL
-        && move->work != NULL && demo->originals != NULL
+        && move->work != NULL && move->wear != NULL && demo->originals != NULL
         && chip_make(&demo->chip, o->blocks + 1, o->pages, o->page_bytes, random_next(&demo->random));
 }
 
@@ -296,6 +312,7 @@ static void clear(struct demo *demo)
     free(demo->move.store);
     free(demo->move.marks);
     free(demo->move.work);
+    free(demo->move.wear);
     free(demo->originals);
     chip_free(&demo->chip);
 }
@@ -312,9 +329,9 @@ int main(int count, char **words)
         return 2;
     }
     print_start(&demo);
-    for (uint32_t move = 0; move < demo.options.moves; move++)
+    for (uint32_t move = 0; move < demo.options.moves && !demo.worn; move++)
         move_pages(&demo);
-    status = print_end(&demo) ? 0 : 1;
+    status = !print_end(&demo) ? 1 : demo.worn ? 3 : 0;
     clear(&demo);
     return status;
 }

@@ -24,6 +24,7 @@ struct demo {
     uint32_t pinned, pinned_astray;         /* of these too: the pages that must stay, and those of them that did not */
     uint32_t emptied, emptied_wrong;        /* and the places that dropped pages leave empty, and those of them that do not hold 255s */
     const char *stopped_by;                 /* what was wrong in the first move that stopped, or NULL */
+    int worn;                               /* a move was not begun: a block would have passed the limit */
 
     int live;                     /* progress is shown on a terminal */
     uint32_t shown;

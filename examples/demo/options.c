@@ -11,7 +11,7 @@
 enum { TAKEN = 0, HELP = 1, WRONG = 2, MOST_OPERATIONS = 1000000 };
 
 /* Zero moves and no number of operations stand for what goes with other options. */
-static const struct options usual = {1, 0, 16, 16, 512, 0, UINT32_MAX, 2, 0, 0};
+static const struct options usual = {1, 0, 16, 16, 512, 0, UINT32_MAX, 2, 0, 100000, 0, 0};
 
 static void print_help(void)
 {
@@ -29,11 +29,15 @@ static void print_help(void)
            "  --tears KIND     what a cut leaves: 'rude', bits that changed in any order, as on a real chip; or 'plain', pages whose\n"
            "                   marks are no letters, which is what the library asks for (rude)\n"
            "  --raw            marks are bare bytes, without code words and checksums (docs/CHIPS.md): rude tears then lose pages\n"
+           "  --wear N         erases that each block has had before, 0 to %" PRIu32 " (0)\n"
+           "  --limit N        erases that a block stands: where a move would take one past it, no move is begun any more, 0 to\n"
+           "                   %" PRIu32 " (100000)\n"
            "  --pause N        milliseconds after each step on a terminal, 0 to 999 (2)\n"
            "  --help           this text\n"
            "\n"
-           "Ends with status 0 if every page of every move was right, with 1 if not, and with 2 if an option is wrong.\n",
-           UINT64_MAX, MOST_OPERATIONS);
+           "Ends with status 0 if every page of every move was right, with 1 if not, with 2 if an option is wrong, and with 3 if the module\n"
+           "is worn.\n",
+           UINT64_MAX, MOST_OPERATIONS, UINT32_MAX, UINT32_MAX);
 }
 
 /* Tells what an option takes and what it got, which may be nothing. */
@@ -84,6 +88,8 @@ static int take_pair(struct options *o, const char *name, const char *text)
         {"--letter", 0, 2, &o->letter},
         {"--cut-within", 0, MOST_OPERATIONS, &o->cut_within},
         {"--pause", 0, 999, &o->pause},
+        {"--wear", 0, UINT32_MAX, &o->wear},
+        {"--limit", 0, UINT32_MAX, &o->limit},
     };
     if (strcmp(name, "--tears") == 0)
         return take_tears(o, text);

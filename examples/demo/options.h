@@ -6,7 +6,7 @@
 
 struct options {
     uint64_t seed;
-    uint32_t moves, blocks, pages, page_bytes, letter, cut_within, pause;
+    uint32_t moves, blocks, pages, page_bytes, letter, cut_within, pause, wear, limit;
     int plain, raw;
 };
 

@@ -73,18 +73,39 @@ void print_progress(struct demo *demo)
     fflush(stdout);
 }
 
-static void print_erases(const struct demo *demo)
+static uint32_t counter(const struct demo *demo, uint32_t block)
 {
-    enum { A_ROW = 17 };
-    for (uint32_t first = 0; first <= demo->options.blocks; first += A_ROW) {
-        printf("  block     ");
-        for (uint32_t block = first; block <= demo->options.blocks && block < first + A_ROW; block++)
-            printf("%5" PRIu32, block);
-        printf("\n  erases    ");
-        for (uint32_t block = first; block <= demo->options.blocks && block < first + A_ROW; block++)
-            printf("%5" PRIu32, demo->chip.cells.erases[block]);
-        printf("\n\n");
+    return mover_counter(demo->chip.record, block);
+}
+
+/* A bar for each block, the most worn one's full. A cut loses its erase's count, so that more may have been begun. */
+static void print_wear(const struct demo *demo)
+{
+    enum { WIDTH = 40 };
+    uint32_t highest = 1;
+    for (uint32_t block = 0; block <= demo->options.blocks; block++)
+        if (counter(demo, block) > highest)
+            highest = counter(demo, block);
+    for (uint32_t block = 0; block <= demo->options.blocks; block++) {
+        uint64_t full = (uint64_t)counter(demo, block) * WIDTH / highest;
+        printf("  block %2" PRIu32 "    ", block);
+        for (uint32_t i = 0; i < WIDTH; i++)
+            putchar(i < full ? '#' : '.');
+        printf("  worn by %" PRIu32 " erase%s; %" PRIu32 " begun here\n", counter(demo, block), s(counter(demo, block)),
+               demo->chip.cells.erases[block]);
     }
+    printf("\n");
+}
+
+/* Whether each counter has risen by the erases of its block that were done, unless it is at its end. */
+static int counted_well(const struct demo *demo)
+{
+    for (uint32_t block = 0; block < MOVER_COUNTERS; block++) {
+        uint64_t due = demo->options.wear + (uint64_t)(block <= demo->options.blocks ? demo->chip.erased[block] : 0);
+        if (counter(demo, block) != (due > UINT32_MAX ? UINT32_MAX : due))
+            return 0;
+    }
+    return 1;
 }
 
 static void print_cuts(const struct demo *demo)
@@ -117,7 +138,7 @@ static void print_work(const struct demo *demo)
         printf("; proved: at most 2 x %" PRIu32 " + %" PRIu32 " recover%s = %" PRIu32, data_blocks, demo->recoveries,
                demo->recoveries == 1 ? "y" : "ies", erases_allowed(demo));
     printf("\n\n");
-    print_erases(demo);
+    print_wear(demo);
 }
 
 static void print_losses(const struct demo *demo)
@@ -148,7 +169,14 @@ static int print_verdict(const struct demo *demo)
         printf("\nThere were more erases than there may be: something is WRONG.\n");
         return 0;
     }
+    if (!counted_well(demo)) {
+        printf("\nThe erases are counted WRONG.\n");
+        return 0;
+    }
     printf("\nEvery page that was kept is in its place.\n");
+    if (demo->worn)
+        printf("The module is worn: one move more, and a block would have had more than %" PRIu32 " erases. It was refused.\n",
+               demo->options.limit);
     return 1;
 }
 

@@ -45,17 +45,19 @@ static void splits(const char *what, uint32_t n, uint32_t m, uint32_t page_bytes
 static void mends(const char *what, const uint8_t *store, const uint8_t *marks, uint64_t marks_len, uint32_t s, uint32_t number,
                   uint32_t place, uint32_t erases, int block)
 {
-    uint8_t chip[4], tags[4], due_chip[4], due_tags[4];
+    uint8_t chip[4], tags[4], due_chip[4], due_tags[4], wear[MOVER_WEAR_BYTES] = {0}, due_wear[MOVER_WEAR_BYTES] = {0};
     uint32_t got, got_place = 77, got_erases = 77;
     memcpy(chip, store, 4);
     memcpy(tags, marks, 4);
     memcpy(due_chip, store, 4);
     memcpy(due_tags, marks, 4);
-    if (block >= 0)
+    if (block >= 0) {
         due_chip[block] = due_tags[block] = 255;
-    got = mover_mend(3, 1, 1, s, chip, 4, tags, marks_len, &got_place, &got_erases);
+        mover_set_counter(due_wear, (uint32_t)block, 1);
+    }
+    got = mover_mend(3, 1, 1, s, chip, 4, tags, marks_len, wear, MOVER_WEAR_BYTES, &got_place, &got_erases);
     check(what, got == number && got_place == place && got_erases == erases && memcmp(chip, due_chip, 4) == 0
-                    && memcmp(tags, due_tags, 4) == 0);
+                    && memcmp(tags, due_tags, 4) == 0 && memcmp(wear, due_wear, sizeof wear) == 0);
 }
 
 /* A store of (n + 1) * m pages of one byte with its marks, and the work page. */
@@ -75,10 +77,14 @@ static void runs_with(const char *what, uint32_t n, uint32_t m, const uint8_t *l
     struct chip chip = *before;
     struct due got = {77, 77, 77, 77, 77, 77, 77};
     uint64_t slots = ((uint64_t)n + 1) * m;
+    uint8_t wear[MOVER_WEAR_BYTES] = {0};
+    uint32_t block, counted = 0;
     got.number = mover_run(n, m, 1, 0, list, 2 * (uint64_t)n * m, pins, pins_len, sets, (uint64_t)n * m, chip.store, slots, chip.marks,
-                           slots, chip.work, 1, place, budget, &got.place, &got.steps, &got.writes, &got.erases, &got.finished,
-                           &got.written_bytes);
-    check(what, memcmp(&got, &due, sizeof got) == 0 && memcmp(&chip, after, sizeof chip) == 0);
+                           slots, chip.work, 1, wear, MOVER_WEAR_BYTES, place, budget, UINT32_MAX, &got.place, &got.steps, &got.writes,
+                           &got.erases, &got.finished, &got.written_bytes);
+    for (block = 0; block < MOVER_COUNTERS; block++)
+        counted += mover_counter(wear, block);
+    check(what, memcmp(&got, &due, sizeof got) == 0 && memcmp(&chip, after, sizeof chip) == 0 && counted == due.erases);
 }
 
 static void runs(const char *what, uint32_t n, uint32_t m, const uint8_t *list, const uint8_t *sets, uint32_t place, uint32_t budget,
@@ -244,15 +250,16 @@ static void pins_travel_checked(void)
 {
     static const uint8_t list[] = {0, 0, 2, 0, 1, 0, 3, 0}, pins[] = {1, 0, 0, 1};
     uint8_t sets[4], store[] = {255, 255, 1, 2, 4, 8}, marks[] = {255, 255, 0, 0, 0, 0}, work[1];
-    struct mover_move move = {2, 2, 1, 0, list, pins, sets, store, marks, work};
+    uint8_t wear[MOVER_WEAR_BYTES] = {0};
+    struct mover_move move = {2, 2, 1, 0, list, pins, sets, store, marks, work, wear};
     struct mover_state at = {77, 77, 77, 77, 77, 77};
     uint32_t count, bytes;
     check("the list keeps them", mover_split_move(&move) == MOVER_DONE);
-    check("half of the move", mover_run_move(&move, 0, 5, &at) == MOVER_DONE && store[2] != 1 && store[5] == 8);
-    check("one more erase", mover_run_move(&move, 5, 1, &at) == MOVER_DONE && store[5] == 255);
+    check("half of the move", mover_run_move(&move, 0, 5, 2, &at) == MOVER_DONE && store[2] != 1 && store[5] == 8);
+    check("one more erase", mover_run_move(&move, 5, 1, 2, &at) == MOVER_DONE && store[5] == 255);
     check("both can be read", mover_read_move(&move, 0, &count, &bytes) == MOVER_DONE && work[0] == 1
                                   && mover_read_move(&move, 3, &count, &bytes) == MOVER_DONE && work[0] == 8);
-    check("the end", mover_run_move(&move, 6, UINT32_MAX, &at) == MOVER_DONE && at.finished && store[2] == 1 && store[5] == 8);
+    check("the end", mover_run_move(&move, 6, UINT32_MAX, 2, &at) == MOVER_DONE && at.finished && store[2] == 1 && store[5] == 8);
 }
 
 /* Two pages of two bytes trade places, one of them half 255 and the other 255 throughout. Their sum, which is written first, has no 255. */
@@ -261,7 +268,8 @@ static void bytes_checked(void)
     static const uint8_t list[] = {1, 0, 0, 0};
     static const uint32_t due[] = {2, 0, 0, 0, 1, 0, 0, 0};
     uint8_t sets[] = {0, 0}, store[] = {255, 255, 255, 3, 255, 255}, marks[] = {255, 0, 0}, work[2], rest[6], rest_marks[3];
-    struct mover_move move = {2, 1, 2, 0, list, no_pins, sets, store, marks, work};
+    uint8_t wear[MOVER_WEAR_BYTES] = {0};
+    struct mover_move move = {2, 1, 2, 0, list, no_pins, sets, store, marks, work, wear};
     struct mover_state at = {77, 77, 77, 77, 77, 77};
     uint32_t count = 77, bytes = 77, place;
     memcpy(rest, store, sizeof rest);
@@ -271,14 +279,14 @@ static void bytes_checked(void)
     bytes = 77;
     check("a refused read counts none", mover_read_move(&move, 2, &count, &bytes) == MOVER_BAD_ORIGINAL && count == 0 && bytes == 0);
     for (place = 0; place < 8; place++)
-        check("the bytes of a step", mover_run_move(&move, place, 1, &at) == MOVER_DONE && at.written_bytes == due[place]);
+        check("the bytes of a step", mover_run_move(&move, place, 1, UINT32_MAX, &at) == MOVER_DONE && at.written_bytes == due[place]);
     memcpy(store, rest, sizeof rest);
     memcpy(marks, rest_marks, sizeof rest_marks);
-    check("the bytes of a move", mover_run_move(&move, 0, UINT32_MAX, &at) == MOVER_DONE && at.writes == 4 && at.written_bytes == 3);
+    check("the bytes of a move", mover_run_move(&move, 0, UINT32_MAX, UINT32_MAX, &at) == MOVER_DONE && at.writes == 4 && at.written_bytes == 3);
     at.written_bytes = 77;
     check("recovery writes none", mover_mend_move(&move, &at) == MOVER_DONE && at.written_bytes == 0);
     at.written_bytes = 77;
-    check("a refused run counts none", mover_run_move(&move, 0, 8, &at) == MOVER_BAD_PLACE && at.written_bytes == 0);
+    check("a refused run counts none", mover_run_move(&move, 0, 8, UINT32_MAX, &at) == MOVER_BAD_PLACE && at.written_bytes == 0);
 }
 
 /* The most that a run can count: pages of zeros, whose sums are zeros too, and every size at its limit. */
@@ -286,7 +294,8 @@ static void most_bytes_checked(void)
 {
     enum { N = 64, M = 64, P = 4096 };
     static uint8_t list[2 * N * M], pins[N * M], sets[N * M], store[(N + 1) * M * P], marks[(N + 1) * M], work[P];
-    static const struct mover_move move = {N, M, P, 0, list, pins, sets, store, marks, work};
+    static uint8_t wear[MOVER_WEAR_BYTES];
+    static const struct mover_move move = {N, M, P, 0, list, pins, sets, store, marks, work, wear};
     struct mover_state at;
     uint32_t k;
     memset(store, 255, M * P);
@@ -294,7 +303,7 @@ static void most_bytes_checked(void)
     for (k = 0; k < N * M; k++)
         mover_send(list, k, N * M - 1 - k);
     check("the biggest list", mover_split_move(&move) == MOVER_DONE);
-    check("the biggest move", mover_run_move(&move, 0, UINT32_MAX, &at) == MOVER_DONE && at.finished);
+    check("the biggest move", mover_run_move(&move, 0, UINT32_MAX, 2, &at) == MOVER_DONE && at.finished);
     check("every byte of every page", at.written_bytes == 33554432);
 }
 
@@ -319,93 +328,6 @@ static void tells_checked(void)
     tells("n = 65", 65, 13, MOVER_BAD_SIZES, 0, 0, 0, 0);
 }
 
-/* The call reads a text into a store of 2 blocks of 2 pages of 2 bytes, or refuses it and leaves the store. */
-static void hex_reads(const char *what, const char *text, uint32_t number, const uint8_t *image)
-{
-    uint8_t store[13], marks[7], due_store[13], due_marks[7];
-    uint32_t got;
-    memset(store, 0xA5, sizeof store);
-    memset(marks, 0xA5, sizeof marks);
-    memcpy(due_store, store, sizeof store);
-    memcpy(due_marks, marks, sizeof marks);
-    if (image != NULL) {
-        memset(due_store, 255, 4);
-        memcpy(due_store + 4, image, 8);
-        memset(due_marks, 255, 2);
-        memset(due_marks + 2, 0, 4);
-    }
-    got = mover_hex_read(2, 2, 2, (const uint8_t *)text, strlen(text), store, 12, marks, 6);
-    check(what, got == number && memcmp(store, due_store, sizeof store) == 0 && memcmp(marks, due_marks, sizeof marks) == 0);
-}
-
-static void hex_reads_checked(void)
-{
-    static const uint8_t all[] = {1, 2, 3, 4, 5, 6, 7, 8}, some[] = {0, 255, 255, 255, 255, 255, 10, 11};
-    static const uint8_t none[] = {255, 255, 255, 255, 255, 255, 255, 255};
-
-    hex_reads("one record", ":080000000102030405060708D4\n:00000001FF\n", MOVER_DONE, all);
-    hex_reads("a space in it", ":080000000102030405060708 D4\n:00000001FF\n", MOVER_BAD_RECORD, NULL);
-    hex_reads("falling records", ":0400040005060708DE\n:0400000001020304F2\n:00000001FF\n", MOVER_DONE, all);
-    hex_reads("small digits, carriage returns, gaps", ":020006000a0be3\r\n:0100000000ff\r\n:00000001ff\r\n", MOVER_DONE, some);
-    hex_reads("no data", ":00000001FF\n", MOVER_DONE, none);
-    hex_reads("an upper half of 0", ":020000040000FA\n:080000000102030405060708D4\n:00000001FF\n", MOVER_DONE, all);
-    hex_reads("a wrong checksum", ":080000000102030405060708D5\n:00000001FF\n", MOVER_BAD_RECORD, NULL);
-    hex_reads("a type of other programs", ":0400000500000000F7\n:00000001FF\n", MOVER_BAD_RECORD, NULL);
-    hex_reads("no line feed at the end", ":00000001FF", MOVER_BAD_RECORD, NULL);
-    hex_reads("an empty line", "\n:00000001FF\n", MOVER_BAD_RECORD, NULL);
-    hex_reads("a byte too far", ":0100080000F7\n:00000001FF\n", MOVER_BAD_ADDRESS, NULL);
-    hex_reads("another upper half", ":020000040001F9\n:0100000000FF\n:00000001FF\n", MOVER_BAD_ADDRESS, NULL);
-    hex_reads("a byte twice", ":0100000000FF\n:0100000000FF\n:00000001FF\n", MOVER_BAD_TEXT, NULL);
-    hex_reads("no end record", ":0100000000FF\n", MOVER_BAD_TEXT, NULL);
-    hex_reads("an empty text", "", MOVER_BAD_TEXT, NULL);
-    hex_reads("a line after the end", ":00000001FF\n\n", MOVER_BAD_TEXT, NULL);
-    hex_reads("the first faulty record decides", ":0100080000F7\nx\n", MOVER_BAD_ADDRESS, NULL);
-    hex_reads("8 before 9 on a record", ":0100080000F8\n:00000001FF\n", MOVER_BAD_RECORD, NULL);
-}
-
-static void hex_lengths_checked(void)
-{
-    static const uint8_t end[] = ":00000001FF\n";
-    uint8_t store[12] = {7}, marks[6] = {7};
-    check("n = 65", mover_hex_read(65, 2, 2, end, 12, store, 12, marks, 6) == MOVER_BAD_SIZES);
-    check("a store too short", mover_hex_read(2, 2, 2, end, 12, store, 11, marks, 6) == MOVER_BAD_LENGTH);
-    check("marks too short", mover_hex_read(2, 2, 2, end, 12, store, 12, marks, 5) == MOVER_BAD_LENGTH);
-    check("2 before 8", mover_hex_read(2, 2, 2, end, 11, store, 12, marks, 5) == MOVER_BAD_LENGTH);
-    check("no text at all", mover_hex_read(2, 2, 2, NULL, 0, store, 12, marks, 6) == MOVER_BAD_TEXT);
-    check("refused, and left", store[0] == 7 && marks[0] == 7);
-    check("the longest text", mover_hex_bytes(64, 64, 4096) == 46141436);
-    check("a text of one byte", mover_hex_bytes(1, 1, 1) == 14 + 12);
-    check("64 KiB have no upper half", mover_hex_bytes(4, 4, 4096) == 4096 * 44 + 12);
-    check("one page more has one", mover_hex_bytes(1, 17, 4096) == 17 * 256 * 44 + 16 + 12);
-}
-
-static void hex_writes_checked(void)
-{
-    static const char due[] = ":10000000F0F1F2F3F4F5F6F7F8F9FAFBFCFDFEFF78\n:0400100001020304E2\n:00000001FF\n";
-    uint8_t store[24] = {255, 255, 255, 255, 240, 241, 242, 243, 244, 245, 246, 247, 248, 249, 250, 251, 252, 253, 254, 255, 1, 2, 3, 4};
-    uint8_t marks[6] = {255, 0, 0, 0, 0, 0}, text[100], blank[100];
-    const uint64_t length = sizeof due - 1;
-    memset(text, 0xA5, sizeof text);
-    memcpy(blank, text, sizeof text);
-    check("its length", mover_hex_bytes(5, 1, 4) == length);
-    check("a text too long", mover_hex_write(5, 1, 4, store, 24, marks, 6, text, length + 1) == MOVER_BAD_LENGTH);
-    check("n = 0", mover_hex_write(0, 1, 4, store, 24, marks, 6, text, length) == MOVER_BAD_SIZES);
-    marks[5] = 2;
-    check("a store that has moved", mover_hex_write(5, 1, 4, store, 24, marks, 6, text, length) == MOVER_BAD_PLACE);
-    marks[5] = 0;
-    store[3] = 254;
-    check("a spare that is not blank", mover_hex_write(5, 1, 4, store, 24, marks, 6, text, length) == MOVER_BAD_PLACE);
-    store[3] = 255;
-    marks[0] = 100;
-    check("a spare with a half-written mark", mover_hex_write(5, 1, 4, store, 24, marks, 6, text, length) == MOVER_BAD_PLACE);
-    marks[0] = 255;
-    check("nothing written so far", memcmp(text, blank, sizeof text) == 0);
-    check("twenty bytes", mover_hex_write(5, 1, 4, store, 24, marks, 6, text, length) == MOVER_DONE);
-    check("their text", memcmp(text, due, length) == 0 && memcmp(text + length, blank + length, sizeof text - length) == 0);
-    check("read again", mover_hex_read(5, 1, 4, text, length, blank, 24, blank + 24, 6) == MOVER_DONE);
-    check("the same store", memcmp(blank, store, 24) == 0 && memcmp(blank + 24, marks, 6) == 0);
-}
-
 int main(void)
 {
     splits_checked();
@@ -415,12 +337,11 @@ int main(void)
     pins_checked();
     pins_travel_checked();
     drops_checked();
+    wear_checked();
     bytes_checked();
     most_bytes_checked();
     tells_checked();
-    hex_reads_checked();
-    hex_lengths_checked();
-    hex_writes_checked();
+    hex_checked();
     printf("%u passed, %u failed\n", passed, failed);
     return failed != 0 || passed == 0;
 }

@@ -8,4 +8,10 @@ void check(const char *what, int good);
 /* Lists with dropped pages. */
 void drops_checked(void);
 
+/* Erase counters, and the limit of a run. */
+void wear_checked(void);
+
+/* Intel HEX. */
+void hex_checked(void);
+
 #endif

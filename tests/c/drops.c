@@ -8,13 +8,14 @@ enum { X = MOVER_DROPPED };
 
 /* A move of pages of one byte with s = 0, at rest. */
 struct moved {
-    uint8_t list[8], before[8], pins[4], sets[4], store[6], marks[6], work[1];
+    uint8_t list[8], before[8], pins[4], sets[4], store[6], marks[6], work[1], wear[MOVER_WEAR_BYTES];
     struct mover_move move;
 };
 
 static void begin(struct moved *moved, uint32_t n, uint32_t m, const uint32_t *entries)
 {
-    const struct mover_move move = {n, m, 1, 0, moved->list, moved->pins, moved->sets, moved->store, moved->marks, moved->work};
+    const struct mover_move move = {n, m, 1, 0, moved->list, moved->pins, moved->sets, moved->store, moved->marks, moved->work,
+                                    moved->wear};
     uint32_t k;
     memset(moved, 0, sizeof *moved);
     memset(moved->store, 255, sizeof moved->store);
@@ -66,10 +67,10 @@ static void sets_checked(void)
     uint32_t count, bytes;
     begin(&moved, 2, 2, two);
     memcpy(moved.sets, other, 4);
-    check("run: sets of another list", mover_run_move(&moved.move, 0, 9, &at) == MOVER_BAD_SPLIT && moved.work[0] == 77);
+    check("run: sets of another list", mover_run_move(&moved.move, 0, 9, UINT32_MAX, &at) == MOVER_BAD_SPLIT && moved.work[0] == 77);
     check("read: sets of another list", mover_read_move(&moved.move, 0, &count, &bytes) == MOVER_BAD_SPLIT && moved.work[0] == 77);
     memcpy(moved.sets, named_anew, 4);
-    check("run: another split", mover_run_move(&moved.move, 0, 9, &at) == MOVER_DONE && at.steps == 9);
+    check("run: another split", mover_run_move(&moved.move, 0, 9, UINT32_MAX, &at) == MOVER_DONE && at.steps == 9);
 }
 
 /* What read answers: the page, how many pages it summed, and how many of its bytes are not 255. */
@@ -104,11 +105,11 @@ static void steps_checked(void)
         check("page 1, dropped", reads_as(&moved, 1, 255, 0));
         check("page 2", reads_as(&moved, 2, 4, third[place]));
         if (place < 12)
-            check("a step", mover_run_move(&moved.move, place, 1, &at) == MOVER_DONE && at.written_bytes == bytes[place]);
+            check("a step", mover_run_move(&moved.move, place, 1, UINT32_MAX, &at) == MOVER_DONE && at.written_bytes == bytes[place]);
     }
     check("finished", at.finished == 1 && memcmp(moved.list, moved.before, 8) == 0);
     begin(&moved, 3, 1, entries);
-    check("at once", mover_run_move(&moved.move, 0, UINT32_MAX, &at) == MOVER_DONE && at.finished && at.written_bytes == 5
+    check("at once", mover_run_move(&moved.move, 0, UINT32_MAX, UINT32_MAX, &at) == MOVER_DONE && at.finished && at.written_bytes == 5
                          && memcmp(moved.store, stores[12], 4) == 0 && memcmp(moved.marks, marks[12], 4) == 0);
 }
 
@@ -119,12 +120,12 @@ static void ends_checked(void)
     struct moved moved;
     struct mover_state at;
     begin(&moved, 3, 1, last);
-    check("to place 2", mover_run_move(&moved.move, 0, 2, &at) == MOVER_DONE && moved.store[0] == 254 && moved.store[3] == 4);
+    check("to place 2", mover_run_move(&moved.move, 0, 2, UINT32_MAX, &at) == MOVER_DONE && moved.store[0] == 254 && moved.store[3] == 4);
     check("ends at a page still stored, which is dropped", reads_as(&moved, 0, 1, 1));
     moved.store[3] = 119;
     check("whatever its bytes are", reads_as(&moved, 0, 1, 1));
     begin(&moved, 3, 1, middle);
-    check("to place 8", mover_run_move(&moved.move, 0, 8, &at) == MOVER_DONE && moved.store[3] == 255);
+    check("to place 8", mover_run_move(&moved.move, 0, 8, UINT32_MAX, &at) == MOVER_DONE && moved.store[3] == 255);
     moved.store[3] = 119;
     check("ends where the dropped page has left its 255s", reads_as(&moved, 0, 254 ^ 119, 2));
 }
@@ -154,7 +155,7 @@ static void all_checked(void)
     struct mover_state at;
     begin(&moved, 2, 2, all);
     check("all dropped", mover_split_move(&moved.move) == MOVER_DONE);
-    check("moved", mover_run_move(&moved.move, 0, UINT32_MAX, &at) == MOVER_DONE && at.writes == 8 && at.written_bytes == 0);
+    check("moved", mover_run_move(&moved.move, 0, UINT32_MAX, UINT32_MAX, &at) == MOVER_DONE && at.writes == 8 && at.written_bytes == 0);
     check("255s, and marked", memcmp(moved.store, blank, 6) == 0 && memcmp(moved.marks, marks, 6) == 0);
 }
 

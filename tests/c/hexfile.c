@@ -39,7 +39,7 @@ int main(int count, char **words)
     enum { LONGEST = 1 << 28 };
     uint32_t n, m, p, number;
     uint64_t spare, image, text_len, got;
-    struct mover_move move = {0, 0, 0, 0, NULL, NULL, NULL, NULL, NULL, NULL};
+    struct mover_move move = {0, 0, 0, 0, NULL, NULL, NULL, NULL, NULL, NULL, NULL};
     uint8_t *text, *bytes;
     if (count != 7)
         return 20;

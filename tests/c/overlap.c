@@ -5,12 +5,14 @@
 #include <string.h>
 
 /* n = 2, m = 2, one byte a page: the parts one after the other, with nothing between, and a HEX text behind them. */
-static uint8_t room[8 + 4 + 4 + 6 + 6 + 1 + 32], *const text = room + 29;
-static const unsigned bytes[6] = {8, 4, 4, 6, 6, 1}, start[6] = {0, 8, 12, 16, 22, 28};
+enum { PARTS = 7 };
+
+static uint8_t room[8 + 4 + 4 + 6 + 6 + 1 + MOVER_WEAR_BYTES + 32], *const text = room + 29 + MOVER_WEAR_BYTES;
+static const unsigned bytes[PARTS] = {8, 4, 4, 6, 6, 1, MOVER_WEAR_BYTES}, start[PARTS] = {0, 8, 12, 16, 22, 28, 29};
 
 static struct mover_move lend(const unsigned *at)
 {
-    struct mover_move move = {2, 2, 1, 0, room + at[0], room + at[1], room + at[2], room + at[3], room + at[4], room + at[5]};
+    struct mover_move move = {2, 2, 1, 0, room + at[0], room + at[1], room + at[2], room + at[3], room + at[4], room + at[5], room + at[6]};
     return move;
 }
 
@@ -18,10 +20,10 @@ static struct mover_move lend(const unsigned *at)
 static int wrong_answers(void)
 {
     struct mover_move move = lend(start);
-    unsigned at[6], i, j;
+    unsigned at[PARTS], i, j;
     int wrong = !mover_apart(&move);
-    for (i = 0; i < 6; i++)
-        for (j = 0; j < 6; j++)
+    for (i = 0; i < PARTS; i++)
+        for (j = 0; j < PARTS; j++)
             if (i != j) {
                 memcpy(at, start, sizeof at);
                 at[i] = start[j] + bytes[j] - 1;
@@ -39,7 +41,7 @@ static int wrong_answers(void)
 
 int main(int count, char **words)
 {
-    static const unsigned at[6] = {0, 8, 12, 16, 22, 21};
+    static const unsigned at[PARTS] = {0, 8, 12, 16, 22, 21, 29};
     struct mover_move move = lend(at);
     struct mover_state state;
     uint32_t number, bytes_written;
@@ -48,7 +50,7 @@ int main(int count, char **words)
     if (strcmp(words[1], "split") == 0)
         return (int)mover_split_move(&move);
     if (strcmp(words[1], "run") == 0)
-        return (int)mover_run_move(&move, 0, 0, &state);
+        return (int)mover_run_move(&move, 0, 0, UINT32_MAX, &state);
     if (strcmp(words[1], "mend") == 0)
         return (int)mover_mend_move(&move, &state);
     if (strcmp(words[1], "read") == 0)

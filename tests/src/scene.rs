@@ -6,6 +6,7 @@ use crate::simulator::flash::Flash;
 use crate::simulator::request::{Answer, Call, Parts, Request};
 use crate::simulator::rules::Correct;
 use crate::simulator::sizes::Sizes;
+use crate::simulator::wear::WEAR_BYTES;
 
 #[derive(Clone)]
 pub struct Scene {
@@ -16,13 +17,17 @@ pub struct Scene {
     pub sets: Vec<u8>,
     pub originals: Vec<u8>,
     pub flash: Flash,
+    /// The record of erases, and the limit that runs get.
+    pub wear: Vec<u8>,
+    pub wear_limit: u32,
 }
 
 /// What the work page holds before a call.
 pub const WORK_BEFORE: u8 = 0xa5;
 
 impl Scene {
-    /// At rest, with the split of the split call and nothing pinned.
+    /// At rest, with the split of the split call, nothing pinned, no erase
+    /// counted, and no limit below the end of the counters.
     pub fn at_rest(sizes: Sizes, list: Vec<u16>, originals: Vec<u8>) -> Scene {
         let mut scene = Scene {
             sizes,
@@ -31,6 +36,8 @@ impl Scene {
             sets: vec![0; sizes.originals()],
             flash: Flash::at_rest(sizes, &originals),
             originals,
+            wear: vec![0; WEAR_BYTES],
+            wear_limit: u32::MAX,
         };
         scene.sets = answer(&scene.request(Call::Split)).parts.sets;
         scene
@@ -49,6 +56,7 @@ impl Scene {
             store: self.flash.store.clone(),
             marks: self.flash.marks.clone(),
             work: vec![WORK_BEFORE; self.sizes.bytes()],
+            wear: self.wear.clone(),
         };
         let mut parts = Parts::default();
         for &part in call.parts() {
@@ -60,6 +68,7 @@ impl Scene {
             parts,
             place: 0,
             budget: 0,
+            wear_limit: self.wear_limit,
             original: 0,
         }
     }
@@ -79,8 +88,15 @@ impl Scene {
         }
     }
 
-    /// Takes over the store and the marks that a call left.
+    /// Takes over the store, the marks and the record that a call left.
     pub fn take_over(&mut self, answer: &Answer) {
+        self.take_flash(answer);
+        self.wear = answer.parts.wear.clone();
+    }
+
+    /// Takes over the store and the marks alone: a call that is cut returns no
+    /// record.
+    pub fn take_flash(&mut self, answer: &Answer) {
         self.flash = Flash::new(self.sizes, &answer.parts.store, &answer.parts.marks);
     }
 

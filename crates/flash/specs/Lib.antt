@@ -4,5 +4,6 @@ pub mod Tables
 pub mod Geometry
 pub mod PageSum
 pub mod Chip
+pub mod Wear
 pub mod Claims
 pub mod inner

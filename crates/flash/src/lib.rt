@@ -8,6 +8,7 @@ pub mod quotient;
 pub mod sizes;
 pub mod slots;
 pub mod totals;
+pub mod wear;
 
 // A byte or a mark that is not written.
 pub const ERASED: u8 = 255;

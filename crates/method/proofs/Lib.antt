@@ -3,6 +3,7 @@ pub mod basics
 pub mod cycles
 pub mod walks
 pub mod places
+pub mod wear
 pub mod states
 pub mod recovery
 pub mod demand

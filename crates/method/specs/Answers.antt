@@ -11,6 +11,8 @@ use Rattle.flash.specs.declared.sizes.Sizes.{Sizes}
 use Rattle.flash.specs.Geometry.{inRange, originalCount, slotCount, storeLength, marksLength, workLength}
 use Rattle.flash.specs.PageSum.{writtenBytes}
 use Rattle.flash.specs.Chip.{Chip, erased, markAt, isBlank, eraseBlock}
+use Rattle.flash.specs.declared.wear.Wear.{Wear}
+use Rattle.flash.specs.Wear.{risen}
 use Rattle.split.specs.OneToOne.{badList}
 use Rattle.split.specs.Split.{isSplit}
 use Rattle.split.specs.Pins.{movesPinned}
@@ -19,8 +21,9 @@ use Rattle.method.specs.declared.tally.Tally.{Tally}
 use Rattle.method.specs.Move.{Plan, move, plan}
 use Rattle.method.specs.Place.{lastPlace, marksOf}
 use Rattle.method.specs.Read.{readTerms, storedSlots, readPage}
-use Rattle.method.specs.Step.{Running, steps, nothingDone, tallyOf}
+use Rattle.method.specs.Step.{Running, steps, operationsFrom, nothingDone, tallyOf}
 use Rattle.method.specs.Mend.{Reading, seen, reading}
+use Rattle.method.specs.Worn.{wornBy, isWornOut}
 
 -- number 2, of mend, and of run and read
 unfoldable pub badChip : Sizes → Chip → Bool
@@ -50,7 +53,7 @@ isElsewhere Z chip place =
 
 -- rule 7.8: the order in which the calls look for the numbers of the table
 unfoldable pub order : List ℕ
-order = 1 ∷ 2 ∷ 3 ∷ 11 ∷ 4 ∷ 5 ∷ 6 ∷ 7 ∷ []
+order = 1 ∷ 2 ∷ 3 ∷ 11 ∷ 4 ∷ 5 ∷ 12 ∷ 6 ∷ 7 ∷ []
 
 -- the rows that run and read share
 unfoldable pub moveRows : Request → Chip → (work : List ℕ) → (rest : List (Row ℕ)) → List (Row ℕ)
@@ -62,8 +65,12 @@ moveRows R chip work rest =
     ∷ record { fits = not (isSplit (R .sizes .n) (R .sizes .m) (move R .list) (R .sets)); gives = 4 }
     ∷ rest
 
-unfoldable pub runRows : Request → Chip → (work : List ℕ) → (place : ℕ) → List (Row ℕ)
-runRows R chip work place = moveRows R chip work (record { fits = isElsewhere (R .sizes) chip place; gives = 5 } ∷ [])
+unfoldable pub runRows : Request → Chip → (work : List ℕ) → Wear → (place limit : ℕ) → List (Row ℕ)
+runRows R chip work wear place limit =
+    moveRows R chip work
+    (record { fits = isElsewhere (R .sizes) chip place; gives = 5 }
+    ∷ record { fits = isWornOut (R .sizes .n) wear place limit; gives = 12 }
+    ∷ [])
 
 unfoldable pub mendRows : Sizes → Chip → List (Row ℕ)
 mendRows Z chip =
@@ -87,14 +94,15 @@ pub record RunAnswer : Type 0 where
   pub finished : ℕ
   pub chip : Chip
   pub work : List ℕ
+  pub wear : Wear
 
 -- rule 7.2: as many steps as the budget allows and are left
 unfoldable pub stepsTaken : Sizes → (place budget : ℕ) → ℕ
 stepsTaken Z place budget = min budget (lastPlace Z - place)
 
 -- a run that takes so many steps
-unfoldable pub runCarriedOut : Plan → Chip → (work : List ℕ) → (place taken : ℕ) → RunAnswer
-runCarriedOut X chip work place taken =
+unfoldable pub runCarriedOut : Plan → Chip → (work : List ℕ) → Wear → (place taken : ℕ) → RunAnswer
+runCarriedOut X chip work wear place taken =
     let start : Running = record { chip = chip; work = work } in
     let after = steps X taken place start in
     record {
@@ -104,16 +112,18 @@ runCarriedOut X chip work place taken =
       finished = cond (eqb (place + taken) (lastPlace (X .move .sizes))) 1 0;
       chip = after .chip;
       work = after .work;
+      wear = wornBy (operationsFrom (X .move .sizes) place taken) wear;
     }
 
 -- rule 7.8
-unfoldable pub runRefused : (number : ℕ) → Chip → (work : List ℕ) → RunAnswer
-runRefused number chip work = record { number = number; place = 0; tally = nothingDone; finished = 0; chip = chip; work = work }
+unfoldable pub runRefused : (number : ℕ) → Chip → (work : List ℕ) → Wear → RunAnswer
+runRefused number chip work wear =
+    record { number = number; place = 0; tally = nothingDone; finished = 0; chip = chip; work = work; wear = wear }
 
-unfoldable pub runAnswer : Request → Chip → (work : List ℕ) → (place budget : ℕ) → RunAnswer
-runAnswer R chip work place budget =
-    let number = refusal (runRows R chip work place) in
-    cond (eqb number 0) (runCarriedOut (plan R) chip work place (stepsTaken (R .sizes) place budget)) (runRefused number chip work)
+unfoldable pub runAnswer : Request → Chip → (work : List ℕ) → Wear → (place budget limit : ℕ) → RunAnswer
+runAnswer R chip work wear place budget limit =
+    let number = refusal (runRows R chip work wear place limit) in
+    cond (eqb number 0) (runCarriedOut (plan R) chip work wear place (stepsTaken (R .sizes) place budget)) (runRefused number chip work wear)
 
 -- rule 7.4: what mend returns and leaves
 pub record MendAnswer : Type 0 where
@@ -121,18 +131,19 @@ pub record MendAnswer : Type 0 where
   pub place : ℕ
   pub erases : ℕ
   pub chip : Chip
+  pub wear : Wear
 
-unfoldable pub mended : Sizes → Chip → Reading → MendAnswer
-mended Z chip found = elim (found .toErase) [
-  | none ↦ record { number = 0; place = found .place; erases = 0; chip = chip }
-  | some b ↦ record { number = 0; place = found .place; erases = 1; chip = eraseBlock (Z .m) (Z .p) b chip }
+unfoldable pub mended : Sizes → Chip → Wear → Reading → MendAnswer
+mended Z chip wear found = elim (found .toErase) [
+  | none ↦ record { number = 0; place = found .place; erases = 0; chip = chip; wear = wear }
+  | some b ↦ record { number = 0; place = found .place; erases = 1; chip = eraseBlock (Z .m) (Z .p) b chip; wear = risen b wear }
 ]
 
-unfoldable pub mendAnswer : Sizes → Chip → MendAnswer
-mendAnswer Z chip =
+unfoldable pub mendAnswer : Sizes → Chip → Wear → MendAnswer
+mendAnswer Z chip wear =
     let number = refusal (mendRows Z chip) in
-    let refused : MendAnswer = record { number = number; place = 0; erases = 0; chip = chip } in
-    cond (eqb number 0) (elim (reading Z (chip .marks)) [ none ↦ refused | some found ↦ mended Z chip found ]) refused
+    let refused : MendAnswer = record { number = number; place = 0; erases = 0; chip = chip; wear = wear } in
+    cond (eqb number 0) (elim (reading Z (chip .marks)) [ none ↦ refused | some found ↦ mended Z chip wear found ]) refused
 
 -- Rule 7.5: what read returns and leaves; `bytes` is what a write of the page would program. None of its rows looks at the bytes of a page.
 pub record ReadAnswer : Type 0 where

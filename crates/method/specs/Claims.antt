@@ -12,6 +12,7 @@ use Rattle.flash.specs.Tables.{Row, First, refusal}
 use Rattle.flash.specs.declared.sizes.Sizes.{Sizes}
 use Rattle.flash.specs.Geometry.{inRange, blockOf, originalCount, slotCount}
 use Rattle.flash.specs.Chip.{Chip, erased, isWhole, isUnfinished}
+use Rattle.flash.specs.declared.wear.Wear.{Wear}
 use Rattle.split.specs.Split.{setOf}
 use Rattle.split.specs.Request.{Request}
 use Rattle.split.specs.Answer.{splitRows}
@@ -26,12 +27,14 @@ use Rattle.method.specs.Answers.{order, runRows, mendRows, readRows}
 use Rattle.method.specs.Runs.{RunsAddUp, StatesReached}
 use Rattle.method.specs.Counts.{RunsCount}
 use Rattle.method.specs.Demand3.{Demand3}
+use Rattle.method.specs.WearCounts.{WearCounts}
 use Rattle.method.specs.PinsStay.{PinsStay}
 use Rattle.method.specs.NoDrops.{NoDrops}
 use Rattle.method.specs.Example.{ExampleHolds, BoundsMet}
 use Rattle.method.specs.TwoPages.{TwoPagesHold}
 use Rattle.method.specs.Cases.{CasesHold}
 use Rattle.method.specs.DropCases.{DropCasesHold}
+use Rattle.method.specs.WearCases.{WearCasesHold}
 
 -- rule 4.3: there are as many steps as the last place says
 unfoldable pub StepsCounted : Type 0
@@ -133,13 +136,15 @@ ErasesNext =
 -- rule 7.8: every call gives the first number that applies, in the one order of all calls
 pub record FirstReturned : Type 0 where
   pub by-split : (R : Request) → First order (splitRows R) (refusal (splitRows R))
-  pub by-run : (R : Request) (chip : Chip) (work : List ℕ) (place : ℕ) → First order (runRows R chip work place) (refusal (runRows R chip work place))
+  pub by-run : (R : Request) (chip : Chip) (work : List ℕ) (wear : Wear) (place limit : ℕ)
+      → First order (runRows R chip work wear place limit) (refusal (runRows R chip work wear place limit))
   pub by-mend : (Z : Sizes) (chip : Chip) → First order (mendRows Z chip) (refusal (mendRows Z chip))
   pub by-read : (R : Request) (chip : Chip) (work : List ℕ) (k : ℕ) → First order (readRows R chip work k) (refusal (readRows R chip work k))
 
 pub record Claims : Type 0 where
   pub cases : (byte : ℕ) → CasesHold byte
   pub drop-cases : DropCasesHold
+  pub wear-cases : WearCasesHold
   pub runs : RunsAddUp
   pub states : StatesReached
   pub counts : RunsCount
@@ -155,6 +160,7 @@ pub record Claims : Type 0 where
   pub erases-next : ErasesNext
   pub first : FirstReturned
   pub demand-3 : Demand3
+  pub wear : WearCounts
   pub pins : PinsStay
   pub no-drops : NoDrops
   pub bounds : BoundsMet

@@ -10,6 +10,7 @@ use Rattle.flash.specs.Tables.{refusal}
 use Rattle.flash.specs.Geometry.{slotOf, originalCount, slotCount, workLength}
 use Rattle.flash.specs.PageSum.{_⊕_, sum}
 use Rattle.flash.specs.Chip.{Chip, pageAt, isWhole}
+use Rattle.flash.specs.declared.wear.Wear.{Wear}
 use Rattle.split.specs.Drops.{isDropped}
 use Rattle.split.specs.Request.{Request}
 use Rattle.method.specs.Move.{move, plan}
@@ -19,6 +20,7 @@ use Rattle.method.specs.State.{originalsIn, stateOf}
 use Rattle.method.specs.Step.{isErase, erasesBlock}
 use Rattle.method.specs.Runs.{Start}
 use Rattle.method.specs.Cut.{CutInside}
+use Rattle.method.specs.Worn.{isWornOut}
 use Rattle.method.specs.Answers.{runRows, runAnswer, mendAnswer, readGives, readAnswer}
 use Rattle.method.specs.Events.{Call, run, mend, read, CutPoint, uncut, between, inside, Event, History, sizesGiven, numberOf}
 use Rattle.method.specs.Events.{stepsOf, chipAfter, starting, after, moments}
@@ -26,14 +28,14 @@ use Rattle.method.specs.Events.{stepsOf, chipAfter, starting, after, mom
 -- ---- the premises, a line for each sentence; the first is `Start` of Runs.antt
 -- rule 8.2: the same sizes, list and split; the pins, which only refuse, may be others
 abbrev pub Shares : Request → Call → Type 0
-Shares R (run N work place budget) = plan N ≡ plan R
-Shares R (mend Z) = Z ≡ R .sizes
+Shares R (run N work wear place budget limit) = plan N ≡ plan R
+Shares R (mend Z wear) = Z ≡ R .sizes
 Shares R (read N work k) = plan N ≡ plan R
 
 -- rule 8.4
 abbrev pub Mended : Call → History → Type 0
-Mended (run R work place budget) h = h .unmended ≡ false
-Mended (mend Z) h = Unit {0}
+Mended (run R work wear place budget limit) h = h .unmended ≡ false
+Mended (mend Z wear) h = Unit {0}
 Mended (read R work k) h = Unit {0}
 
 -- a cut lies within the call's steps, and leaves what the rule of the cut allows
@@ -86,12 +88,14 @@ pub record Keeps (R : Request) (chip₀ : Chip) (h : History) : Type 0 where
   pub final-dropped : h .finished ≡ true → (k : ℕ) → k < originalCount (R .sizes) → isDropped (R .list) k ≡ true
       → pageAt (R .sizes .p) (h .chip) (slotOf (R .sizes .m) (getD (move R .list) k 0)) ≡ fillerPage (R .sizes .p)
   -- whenever a run is not refused, store and marks are those of its place (demand 2 along the list)
-  pub placed : (work : List ℕ) (place : ℕ) → refusal (runRows R (h .chip) work place) ≡ 0
+  pub placed : (work : List ℕ) (wear : Wear) (place limit : ℕ) → refusal (runRows R (h .chip) work wear place limit) ≡ 0
       → h .chip ≡ stateOf (plan R) (originalsIn (R .sizes) chip₀) place
-  -- recovery always succeeds, the run after it is accepted, and with budget enough it reaches the finish
-  pub recovers : mendAnswer (R .sizes) (h .chip) .number ≡ 0
-  pub goes-on : (work : List ℕ) → length work ≡ workLength (R .sizes) → (budget : ℕ) → lastPlace (R .sizes) ≤ budget
-      → runAnswer R (mendAnswer (R .sizes) (h .chip) .chip) work (mendAnswer (R .sizes) (h .chip) .place) budget .finished ≡ 1
+  -- Recovery always succeeds, and the run after it is accepted, but for number 12 where the move begins anew; with budget enough it
+  -- reaches the finish.
+  pub recovers : (wear : Wear) → mendAnswer (R .sizes) (h .chip) wear .number ≡ 0
+  pub goes-on : (worn : Wear) → (let mended = mendAnswer (R .sizes) (h .chip) worn in
+      (work : List ℕ) → length work ≡ workLength (R .sizes) → (wear : Wear) (limit : ℕ) → isWornOut (R .sizes .n) wear (mended .place) limit ≡ false
+      → (budget : ℕ) → lastPlace (R .sizes) ≤ budget → runAnswer R (mended .chip) work wear (mended .place) budget limit .finished ≡ 1)
 
 unfoldable pub AtEach : (History → Type 0) → List History → Type 0
 AtEach P [] = Unit {0}

@@ -7,15 +7,15 @@ use Prim.Native.Nat.{ℕ, _+_, _-_, _*_}
 use lib.ListN.{length}
 use Rattle.flash.specs.Lists.{count}
 use Rattle.flash.specs.Chip.{Chip}
+use Rattle.flash.specs.Wear.{counterEnd, unworn}
 use Rattle.method.specs.Move.{move}
 use Rattle.method.specs.Place.{lastPlace}
 use Rattle.method.specs.Read.{readSlots}
 use Rattle.method.specs.Step.{isErase, erasesBlock}
-use Rattle.method.specs.Answers.{runAnswer}
 use Rattle.method.specs.Runs.{Start}
 use Rattle.method.specs.Events.{Call, run, mend, uncut, inside, Event, History, starting, after, moments}
 use Rattle.method.specs.Demand3.{AllAllowed, AtEach, Keeps}
-use Rattle.method.specs.Cases.{chip, junk, three, threeAtRest, threeBeforeErase, threeTorn}
+use Rattle.method.specs.Cases.{chip, junk, runs, three, threeAtRest, threeBeforeErase, threeTorn}
 
 -- a call that is not cut
 abbrev pub whole : Call → Event
@@ -31,13 +31,13 @@ tornWrite mark = chip (5 ∷ 9 ∷ 2 ∷ 4 ∷ []) (1 ∷ mark ∷ 0 ∷ 0 ∷ [
 
 unfoldable pub exampleEvents : List Event
 exampleEvents =
-    cutInside (run three (junk 1) 0 5) 2 (tornWrite 254)
-    ∷ cutInside (mend (three .sizes)) 0 (tornWrite 3)
-    ∷ whole (mend (three .sizes))
+    cutInside (run three (junk 1) unworn 0 5 counterEnd) 2 (tornWrite 254)
+    ∷ cutInside (mend (three .sizes) unworn) 0 (tornWrite 3)
+    ∷ whole (mend (three .sizes) unworn)
     -- inside step 3, the erase of block 2, which has taken no mark yet
-    ∷ cutInside (run three (junk 1) 2 9) 1 threeBeforeErase
-    ∷ whole (mend (three .sizes))
-    ∷ whole (run three (junk 1) 3 99)
+    ∷ cutInside (run three (junk 1) unworn 2 9 counterEnd) 1 threeBeforeErase
+    ∷ whole (mend (three .sizes) unworn)
+    ∷ whole (run three (junk 1) unworn 3 99 counterEnd)
     ∷ []
 
 unfoldable pub afterAll : List Event → History → History
@@ -58,7 +58,7 @@ pub record ExampleHolds : Type 0 where
 
 -- one run from rest to the finish: no cut and no recovery
 abbrev alone : History
-alone = after (whole (run three (junk 1) 0 (lastPlace (three .sizes)))) (starting threeAtRest)
+alone = after (whole (run three (junk 1) unworn 0 (lastPlace (three .sizes)) counterEnd)) (starting threeAtRest)
 
 pub record BoundsMet : Type 0 where
   -- the pages that a read sums: n
@@ -68,7 +68,7 @@ pub record BoundsMet : Type 0 where
   pub block-erases : count (erasesBlock 1) (alone .begun) ≡ 2
   pub steps : length (alone .begun) ≡ lastPlace (three .sizes)
   -- the bytes that a whole move programs: 2 × n × m × P
-  pub bytes : runAnswer three threeAtRest (junk 1) 0 (lastPlace (three .sizes)) .tally .bytes
+  pub bytes : runs three threeAtRest (junk 1) 0 (lastPlace (three .sizes)) .tally .bytes
       ≡ 2 * three .sizes .n * three .sizes .m * three .sizes .p
   -- with a budget of one step less the finish is not reached
-  pub budget : runAnswer three threeAtRest (junk 1) 0 (lastPlace (three .sizes) - 1) .finished ≡ 0
+  pub budget : runs three threeAtRest (junk 1) 0 (lastPlace (three .sizes) - 1) .finished ≡ 0

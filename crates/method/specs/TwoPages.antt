@@ -7,6 +7,7 @@ use Prim.Native.Nat.{ℕ}
 use lib.ListN.{length, take, drop}
 use Rattle.flash.specs.Lists.{range, count}
 use Rattle.flash.specs.Chip.{Chip}
+use Rattle.flash.specs.Wear.{counterEnd, unworn}
 use Rattle.split.specs.Request.{Request, requestOf, unpinned}
 use Rattle.method.specs.Move.{plan}
 use Rattle.method.specs.State.{stateOf}
@@ -74,28 +75,28 @@ module _ (byte : ℕ) where
 
   unfoldable pub events : List Event
   events =
-      cutInside (run two (junk 1) 0 5) 2 upperTorn
+      cutInside (run two (junk 1) unworn 0 5 counterEnd) 2 upperTorn
       -- block 1 is torn: a read, a read that is cut, and a run that is refused, for the lengths of what is lent
       ∷ whole (read two (junk 1) 1)
       ∷ record { call = read two (junk 1) 3; cut = between 0 }
-      ∷ whole (run otherSizes (junk 1) 0 5)
+      ∷ whole (run otherSizes (junk 1) unworn 0 5 counterEnd)
       -- mend is cut as well, and called again
-      ∷ cutInside (mend (two .sizes)) 0 bothTorn
-      ∷ whole (mend (two .sizes))
+      ∷ cutInside (mend (two .sizes) unworn) 0 bothTorn
+      ∷ whole (mend (two .sizes) unworn)
       -- after a torn write, a mend for other sizes is refused and changes nothing, but it is a mend
-      ∷ cutInside (run two (junk 1) 3 9) 1 writeTorn
-      ∷ whole (mend (otherSizes .sizes))
-      ∷ whole (mend (two .sizes))
+      ∷ cutInside (run two (junk 1) unworn 3 9 counterEnd) 1 writeTorn
+      ∷ whole (mend (otherSizes .sizes) unworn)
+      ∷ whole (mend (two .sizes) unworn)
       -- cut when all its steps are finished, before it returns
-      ∷ record { call = run two (junk 1) 3 2; cut = between 2 }
-      ∷ whole (mend (two .sizes))
-      ∷ cutInside (run two (junk 1) 5 1) 0 lowerTorn
-      ∷ whole (mend (two .sizes))
+      ∷ record { call = run two (junk 1) unworn 3 2 counterEnd; cut = between 2 }
+      ∷ whole (mend (two .sizes) unworn)
+      ∷ cutInside (run two (junk 1) unworn 5 1 counterEnd) 0 lowerTorn
+      ∷ whole (mend (two .sizes) unworn)
       -- the finish, and what comes after it; pins need not be those of the calls before
-      ∷ whole (run pinnedEnds (junk 1) 6 99)
+      ∷ whole (run pinnedEnds (junk 1) unworn 6 99 counterEnd)
       ∷ whole (read pinnedEnds (junk 1) 2)
-      ∷ cutInside (mend (two .sizes)) 0 spareTorn
-      ∷ whole (mend (two .sizes))
+      ∷ cutInside (mend (two .sizes) unworn) 0 spareTorn
+      ∷ whole (mend (two .sizes) unworn)
       ∷ []
 
   abbrev starts : History

@@ -5,6 +5,7 @@ use Rattle.flash.specs.Tables.{Row, firstFit, numberOr0, refusal}
 use Rattle.flash.specs.declared.sizes.Sizes.{Sizes}
 use Rattle.flash.specs.Geometry.{inRange, originalCount}
 use Rattle.flash.specs.Chip.{Chip}
+use Rattle.flash.specs.declared.wear.Wear.{Wear}
 use Rattle.flash.proofs.Tables.{refusal-nil}
 use Rattle.split.specs.OneToOne.{dropped, badList, isOneToOne}
 use Rattle.split.specs.Split.{isSplit}
@@ -13,6 +14,7 @@ use Rattle.split.specs.Request.{Request}
 use Rattle.split.proofs.DropLaws.{undropped-completed, undropped-bad}
 use Rattle.method.specs.Move.{move, plan}
 use Rattle.method.specs.Step.{nothingDone}
+use Rattle.method.specs.Worn.{isWornOut}
 use Rattle.method.specs.Answers.{badParts, isElsewhere, moveRows, runRows, RunAnswer, stepsTaken, runCarriedOut, runRefused, runAnswer}
 use Rattle.mover.specs.Answers.{ranAs}
 use Rattle.mover.specs.declared.run.RunResult.{RunResult}
@@ -116,32 +118,38 @@ module _ (R : Request) (chip : Chip) (work : List ℕ) where
         go false false e = (refl, refl)
 
 -- ---- the answer of run
-module _ (R : Request) (chip : Chip) (work : List ℕ) (place : ℕ) where
-  by-place : (elsewhere : Bool) → 0 ≡ refusal (moveRows R chip work []) → elsewhere ≡ isElsewhere (R .sizes) chip place
-      → refusal (runRows R chip work place) ≡ cond elsewhere 5 0
+module _ (R : Request) (chip : Chip) (work : List ℕ) (wear : Wear) (place limit : ℕ) where
+  by-place : 0 ≡ refusal (moveRows R chip work [])
+      → refusal (runRows R chip work wear place limit)
+      ≡ cond (isElsewhere (R .sizes) chip place) 5 (cond (isWornOut (R .sizes .n) wear place limit) 12 0)
   unfolding runRows
-  by-place elsewhere e f = past-move R chip work _ e ∙ rw (row-first, refusal-nil, ← f)
+  by-place e = past-move R chip work _ e ∙ rw (row-first, row-first, refusal-nil)
 
   module _ (budget : ℕ) where
     -- what a refused run returns; it leaves all as it was
     abbrev Refused : ℕ → Type 0
     Refused x =
-        (ran : RunResult) → ran ≡ record { number = x; place = 0; tally = nothingDone; finished = 0 }
-        → ranAs ran (chip .store) (chip .marks) work ≡ runAnswer R chip work place budget
+        (ran : RunResult) → ran ≡ record { number = x; place = 0; tally = nothingDone; finished = 0; wear = wear }
+        → ranAs ran (chip .store) (chip .marks) work ≡ runAnswer R chip work wear place budget limit
 
-    refused-answer : (x : ℕ) → x ≢ 0 → refusal (runRows R chip work place) ≡ x → Refused x
+    refused-answer : (x : ℕ) → x ≢ 0 → refusal (runRows R chip work wear place limit) ≡ x → Refused x
     unfolding runAnswer runRefused
     refused-answer x ne e ran r = rw (r, e, ne-eqb x 0 ne)
 
-    -- these rows decide, and else row 5
+    -- these rows decide, and else rows 5 and 12
     pub refused-by-move : (x : ℕ) → x ≡ refusal (moveRows R chip work []) → x ≢ 0 → Refused x
     unfolding runRows
     refused-by-move x e ne = refused-answer x ne (by-move R chip work _ x e ne)
 
     pub refused-by-place : 0 ≡ refusal (moveRows R chip work []) → true ≡ isElsewhere (R .sizes) chip place → Refused 5
-    refused-by-place e f = refused-answer 5 (λ z. absurd (omega arith)) (by-place true e f)
+    refused-by-place e f = refused-answer 5 (λ z. absurd (omega arith)) (by-place e ∙ rw (← f))
 
-    pub not-refused : 0 ≡ refusal (moveRows R chip work []) → false ≡ isElsewhere (R .sizes) chip place
-        → (answer : RunAnswer) → answer ≡ runCarriedOut (plan R) chip work place (stepsTaken (R .sizes) place budget) → answer ≡ runAnswer R chip work place budget
+    pub refused-by-wear : 0 ≡ refusal (moveRows R chip work []) → false ≡ isElsewhere (R .sizes) chip place
+        → true ≡ isWornOut (R .sizes .n) wear place limit → Refused 12
+    refused-by-wear e f g = refused-answer 12 (λ z. absurd (omega arith)) (by-place e ∙ rw (← f, ← g))
+
+    pub not-refused : 0 ≡ refusal (moveRows R chip work []) → false ≡ isElsewhere (R .sizes) chip place → false ≡ isWornOut (R .sizes .n) wear place limit
+        → (answer : RunAnswer) → answer ≡ runCarriedOut (plan R) chip work wear place (stepsTaken (R .sizes) place budget)
+        → answer ≡ runAnswer R chip work wear place budget limit
     unfolding runAnswer
-    not-refused e f answer A = rw (by-place false e f) A
+    not-refused e f g answer A = rw (by-place e, ← f, ← g) A

@@ -5,20 +5,24 @@ use Rattle.flash.proofs.Kit.{add-one, arith, eqb, length}
 use Rattle.flash.specs.declared.sizes.Sizes.{Sizes}
 use Rattle.flash.specs.Geometry.{slot}
 use Rattle.flash.specs.Chip.{Chip, pageAt}
+use Rattle.flash.specs.declared.wear.Wear.{Wear}
+use Rattle.flash.specs.Wear.{risen}
 use Rattle.flash.proofs.Bools.{one-or-0}
 use Rattle.flash.proofs.Bounds.{block-in-marks, block-in-store, product-le}
 use Rattle.flash.proofs.Chips.{erase-page-other}
 use Rattle.method.specs.declared.tally.Tally.{Tally}
 use Rattle.method.specs.Move.{Plan, AcceptedMove, Lent}
 use Rattle.method.specs.Place.{Pass, forward, backward, Operation, write, erase, done, markOf, operationAt, lastPlace, passAt, filling, filled}
-use Rattle.method.specs.Step.{runningOf, Running, perform, step, steps, nothingDone, tallied, tallyOf}
+use Rattle.method.specs.Step.{runningOf, Running, perform, step, steps, operationsFrom, nothingDone, tallied, tallyOf}
+use Rattle.method.specs.Worn.{wornOnce, wornBy}
 use Rattle.method.specs.Answers.{isElsewhere, stepsTaken, runCarriedOut}
 use Rattle.method.proofs.basics.AcceptedCalls.{stands-at}
 use Rattle.method.proofs.states.StepsAddUp.{steps-add}
 use Rattle.method.proofs.states.StepsLeadOn.{Stood, steps-stand}
 use Rattle.method.proofs.states.RunsCount.{page-kept, few-bytes}
 use Rattle.method.proofs.places.PagesHeld.{Change, by-write, by-erase, change}
-use Rattle.method.proofs.places.StepsAtPlaces.{nextBlock, page-cases, backward-low, after-write, after-erase}
+use Rattle.method.proofs.places.StepsAtPlaces.{nextBlock, page-cases, backward-low, after-write, after-erase, operation-writes}
+use Rattle.method.proofs.wear.WornLaws.{worn-next}
 use Rattle.method.proofs.places.Tallies.{tally-next, few-tallied}
 use Rattle.places.proofs.PlaceLaws.{last-small}
 use Rattle.mover.specs.Answers.{ranAs}
@@ -61,17 +65,38 @@ module _ (X : Plan) (place i : ℕ) where
       f ∙ rw (c, e) (counted-by X (steps X i place start) (operationAt (X .move .sizes) (place + i)) (tallyOf X i place start))
       ∙ sym (rw (steps-add X i 1 place start) at (tally-next X i place start))
 
+-- ---- the counters
+pub none-worn : (Z : Sizes) (place : ℕ) (wear : Wear) → wear ≡ wornBy (operationsFrom Z place 0) wear
+unfolding wornBy operationsFrom
+none-worn Z place wear = refl
+
+module _ (Z : Sizes) (place i : ℕ) (on : place + i < lastPlace Z) where
+  pub erase-worn : (block : ℕ) (wear first next : Wear) → operationAt Z (place + i) ≡ erase block → wear ≡ wornBy (operationsFrom Z place i) first
+      → next ≡ risen block wear → next ≡ wornBy (operationsFrom Z place (i + 1)) first
+  unfolding wornOnce
+  erase-worn block wear first next is e f = f ∙ rw (worn-next Z place i first on, is, ← e)
+
+  -- a block that is not full gets a page
+  pub write-worn : filled Z (place + i) ≢ Z .m → (wear first : Wear) → wear ≡ wornBy (operationsFrom Z place i) first
+      → wear ≡ wornBy (operationsFrom Z place (i + 1)) first
+  unfolding wornOnce
+  write-worn ne wear first e = ⊎-elim
+      (λ (k : filled Z (place + i) < Z .m). e ∙ sym (worn-next Z place i first on ∙ rw (operation-writes Z (place + i) on k)))
+      (λ (k : filled Z (place + i) ≡ Z .m). absurd (ne k))
+      (page-cases Z (place + i))
+
 -- ---- the answer of a run that is carried out
-pub carried : (X : Plan) (store marks work : List ℕ) (place budget last taken : ℕ) (store′ marks′ work′ : List ℕ) (tally : Tally)
+pub carried : (X : Plan) (store marks work : List ℕ) (wear : Wear) (place budget last taken : ℕ) (store′ marks′ work′ : List ℕ) (tally : Tally) (wear′ : Wear)
     → last ≡ lastPlace (X .move .sizes) → taken ≡ min budget (last - place)
     → _≡_ {A = Chip} (record { store = store′; marks = marks′ }) (steps X taken place (runningOf store marks work) .chip)
     → work′ ≡ steps X taken place (runningOf store marks work) .work → tally ≡ tallyOf X taken place (runningOf store marks work)
-    → ranAs (record { number = 0; place = place + taken; tally = tally; finished = boolByte (eqb (place + taken) last) }) store′ marks′ work′
-    ≡ runCarriedOut X (record { store = store; marks = marks }) work place (stepsTaken (X .move .sizes) place budget)
+    → wear′ ≡ wornBy (operationsFrom (X .move .sizes) place taken) wear
+    → ranAs (record { number = 0; place = place + taken; tally = tally; finished = boolByte (eqb (place + taken) last); wear = wear′ }) store′ marks′ work′
+    ≡ runCarriedOut X (record { store = store; marks = marks }) work wear place (stepsTaken (X .move .sizes) place budget)
 unfolding runCarriedOut stepsTaken
-carried X store marks work place budget last taken store′ marks′ work′ tally e f L W C =
+carried X store marks work wear place budget last taken store′ marks′ work′ tally wear′ e f L W C D =
     let t : taken ≡ min budget (lastPlace (X .move .sizes) - place) = rw e at f in
-    rw (← t, ← e, C, ← L, ← W, one-or-0)
+    rw (← t, ← e, C, ← L, ← W, D, one-or-0)
 
 -- ---- a run that goes on: after so many steps it stands at the place that they lead to
 module _ (X : Plan) (A : AcceptedMove (X .move)) (run : Running) (place : ℕ) (L : Lent (X .move .sizes) (run .chip) (run .work))

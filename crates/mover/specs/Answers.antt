@@ -13,6 +13,7 @@ ranAs ran store marks work = record {
   finished = ran .finished;
   chip = record { store = store; marks = marks };
   work = work;
+  wear = ran .wear;
 }
 
 abbrev pub readAs : ReadResult → (work : List ℕ) → ReadAnswer

@@ -4,3 +4,4 @@ pub mod read;
 mod refusals;
 pub mod run;
 mod step;
+mod wear;

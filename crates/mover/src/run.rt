@@ -18,9 +18,12 @@ ghost use Rattle.mover.specs.Answers.{ranAs};
 ghost use Rattle.mover.specs.inner.Steps.{DropsIn, OtherTable, lastSlot};
 use crate::refusals::move_refusal;
 use crate::step::step;
+use crate::wear::is_worn_out;
 use flash::bytes::copy;
 use flash::quotient::reciprocal;
 use flash::sizes::Sizes;
+use flash::wear::Wear;
+use flash::wear::rise;
 use method::tally::Tally;
 use places::place::Place;
 use places::place::last_place;
@@ -32,12 +35,13 @@ use walk::rows::pages_table;
 use walk::rows::sources_table;
 use walk::walk::SLOTS;
 
-// What a run returns: the refusal number, and 0 in every other number with it. `finished` is 1, or 0 for stopped.
+// What a run returns: the refusal number, and 0 in every other number with it, the counters apart. `finished` is 1, or 0 for stopped.
 pub struct RunResult {
     pub number: u32,
     pub place: u32,
     pub tally: Tally,
     pub finished: u32,
+    pub wear: Wear,
 }
 
 fn nothing_done() -> Tally
@@ -106,6 +110,7 @@ fn take_steps(
     other: &mut [u8; TABLE],
     drops: &[u64],
     places: &[u64],
+    mut wear: Wear,
 ) -> RunResult
     requires { ⌜ AcceptedMove (moveOf sizes (now list) (now sets)) × Lent sizes (record { store = now store; marks = now marks }) (now work)
         × (isElsewhere sizes (record { store = now store; marks = now marks }) place ≡ false) × ByDestination (now list) (now sets) (now other)
@@ -113,7 +118,7 @@ fn take_steps(
         × DropsIn (moveOf sizes (now list) (now sets)) (now drops) (now places) ⌝ }
     ensures { λ r. ⌜ ranAs r (now (store .exit)) (now (marks .exit)) (now (work .exit))
         ≡ runCarriedOut (planBy sizes (now (list .entry)) (now (sets .entry)) (now (drops .entry)))
-        (record { store = now (store .entry); marks = now (marks .entry) }) (now (work .entry)) place (stepsTaken sizes place budget) ⌝ }
+        (record { store = now (store .entry); marks = now (marks .entry) }) (now (work .entry)) wear place (stepsTaken sizes place budget) ⌝ }
 {
     let mut tally = nothing_done();
     let mut slots = [0usize; SLOTS];
@@ -142,6 +147,9 @@ fn take_steps(
             at,
             tally,
         );
+        if at.page == sizes.m {
+            wear = rise(wear, at.freed(sizes));
+        }
         at = at.next(sizes);
     }
     let reached = place + taken;
@@ -155,6 +163,7 @@ fn take_steps(
         place,
         tally,
         finished,
+        wear,
     }
 }
 
@@ -171,13 +180,14 @@ fn carry_out(
     other: &mut [u8; TABLE],
     drops: &[u64],
     places: &[u64],
+    wear: Wear,
 ) -> RunResult
     requires { ⌜ AcceptedMove (moveOf sizes (now list) (now sets)) × Lent sizes (record { store = now store; marks = now marks }) (now work)
         × (isElsewhere sizes (record { store = now store; marks = now marks }) place ≡ false) × ByDestination (now list) (now sets) (now other)
         × DropsIn (moveOf sizes (now list) (now sets)) (now drops) (now places) ⌝ }
     ensures { λ r. ⌜ ranAs r (now (store .exit)) (now (marks .exit)) (now (work .exit))
         ≡ runCarriedOut (planBy sizes (now (list .entry)) (now (sets .entry)) (now (drops .entry)))
-        (record { store = now (store .entry); marks = now (marks .entry) }) (now (work .entry)) place (stepsTaken sizes place budget) ⌝ }
+        (record { store = now (store .entry); marks = now (marks .entry) }) (now (work .entry)) wear place (stepsTaken sizes place budget) ⌝ }
 {
     if budget <= sizes.m / 8 + 1 {
         return take_steps(
@@ -194,6 +204,7 @@ fn carry_out(
             other,
             drops,
             places,
+            wear,
         );
     }
     let mut pages = [0u8; TABLE];
@@ -212,17 +223,19 @@ fn carry_out(
         other,
         drops,
         places,
+        wear,
     )
 }
 
-fn refused(number: u32) -> RunResult
-    ensures { λ r. ⌜ r ≡ record { number = number; place = 0; tally = nothingDone; finished = 0 } ⌝ }
+pub fn refused(number: u32, wear: Wear) -> RunResult
+    ensures { λ r. ⌜ r ≡ record { number = number; place = 0; tally = nothingDone; finished = 0; wear = wear } ⌝ }
 {
     RunResult {
         number,
         place: 0,
         tally: nothing_done(),
         finished: 0,
+        wear,
     }
 }
 
@@ -235,12 +248,14 @@ pub fn run(
     store: &mut [u8],
     marks: &mut [u8],
     work: &mut [u8],
+    wear: Wear,
     place: usize,
     budget: u32,
+    limit: u32,
 ) -> RunResult
     ensures { λ r. ⌜ ranAs r (now (store .exit)) (now (marks .exit)) (now (work .exit))
         ≡ runAnswer (requestOf sizes (now (list .entry)) (now (pins .entry)) (now (sets .entry)))
-        (record { store = now (store .entry); marks = now (marks .entry) }) (now (work .entry)) place budget ⌝ }
+        (record { store = now (store .entry); marks = now (marks .entry) }) (now (work .entry)) wear place budget limit ⌝ }
     ensures { λ r. ⌜ now (list .exit) ≡ listLeft (r .number) (now (list .entry)) ⌝ }
 {
     let mut table = [0u8; TABLE];
@@ -259,10 +274,13 @@ pub fn run(
         &mut places,
     );
     if number != 0 {
-        return refused(number);
+        return refused(number, wear);
     }
     if is_elsewhere(sizes, store, marks, place) {
-        return refused(5);
+        return refused(5, wear);
+    }
+    if is_worn_out(sizes.n, wear, place, limit) {
+        return refused(12, wear);
     }
     carry_out(
         sizes,
@@ -276,5 +294,6 @@ pub fn run(
         &mut table,
         &drops,
         &places,
+        wear,
     )
 }

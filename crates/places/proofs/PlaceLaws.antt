@@ -6,10 +6,10 @@ use Rattle.flash.specs.Geometry.{Bounds}
 use Rattle.flash.proofs.Bools.{never-both}
 use Rattle.flash.proofs.Bounds.{product-le}
 use Rattle.flash.proofs.Comparisons.{lt-cases}
-use Rattle.method.specs.Place.{Pass, forward, backward, markOf, lastPlace, operationAt, passAt, filling, filled}
+use Rattle.method.specs.Place.{Pass, forward, backward, erase, markOf, lastPlace, operationAt, passAt, filling, filled}
 use Rattle.method.proofs.places.StepsAtPlaces.{nextBlock, Stands, stands-at, Turned, pages-in, backward-from, backward-low, forward-high, filling-in, after-write, after-erase, operation-writes, operation-erases, operation-done}
 use Rattle.places.specs.declared.place.Place.{Place}
-use Rattle.places.specs.declared.place.Op.the-variants.{Write, Erase, Done}
+use Rattle.places.specs.declared.place.Op.the-variants.{Write, Done}
 use Rattle.places.specs.inner.Place.{isBackward, passOf, placeOf, opOf}
 
 pub pass-told : (pass : Pass) (t : Bool) → t ≡ isBackward pass → pass ≡ passOf t
@@ -131,10 +131,12 @@ module _ (Z : Sizes) where
         told true = refl
         told false = refl
 
-    pub erases : at < lastPlace Z → m ≤ here .page → opOf Z (operationAt Z at) ≡ Erase (nextBlock (passOf (here .backward)) (here .block))
-    erases h k =
-        ap (opOf Z) (operation-erases Z at h (omega (arith, page-is, pages-in Z at)))
-        ∙ rw (pass-is, ← block-is)
+    pub erases : at < lastPlace Z → here .page ≡ m → operationAt Z at ≡ erase (nextBlock (passOf (here .backward)) (here .block))
+    erases h k = operation-erases Z at h (sym page-is ∙ k) ∙ rw (pass-is, ← block-is)
+
+    -- a page is left, or the block is full
+    pub page-full : m ≤ here .page → here .page ≡ m
+    page-full k = omega (arith, page-is, pages-in Z at)
 
     -- ---- the next place
     module _ (h : at < lastPlace Z) where

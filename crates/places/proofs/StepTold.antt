@@ -58,7 +58,7 @@ module _ (Z : Sizes) where
             (rw (← y) k, rw (← x) (W .block-in), λ i. rw (← x) (backward-low Z at h (p ∙ i)), λ i. omega (arith, forward-high Z at (omega arith) (p ∙ i)))
         by-change h (by-erase k f E) = let z : _≡_ {A = ℕ} 0 1 = cc in absurd (clash z)
 
-    bounds-erase : (b : ℕ) → operationAt Z at ≡ erase b → b ≤ n
+    pub bounds-erase : (b : ℕ) → operationAt Z at ≡ erase b → b ≤ n
     bounds-erase b e = ⊎-elim (λ h. by-change (change Z at h)) (λ h. absurd (clash (let f = operation-done Z at h in (cc)))) (lt-cases at (lastPlace Z))
       where
         by-change : Change Z at → b ≤ n

@@ -3,7 +3,7 @@
 ghost use mathlib.Core.Path.{_≡_};
 ghost use Prim.Native.Nat.{_+_, _≤_, _<_};
 ghost use Rattle.flash.specs.Geometry.{Bounds};
-ghost use Rattle.method.specs.Place.{operationAt, lastPlace};
+ghost use Rattle.method.specs.Place.{erase, operationAt, lastPlace};
 ghost use Rattle.places.specs.inner.Place.{placeOf, opOf};
 use flash::sizes::Sizes;
 use flash::sizes::letter_after;
@@ -51,6 +51,18 @@ impl Place {
         }
     }
 
+    // The block that is erased once all pages of this one are written.
+    pub fn freed(self, sizes: Sizes) -> usize
+        requires { ⌜ (self ≡ placeOf sizes (self .at)) × (self .at < lastPlace sizes) × (self .page ≡ sizes .m) ⌝ }
+        ensures { λ r. ⌜ operationAt sizes (self .at) ≡ erase r ⌝ }
+    {
+        if self.backward {
+            self.block - 1
+        } else {
+            self.block + 1
+        }
+    }
+
     pub fn operation(self, sizes: Sizes) -> Op
         requires { ⌜ Bounds sizes × (self ≡ placeOf sizes (self .at)) ⌝ }
         ensures { λ r. ⌜ r ≡ opOf sizes (operationAt sizes (self .at)) ⌝ }
@@ -71,8 +83,9 @@ impl Place {
                 mark: letter_after(sizes, pass),
             };
         }
-        let freed = if backward { block - 1 } else { block + 1 };
-        Op::Erase { block: freed }
+        Op::Erase {
+            block: self.freed(sizes),
+        }
     }
 
     // The place that the step leads to: a page on, or the start of the next turn. The forward pass ends when block n is free.

@@ -4,6 +4,8 @@ use Rattle.flash.specs.Tables.{firstFit, numberOr0, refusal}
 use Rattle.flash.specs.declared.sizes.Sizes.{Sizes}
 use Rattle.flash.specs.Geometry.{inRange, storeLength, marksLength}
 use Rattle.flash.specs.Chip.{Chip, eraseBlock}
+use Rattle.flash.specs.declared.wear.Wear.{Wear}
+use Rattle.flash.specs.Wear.{risen}
 use Rattle.flash.proofs.Bools.{or-false-left, or-false-right}
 use Rattle.method.specs.Mend.{reading}
 use Rattle.method.specs.Answers.{badChip, marksAnswer, fitsNone, mendRows, mended, mendAnswer}
@@ -17,9 +19,9 @@ chip-lengths Z chip e =
       eqb-true _ _ (not-false marks (or-false-right (not store) (not marks) e)),
     )
 
-module _ (Z : Sizes) (chip : Chip) where
+module _ (Z : Sizes) (chip : Chip) (wear : Wear) where
   abbrev Refused : ℕ → Type 0
-  Refused number = mendAnswer Z chip ≡ record { number = number; place = 0; erases = 0; chip = chip }
+  Refused number = mendAnswer Z chip wear ≡ record { number = number; place = 0; erases = 0; chip = chip; wear = wear }
 
   pub refused-1 : inRange Z ≡ false → Refused 1
   unfolding mendAnswer mendRows refusal firstFit numberOr0
@@ -35,10 +37,10 @@ module _ (Z : Sizes) (chip : Chip) where
       unfolding mendAnswer mendRows refusal firstFit numberOr0 fitsNone marksAnswer
       refused-6 e = rw (sizes, lengths, e)
 
-      pub mended-full : (place : ℕ) → reading Z (chip .marks) ≡ some (record { place = place; toErase = none }) → mendAnswer Z chip ≡ record { number = 0; place = place; erases = 0; chip = chip }
+      pub mended-full : (place : ℕ) → reading Z (chip .marks) ≡ some (record { place = place; toErase = none }) → mendAnswer Z chip wear ≡ record { number = 0; place = place; erases = 0; chip = chip; wear = wear }
       unfolding mendAnswer mendRows refusal firstFit numberOr0 fitsNone marksAnswer mended
       mended-full place e = rw (sizes, lengths, e)
 
-      pub mended-torn : (place block : ℕ) → reading Z (chip .marks) ≡ some (record { place = place; toErase = some block }) → mendAnswer Z chip ≡ record { number = 0; place = place; erases = 1; chip = eraseBlock (Z .m) (Z .p) block chip }
+      pub mended-torn : (place block : ℕ) → reading Z (chip .marks) ≡ some (record { place = place; toErase = some block }) → mendAnswer Z chip wear ≡ record { number = 0; place = place; erases = 1; chip = eraseBlock (Z .m) (Z .p) block chip; wear = risen block wear }
       unfolding mendAnswer mendRows refusal firstFit numberOr0 fitsNone marksAnswer mended
       mended-torn place block e = rw (sizes, lengths, e)

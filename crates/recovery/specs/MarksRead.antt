@@ -28,4 +28,5 @@ readingOf Z told = answerOf Z told .told
 
 -- what mend returns and leaves, as the definition's answer has it
 abbrev pub answered : MendResult → (store marks : List ℕ) → MendAnswer
-answered r store marks = record { number = r .number; place = r .place; erases = r .erases; chip = record { store = store; marks = marks } }
+answered r store marks =
+    record { number = r .number; place = r .place; erases = r .erases; chip = record { store = store; marks = marks }; wear = r .wear }

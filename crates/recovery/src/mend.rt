@@ -11,12 +11,15 @@ use flash::sizes::Sizes;
 use flash::sizes::in_range;
 use flash::sizes::slot_count;
 use flash::sizes::store_length;
+use flash::wear::Wear;
+use flash::wear::rise;
 
-// The number of the refusal, or 0; the place in the move, and the erases, 0 or 1.
+// The number of the refusal, or 0; the place in the move, the erases, 0 or 1, and the counters with them.
 pub struct MendResult {
     pub number: u32,
     pub place: u32,
     pub erases: u32,
+    pub wear: Wear,
 }
 
 // The place in the turn that fills this block, where so many of its pages are written.
@@ -32,14 +35,15 @@ fn place_in_turn(sizes: Sizes, backward: bool, block: usize, written: usize) -> 
 
 // Reads the marks and erases the unfinished block, if there is one. The refusals are looked for in the table's order, so that
 // no length is computed from sizes out of range.
-pub fn mend(sizes: Sizes, store: &mut [u8], marks: &mut [u8]) -> MendResult
+pub fn mend(sizes: Sizes, store: &mut [u8], marks: &mut [u8], wear: Wear) -> MendResult
     ensures { λ r. ⌜ answered r (now (store .exit)) (now (marks .exit))
-        ≡ mendAnswer sizes (record { store = now (store .entry); marks = now (marks .entry) }) ⌝ }
+        ≡ mendAnswer sizes (record { store = now (store .entry); marks = now (marks .entry) }) wear ⌝ }
 {
     let mut mended = MendResult {
         number: 0,
         place: 0,
         erases: 0,
+        wear,
     };
     if !in_range(sizes) {
         mended.number = 1;
@@ -60,6 +64,7 @@ pub fn mend(sizes: Sizes, store: &mut [u8], marks: &mut [u8]) -> MendResult
             erase_block(store, marks, sizes.m, sizes.p, block);
             mended.place = place_in_turn(sizes, backward, block, 0);
             mended.erases = 1;
+            mended.wear = rise(wear, block);
         }
     }
     mended

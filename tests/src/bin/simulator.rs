@@ -2,7 +2,7 @@
 
 use mover_tests::checks::tally::Tally;
 use mover_tests::checks::{call_lists, drop_cases, hand_cases, hex_cases, papers};
-use mover_tests::checks::{recovery_lines, refusing, small_moves, step_inputs, torn};
+use mover_tests::checks::{recovery_lines, refusing, small_moves, step_inputs, torn, wear_cases};
 use mover_tests::random::{seed_from_environment, Random};
 use std::process::ExitCode;
 
@@ -13,6 +13,7 @@ fn main() -> ExitCode {
     let mut tally = Tally::default();
     hand_cases::check(&mut tally);
     drop_cases::check(&mut tally);
+    wear_cases::check(&mut tally);
     refusing::check(&mut tally);
     recovery_lines::check(&mut tally);
     papers::check(&mut tally);

@@ -11,6 +11,7 @@ use crate::simulator::request::{Call, Request};
 use crate::simulator::rules::Correct;
 use crate::simulator::sizes::Sizes;
 use crate::simulator::steps::{all_steps, marks_at, Step};
+use crate::simulator::wear::counters;
 
 type Outcome = Result<(), String>;
 
@@ -29,6 +30,8 @@ pub fn check(tally: &mut Tally, random: &mut Random) {
 struct Story {
     scene: Scene,
     erases_begun: u32,
+    /// By the calls that returned.
+    erases_reported: u32,
     recoveries: u32,
     /// A run must not follow a cut before an uncut recovery call.
     cut_open: bool,
@@ -48,6 +51,7 @@ fn check_list(n: u32, m: u32, random: &mut Random) -> Outcome {
     let mut story = Story {
         scene: Scene::at_rest(sizes, list, originals),
         erases_begun: 0,
+        erases_reported: 0,
         recoveries: 0,
         cut_open: false,
         finished: false,
@@ -84,6 +88,8 @@ impl Story {
         ensure(self.erases_begun <= most, || {
             format!("{} erases, at most {most}", self.erases_begun)
         })?;
+        let counted: u32 = counters::<Correct>(&self.scene.wear).iter().sum();
+        same("the erases counted", counted, self.erases_reported)?;
         if self.finished {
             all_moved(&self.scene)?;
         }
@@ -115,6 +121,7 @@ impl Story {
         }
         let answer = self.scene.run(place, budget);
         self.erases_begun += answer.numbers.erases;
+        self.erases_reported += answer.numbers.erases;
         self.finished |= answer.numbers.finished == 1;
         Ok(())
     }
@@ -123,7 +130,8 @@ impl Story {
     fn run_cut(&mut self, place: u32, budget: u32, random: &mut Random) -> Outcome {
         let due = budget.min(self.scene.sizes.steps() as u32 - place);
         let finished = random.below(due as usize + 1) as u32;
-        let answer = self.scene.run(place, finished);
+        let answer = answer(&self.scene.run_request(place, finished));
+        self.scene.take_flash(&answer);
         self.erases_begun += answer.numbers.erases;
         self.cut_open = true;
         if finished < due && !random.one_in(4) {
@@ -165,6 +173,7 @@ impl Story {
                 let answer = self.scene.mend();
                 same("the number of mend", answer.numbers.returned, 0)?;
                 self.erases_begun += answer.numbers.erases;
+                self.erases_reported += answer.numbers.erases;
                 self.cut_open = false;
             }
         }
@@ -200,10 +209,11 @@ impl Story {
         self.stays(&request)
     }
 
-    /// This call must leave the store and the marks as they are.
+    /// This call must leave the store, the marks and the record as they are.
     fn stays(&self, request: &Request) -> Outcome {
         let parts = answer(request).parts;
         same("the store", &parts.store, &request.parts.store)?;
+        same("the record", &parts.wear, &request.parts.wear)?;
         same("the marks", &parts.marks, &request.parts.marks)
     }
 

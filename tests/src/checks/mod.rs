@@ -12,3 +12,4 @@ pub mod step_inputs;
 pub mod tally;
 pub mod torn;
 pub mod trace;
+pub mod wear_cases;

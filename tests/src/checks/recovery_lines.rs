@@ -4,6 +4,7 @@ use super::tally::{same, Tally};
 use crate::simulator::calls::answer;
 use crate::simulator::request::{Call, Parts, Request};
 use crate::simulator::sizes::Sizes;
+use crate::simulator::wear::WEAR_BYTES;
 
 type Outcome = Result<(), String>;
 
@@ -117,10 +118,12 @@ fn mends(s: usize, marks: &[u8], returned: u32, place: usize, erases: u32) -> Ou
         parts: Parts {
             store: vec![7; (N + 1) * M],
             marks: marks.to_vec(),
+            wear: vec![0; WEAR_BYTES],
             ..Parts::default()
         },
         place: 0,
         budget: 0,
+        wear_limit: 0,
         original: 0,
     };
     let numbers = answer(&request).numbers;

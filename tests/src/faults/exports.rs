@@ -54,9 +54,9 @@ const NOT_LENT: Raw = Raw {
 };
 
 /// The parts in the order of `ALL_PARTS`.
-type Loan = [Raw; 6];
+type Loan = [Raw; 7];
 
-/// The request with place, budget and original 0.
+/// The request with place, budget, wear limit and original 0.
 unsafe fn request_of(call: Call, sizes: [u32; 4], loan: &Loan) -> Request {
     let mut parts = Parts::default();
     for (part, lent) in ALL_PARTS.into_iter().zip(loan) {
@@ -76,6 +76,7 @@ unsafe fn request_of(call: Call, sizes: [u32; 4], loan: &Loan) -> Request {
         parts,
         place: 0,
         budget: 0,
+        wear_limit: 0,
         original: 0,
     }
 }
@@ -122,6 +123,7 @@ unsafe extern "C" fn split<R: Rules, M: Manners>(
         NOT_LENT,
         NOT_LENT,
         NOT_LENT,
+        NOT_LENT,
     ];
     let request = request_of(Call::Split, [n, m, page_bytes, s], &loan);
     serve::<R, M>(request, &loan, &[Part::Sets])
@@ -146,8 +148,11 @@ unsafe extern "C" fn run<R: Rules, M: Manners>(
     marks_len: u64,
     work: *mut u8,
     work_len: u64,
+    wear: *mut u8,
+    wear_len: u64,
     place: u32,
     budget: u32,
+    wear_limit: u32,
     place_reached: *mut u32,
     steps: *mut u32,
     writes: *mut u32,
@@ -162,10 +167,12 @@ unsafe extern "C" fn run<R: Rules, M: Manners>(
         raw(store, store_len),
         raw(marks, marks_len),
         raw(work, work_len),
+        raw(wear, wear_len),
     ];
     let mut request = request_of(Call::Run, [n, m, page_bytes, s], &loan);
     (request.place, request.budget) = (place, budget);
-    let changed = [Part::Store, Part::Marks, Part::Work];
+    request.wear_limit = wear_limit;
+    let changed = [Part::Store, Part::Marks, Part::Work, Part::Wear];
     let numbers = serve::<R, M>(request, &loan, &changed).numbers;
     let outs = [
         (place_reached, numbers.place),
@@ -188,6 +195,8 @@ unsafe extern "C" fn mend<R: Rules, M: Manners>(
     store_len: u64,
     marks: *mut u8,
     marks_len: u64,
+    wear: *mut u8,
+    wear_len: u64,
     place: *mut u32,
     erases: *mut u32,
 ) -> u32 {
@@ -198,9 +207,11 @@ unsafe extern "C" fn mend<R: Rules, M: Manners>(
         raw(store, store_len),
         raw(marks, marks_len),
         NOT_LENT,
+        raw(wear, wear_len),
     ];
     let request = request_of(Call::Mend, [n, m, page_bytes, s], &loan);
-    let numbers = serve::<R, M>(request, &loan, &[Part::Store, Part::Marks]).numbers;
+    let changed = [Part::Store, Part::Marks, Part::Wear];
+    let numbers = serve::<R, M>(request, &loan, &changed).numbers;
     set::<M>(
         numbers.returned,
         &[(place, numbers.place), (erases, numbers.erases)],
@@ -236,6 +247,7 @@ unsafe extern "C" fn read<R: Rules, M: Manners>(
         raw(store, store_len),
         raw(marks, marks_len),
         raw(work, work_len),
+        NOT_LENT,
     ];
     let mut request = request_of(Call::Read, [n, m, page_bytes, s], &loan);
     request.original = original;

@@ -7,7 +7,7 @@ use crate::simulator::recovery::{find, Recovery};
 use crate::simulator::request::{Answer, Call, Request};
 use crate::simulator::rules::Rules;
 use crate::simulator::sizes::{Sizes, UNWRITTEN};
-use std::cell::Cell;
+use std::cell::{Cell, RefCell};
 
 pub fn faults() -> Vec<Fault> {
     vec![
@@ -17,12 +17,13 @@ pub fn faults() -> Vec<Fault> {
         fault::<FromMemory>("a second recovery leaves the block to the first"),
         fault::<ErasesOnceMore>("the run after two recoveries erases once more"),
         fault::<GoesOn>("a run after the finish and two recoveries goes on"),
+        fault::<CutCounted>("the recovery counts the erases of the run that was cut"),
     ]
 }
 
 /// Faults that the checks of demand 3 report by themselves, without the
 /// simulator's answers, with words of the report.
-pub const BREAKING_DEMAND_3: [(&str, &str); 12] = [
+pub const BREAKING_DEMAND_3: [(&str, &str); 19] = [
     ("the lowest block is the top", "original"),
     ("a coded page lacks D(pred)", "original"),
     ("a dropped page is added as zeros", "original"),
@@ -61,6 +62,19 @@ pub const BREAKING_DEMAND_3: [(&str, &str); 12] = [
     (
         "mend gives place 0 after the finish",
         "finished is 0, due is 1",
+    ),
+    ("a full counter begins anew", "the counter of block"),
+    ("the block below gets the erase", "the counter of block"),
+    ("mend does not count its erase", "the counter of block"),
+    (
+        "a refused call clears the record",
+        "a refusal changes the record",
+    ),
+    ("12 is not looked for", "not refused"),
+    ("one erase is added for every block", "worn past the limit"),
+    (
+        "the recovery counts the erases of the run that was cut",
+        "the counter of block",
     ),
 ];
 
@@ -203,5 +217,29 @@ impl Rules for GoesOn {
             };
             given.parts = answer(&second_move).parts;
         }
+    }
+}
+
+thread_local! {
+    static RECORD: RefCell<Vec<u8>> = const { RefCell::new(vec![]) };
+}
+
+/// The record that the last run had when it was cut is kept, and the recovery
+/// goes on from it; the caller has the one before.
+struct CutCounted;
+
+impl Rules for CutCounted {
+    fn amend(request: &Request, given: &mut Answer) {
+        if done(request, given, Call::Run) {
+            RECORD.set(given.parts.wear.clone());
+        }
+        let kept = RECORD.take();
+        if done(request, given, Call::Mend) && given.numbers.erases == 1 && !kept.is_empty() {
+            let count = |wear: &[u8]| wear.iter().map(|&byte| u32::from(byte)).sum::<u32>();
+            if count(&kept) == count(&request.parts.wear) + 1 {
+                given.parts.wear = kept.clone();
+            }
+        }
+        RECORD.set(kept);
     }
 }

@@ -14,6 +14,7 @@ mod recovery;
 mod refusing;
 mod running;
 mod splitting;
+mod wearing;
 
 use crate::harness::interface::Calls;
 use crate::simulator::rules::Rules;
@@ -40,6 +41,7 @@ pub fn all_faults() -> Vec<Fault> {
         counting::faults(),
         pinning::faults(),
         dropping::faults(),
+        wearing::faults(),
         manners::faults(),
     ];
     topics.into_iter().flatten().collect()

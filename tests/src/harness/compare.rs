@@ -3,6 +3,7 @@
 use super::drive::drive;
 use super::families::{Family, FAMILIES, LISTS};
 use super::interface::Calls;
+use super::record::{blocks_erased, room_left};
 use super::shrink::shrink;
 use crate::checks::tally::{ensure, Tally};
 use crate::random::{rounds_from_environment, Random};
@@ -46,6 +47,9 @@ pub struct Comparer<'a> {
     dropping: [u64; 3],
     /// Reads of dropped pages.
     dropped_read: u64,
+    /// Runs refused for wear, runs from place 0 of which a block just keeps the
+    /// limit, and calls that erase a block whose counter is full.
+    worn: [u64; 3],
     /// The events of lists: calls, cut ones among them, and cuts between calls.
     pub events: u64,
     /// Those of lists that drop pages.
@@ -68,6 +72,7 @@ impl<'a> Comparer<'a> {
             pinned: [0; 2],
             dropping: [0; 3],
             dropped_read: 0,
+            worn: [0; 3],
             events: 0,
             events_dropping: 0,
             cuts: 0,
@@ -95,6 +100,7 @@ impl<'a> Comparer<'a> {
         self.compared[request.call as usize] += 1;
         self.note_count(request, &due.numbers);
         self.note_pins(request, &due.numbers);
+        self.note_wear(request, &due);
         if due.numbers.returned == 0 {
             self.note_drops(request);
         }
@@ -120,6 +126,25 @@ impl<'a> Comparer<'a> {
             0 if request.parts.pins.iter().any(|&pin| pin != 0) => self.pinned[0] += 1,
             11 => self.pinned[1] += 1,
             _ => {}
+        }
+    }
+
+    fn note_wear(&mut self, request: &Request, due: &Answer) {
+        if due.numbers.returned == 12 {
+            self.worn[0] += 1;
+        }
+        let records = matches!(request.call, Call::Run | Call::Mend);
+        if !records || due.numbers.returned != 0 {
+            return;
+        }
+        let begins = request.call == Call::Run && request.place == 0;
+        if begins && room_left(request) == Some(0) {
+            self.worn[1] += 1;
+        }
+        let full = |block: usize| request.parts.wear[4 * block..4 * block + 4] == [255; 4];
+        let any_full = (0..=request.sizes.data_blocks()).any(full);
+        if any_full && blocks_erased(request, due).into_iter().any(full) {
+            self.worn[2] += 1;
         }
     }
 
@@ -153,6 +178,8 @@ impl<'a> Comparer<'a> {
         let [one, some, all] = self.dropping;
         println!("drops: one page in {one} calls carried out, some in {some}, all in {all}");
         println!("dropped pages read: {}", self.dropped_read);
+        let [refused, kept, full] = self.worn;
+        println!("wear: {refused} runs refused as 12, {kept} with the limit just kept, {full} erases at full counters");
         println!("rounds: {}", self.rounds);
         println!(
             "events: {}, {} of them cut, {} with drops",
@@ -234,6 +261,7 @@ pub fn check_mover(tally: &mut Tally, name: &str, calls: &Calls, seed: u64) {
     often("pins kept and moved", &comparer.pinned);
     often("one page dropped, some, all", &comparer.dropping);
     often("dropped pages read", &[comparer.dropped_read]);
+    often("limits passed and kept, counters full", &comparer.worn);
 }
 
 /// The first difference that one of these families finds, with its name.

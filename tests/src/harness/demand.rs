@@ -8,6 +8,7 @@ use crate::simulator::request::{Answer, Numbers};
 use crate::simulator::rules::Correct;
 use crate::simulator::sizes::Sizes;
 use crate::simulator::steps::{all_steps, Step};
+use crate::simulator::wear::counters;
 
 type Outcome = Result<(), String>;
 
@@ -20,6 +21,9 @@ pub struct Ledger {
     /// The erases of each block by runs.
     wear: Vec<u32>,
     finished: bool,
+    /// The limit that the run from place 0 has kept, while no cut, no recovery
+    /// and no other record has come between.
+    limit: Option<u32>,
 }
 
 impl Ledger {
@@ -30,7 +34,18 @@ impl Ledger {
             cuts: 0,
             wear: vec![0; sizes.data_blocks() + 1],
             finished: false,
+            limit: None,
         }
+    }
+
+    /// A run from place 0 was not refused, so that no block will pass the limit.
+    pub fn begun(&mut self, limit: u32) {
+        self.limit = Some(limit);
+    }
+
+    /// The record is not the one that the move began with.
+    pub fn other_record(&mut self) {
+        self.limit = None;
     }
 
     /// The steps that a run finished, whether it returned or was cut after
@@ -54,12 +69,14 @@ impl Ledger {
     /// A recovery call, refused, cut or not, with the erases it finished.
     pub fn recovery(&mut self, erases: u32) {
         self.recoveries += 1;
+        self.limit = None;
         self.erases_begun += erases;
     }
 
     /// A cut, inside this step if one was begun.
     pub fn cut(&mut self, begun: Option<Step>) {
         self.cuts += 1;
+        self.limit = None;
         if let Some(Step::Erase { .. }) = begun {
             self.erases_begun += 1;
         }
@@ -81,10 +98,22 @@ impl Ledger {
                 )
             },
         )?;
+        self.within_limit(scene)?;
         if self.finished {
             all_moved(scene).map_err(|why| format!("the finish is not final: {why}"))?;
         }
         Ok(())
+    }
+
+    fn within_limit(&self, scene: &Scene) -> Outcome {
+        let Some(limit) = self.limit else {
+            return Ok(());
+        };
+        let counters = counters::<Correct>(&scene.wear);
+        let worn = (0..=scene.sizes.data_blocks()).find(|&block| counters[block] > limit);
+        ensure(worn.is_none(), || {
+            format!("{counters:?} has a block worn past the limit {limit} that was kept")
+        })
     }
 }
 

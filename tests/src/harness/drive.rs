@@ -12,6 +12,7 @@ struct Loan {
     store: Lent,
     marks: Lent,
     work: Lent,
+    wear: Lent,
 }
 
 impl Loan {
@@ -23,6 +24,7 @@ impl Loan {
             store: Lent::new(&parts.store),
             marks: Lent::new(&parts.marks),
             work: Lent::new(&parts.work),
+            wear: Lent::new(&parts.wear),
         }
     }
 
@@ -34,6 +36,7 @@ impl Loan {
             store: self.store.take("store")?,
             marks: self.marks.take("marks")?,
             work: self.work.take("work")?,
+            wear: self.wear.take("wear")?,
         })
     }
 }
@@ -118,8 +121,11 @@ fn drive_run(calls: &Calls, request: &Request, loan: &mut Loan, outs: [*mut u32;
             loan.marks.length(),
             loan.work.pointer(),
             loan.work.length(),
+            loan.wear.pointer(),
+            loan.wear.length(),
             request.place,
             request.budget,
+            request.wear_limit,
             outs[0],
             outs[1],
             outs[2],
@@ -143,6 +149,8 @@ fn drive_mend(calls: &Calls, request: &Request, loan: &mut Loan, outs: [*mut u32
             loan.store.length(),
             loan.marks.pointer(),
             loan.marks.length(),
+            loan.wear.pointer(),
+            loan.wear.length(),
             outs[0],
             outs[1],
         )

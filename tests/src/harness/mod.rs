@@ -11,6 +11,7 @@ pub mod lent;
 pub mod operations;
 mod player;
 pub mod programs;
+mod record;
 pub mod shrink;
 mod story;
 mod tears;

@@ -46,13 +46,14 @@ fn plainer(request: &Request) -> Vec<Request> {
 }
 
 fn zeroed(request: &Request) -> Vec<Request> {
-    let mut tries = vec![request.clone(); 3];
+    let mut tries = vec![request.clone(); 4];
     tries[0].parts.store.fill(0);
     // Unwritten bytes must often stay 255 for the call to be carried out.
     for byte in tries[1].parts.store.iter_mut().filter(|byte| **byte != 255) {
         *byte = 0;
     }
     tries[2].parts.pins.fill(0);
+    tries[3].parts.wear.fill(0);
     tries.retain(|plainer| plainer != request);
     tries
 }

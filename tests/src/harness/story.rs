@@ -3,10 +3,13 @@
 
 use super::demand::Ledger;
 use super::player::{broken, Played, Player};
+use super::record::right_record;
 use super::tears::Begun;
 use crate::checks::tally::{ensure, same};
 use crate::scene::Scene;
-use crate::simulator::request::{Call, Numbers, Request};
+use crate::simulator::request::{Answer, Call, Numbers, Request};
+use crate::simulator::rules::Correct;
+use crate::simulator::wear::{worn_out, WEAR_BYTES};
 
 /// How far a recovery call came before it was cut.
 #[derive(Clone, Debug)]
@@ -43,25 +46,36 @@ impl Story {
         held.map_err(|why| broken(request, why))
     }
 
-    /// The steps of a run, whose numbers a cut keeps from the caller.
-    fn take_steps(&mut self, player: &mut Player, request: &Request) -> Played<Numbers> {
+    /// The same, and the record is right.
+    fn holds_after(&self, request: &Request, answer: &Answer) -> Played<()> {
+        self.holds(request)?;
+        right_record(request, answer).map_err(|why| broken(request, why))
+    }
+
+    /// The steps of a run, whose numbers and record a cut keeps from the caller.
+    fn take_steps(&mut self, player: &mut Player, request: &Request) -> Played<Answer> {
         let answer = player.event(request)?;
-        self.scene.take_over(&answer);
+        self.scene.take_flash(&answer);
         self.ledger
             .ran(&self.scene.sizes, request.place, &answer.numbers);
-        Ok(answer.numbers)
+        Ok(answer)
     }
 
     /// A run from any place; it may be refused.
     pub fn run(&mut self, player: &mut Player, place: u32, budget: u32) -> Played<Numbers> {
         let request = self.scene.run_request(place, budget);
-        let numbers = self.take_steps(player, &request)?;
+        let answer = self.take_steps(player, &request)?;
+        self.scene.take_over(&answer);
+        let numbers = &answer.numbers;
         if numbers.returned == 0 {
-            self.ledger.returned(&numbers);
+            if place == 0 {
+                self.ledger.begun(request.wear_limit);
+            }
+            self.ledger.returned(numbers);
             self.place = Some(numbers.place);
         }
-        self.holds(&request)?;
-        Ok(numbers)
+        self.holds_after(&request, &answer)?;
+        Ok(answer.numbers)
     }
 
     /// A run cut after some steps; the next may be begun.
@@ -72,6 +86,7 @@ impl Story {
         finished: u32,
         begun: Option<&Begun>,
     ) -> Played<()> {
+        self.renew(place);
         let request = self.scene.run_request(place, finished);
         self.take_steps(player, &request)?;
         self.cut(player, begun);
@@ -96,20 +111,23 @@ impl Story {
         self.holds(&self.scene.request(Call::Mend))
     }
 
-    fn erase_unfinished(&mut self, player: &mut Player, request: &Request) -> Played<Numbers> {
+    /// A recovery's erase, of which a cut keeps the numbers and the record too.
+    fn erase_unfinished(&mut self, player: &mut Player, request: &Request) -> Played<Answer> {
         let answer = player.event(request)?;
-        self.scene.take_over(&answer);
+        self.scene.take_flash(&answer);
         self.ledger.recovery(answer.numbers.erases);
-        Ok(answer.numbers)
+        Ok(answer)
     }
 
     pub fn mend(&mut self, player: &mut Player) -> Played<()> {
         let request = self.scene.request(Call::Mend);
-        let numbers = self.erase_unfinished(player, &request)?;
+        let answer = self.erase_unfinished(player, &request)?;
+        self.scene.take_over(&answer);
+        let numbers = &answer.numbers;
         same("the number of mend", numbers.returned, 0).map_err(|why| broken(&request, why))?;
         self.place = Some(numbers.place);
         self.cut_open = false;
-        self.holds(&request)
+        self.holds_after(&request, &answer)
     }
 
     pub fn cut_mend(&mut self, player: &mut Player, cut: &MendCut) -> Played<()> {
@@ -149,7 +167,27 @@ impl Story {
             self.ledger.recovery(0);
             self.cut_open = false;
         }
-        self.holds(request)
+        self.holds_after(request, &answer)
+    }
+
+    /// The caller lends another record from now on.
+    pub fn lend_record(&mut self, wear: Vec<u8>) {
+        self.ledger.other_record();
+        self.scene.wear = wear;
+    }
+
+    /// The record is that of a new module, and any limit will do.
+    pub fn new_module(&mut self) {
+        self.lend_record(vec![0; WEAR_BYTES]);
+        self.scene.wear_limit = u32::MAX;
+    }
+
+    /// Where the move begins, a block may be worn, by recoveries if by nothing
+    /// else.
+    fn renew(&mut self, place: u32) {
+        if worn_out::<Correct>(&self.scene.run_request(place, 0)) {
+            self.new_module();
+        }
     }
 
     /// From wherever the list is to the finish.
@@ -158,6 +196,7 @@ impl Story {
             self.mend(player)?;
         }
         let place = self.place.unwrap_or(0);
+        self.renew(place);
         let numbers = self.run(player, place, u32::MAX)?;
         same("finished", numbers.finished, 1)
             .map_err(|why| broken(&self.scene.run_request(place, u32::MAX), why))

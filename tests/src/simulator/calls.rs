@@ -9,6 +9,7 @@ use super::request::{Answer, Call, Numbers, Parts, Request};
 use super::rules::{Correct, Rules};
 use super::running::take_steps;
 use super::split::split_by_rule;
+use super::wear::count_erases;
 
 /// What a mover must answer.
 pub fn answer(request: &Request) -> Answer {
@@ -69,6 +70,7 @@ fn run<R: Rules>(request: &Request, answer: &mut Answer) {
     let mut flash = flash_of(request);
     let progress = take_steps::<R>(&move_of::<R>(request), &mut flash, request.place, steps);
     put_flash(&mut answer.parts, &flash);
+    count_erases::<R>(&mut answer.parts.wear, &progress.erased);
     if let Some(page) = progress.last_page {
         put(&mut answer.parts.work, &page);
     }
@@ -77,7 +79,7 @@ fn run<R: Rules>(request: &Request, answer: &mut Answer) {
         place,
         steps,
         writes: progress.writes,
-        erases: progress.erases,
+        erases: progress.erased.len() as u32,
         finished: (place == all) as u32,
         written_bytes: progress.written_bytes,
         ..Numbers::default()
@@ -91,6 +93,7 @@ fn mend<R: Rules>(request: &Request, answer: &mut Answer) {
     };
     if let Some(block) = recovery.erase {
         flash.erase(block);
+        count_erases::<R>(&mut answer.parts.wear, &[block]);
         answer.numbers.erases = 1;
     }
     answer.numbers.place = recovery.place;

@@ -16,3 +16,4 @@ pub mod sizes;
 pub mod split;
 pub mod step_program;
 pub mod steps;
+pub mod wear;

@@ -7,6 +7,7 @@ use super::rules::Rules;
 use super::running::place_fits;
 use super::sizes::Sizes;
 use super::split::is_split;
+use super::wear::{worn_out, WEAR_BYTES};
 
 #[derive(Clone, Copy, Debug, PartialEq)]
 pub enum Refusal {
@@ -18,15 +19,16 @@ pub enum Refusal {
     Marks = 6,
     Original = 7,
     Pinned = 11,
+    Worn = 12,
 }
 
 /// The column "given by" of the table, lowest number first, but for 11, which
-/// comes between 3 and 4.
+/// comes between 3 and 4, and 12, which comes after 5.
 pub fn order(call: Call) -> &'static [Refusal] {
     use Refusal::*;
     match call {
         Call::Split => &[Sizes, Lengths, List, Pinned],
-        Call::Run => &[Sizes, Lengths, List, Pinned, Split, Place],
+        Call::Run => &[Sizes, Lengths, List, Pinned, Split, Place, Worn],
         Call::Mend => &[Sizes, Lengths, Marks],
         Call::Read => &[Sizes, Lengths, List, Pinned, Split, Marks, Original],
     }
@@ -49,6 +51,7 @@ fn applies<R: Rules>(refusal: Refusal, request: &Request) -> bool {
         Refusal::Marks => R::recovery(&flash()).is_none(),
         Refusal::Original => request.original as usize >= sizes.originals(),
         Refusal::Pinned => R::moves_pinned(request),
+        Refusal::Worn => worn_out::<R>(request),
     }
 }
 
@@ -72,6 +75,7 @@ fn due_length(sizes: &Sizes, part: Part) -> u128 {
         Part::Store => (n + 1) * m * bytes,
         Part::Marks => (n + 1) * m,
         Part::Work => bytes,
+        Part::Wear => WEAR_BYTES as u128,
     }
 }
 

@@ -23,6 +23,8 @@ pub enum Part {
     Store,
     Marks,
     Work,
+    /// The record of erases, one counter a block.
+    Wear,
 }
 
 impl Call {
@@ -30,19 +32,21 @@ impl Call {
     pub fn parts(self) -> &'static [Part] {
         match self {
             Call::Split => &[Part::List, Part::Pins, Part::Sets],
-            Call::Mend => &[Part::Store, Part::Marks],
-            Call::Run | Call::Read => &ALL_PARTS,
+            Call::Mend => &[Part::Store, Part::Marks, Part::Wear],
+            Call::Run => &ALL_PARTS,
+            Call::Read => &ALL_PARTS[..Part::Wear as usize],
         }
     }
 }
 
-pub const ALL_PARTS: [Part; 6] = [
+pub const ALL_PARTS: [Part; 7] = [
     Part::List,
     Part::Pins,
     Part::Sets,
     Part::Store,
     Part::Marks,
     Part::Work,
+    Part::Wear,
 ];
 
 /// The memory a caller lends; a part that a call does not take is empty.
@@ -54,6 +58,7 @@ pub struct Parts {
     pub store: Vec<u8>,
     pub marks: Vec<u8>,
     pub work: Vec<u8>,
+    pub wear: Vec<u8>,
 }
 
 impl Parts {
@@ -65,6 +70,7 @@ impl Parts {
             Part::Store => &self.store,
             Part::Marks => &self.marks,
             Part::Work => &self.work,
+            Part::Wear => &self.wear,
         }
     }
 
@@ -76,6 +82,7 @@ impl Parts {
             Part::Store => &mut self.store,
             Part::Marks => &mut self.marks,
             Part::Work => &mut self.work,
+            Part::Wear => &mut self.wear,
         }
     }
 }
@@ -88,6 +95,7 @@ pub struct Request {
     pub parts: Parts,
     pub place: u32,
     pub budget: u32,
+    pub wear_limit: u32,
     pub original: u32,
 }
 
@@ -134,9 +142,11 @@ impl fmt::Display for Request {
         writeln!(out, "        store: vec!{:?},", parts.store)?;
         writeln!(out, "        marks: vec!{:?},", parts.marks)?;
         writeln!(out, "        work: vec!{:?},", parts.work)?;
+        writeln!(out, "        wear: vec!{:?},", parts.wear)?;
         writeln!(out, "    }},")?;
         writeln!(out, "    place: {},", self.place)?;
         writeln!(out, "    budget: {},", self.budget)?;
+        writeln!(out, "    wear_limit: {},", self.wear_limit)?;
         writeln!(out, "    original: {},", self.original)?;
         write!(out, "}}")
     }

@@ -11,6 +11,7 @@ use super::refusals::{order, Refusal};
 use super::request::{Answer, Call, Part, Request};
 use super::sizes::{Sizes, UNWRITTEN};
 use super::split::Partial;
+use std::ops::RangeInclusive;
 
 pub trait Rules {
     fn sizes_fit(sizes: &Sizes) -> bool {
@@ -156,6 +157,47 @@ pub trait Rules {
 
     fn steps_to_take(place: u32, budget: u32, all: u32) -> u32 {
         budget.min(all - place)
+    }
+
+    /// A counter of the record, low byte first.
+    fn counter_of(bytes: [u8; 4]) -> u32 {
+        u32::from_le_bytes(bytes)
+    }
+
+    fn counter_bytes(count: u32) -> [u8; 4] {
+        count.to_le_bytes()
+    }
+
+    /// The counter that an erase of this block raises.
+    fn counter_raised(block: usize) -> usize {
+        block
+    }
+
+    /// A counter after one more erase; at its end it stays.
+    fn one_more(count: u32) -> u32 {
+        count.saturating_add(1)
+    }
+
+    /// Is the record held against the limit?
+    fn looks_at_wear(request: &Request) -> bool {
+        request.place == 0
+    }
+
+    /// The blocks whose counters are.
+    fn blocks_worn(request: &Request) -> RangeInclusive<usize> {
+        0..=request.sizes.data_blocks()
+    }
+
+    /// How often an uncut move erases a block.
+    fn erases_of(request: &Request, block: usize) -> u32 {
+        match block == 0 || block == request.sizes.data_blocks() {
+            true => 1,
+            false => 2,
+        }
+    }
+
+    fn passes(count: u32, erases: u32, limit: u32) -> bool {
+        u64::from(count) + u64::from(erases) > u64::from(limit)
     }
 
     fn recovery(flash: &Flash) -> Option<Recovery> {

@@ -52,7 +52,8 @@ fn coded_page<R: Rules>(moves: &Move, flash: &Flash, set: usize, i: usize) -> Ve
 /// What a run did.
 pub struct Progress {
     pub writes: u32,
-    pub erases: u32,
+    /// The blocks erased, in turn.
+    pub erased: Vec<usize>,
     pub written_bytes: u32,
     pub last_page: Option<Vec<u8>>,
 }
@@ -60,19 +61,19 @@ pub struct Progress {
 pub fn take_steps<R: Rules>(moves: &Move, flash: &mut Flash, place: u32, count: u32) -> Progress {
     let mut progress = Progress {
         writes: 0,
-        erases: 0,
+        erased: vec![],
         written_bytes: 0,
         last_page: None,
     };
     let steps = all_steps(&moves.sizes).into_iter();
     for step in steps.skip(place as usize).take(count as usize) {
-        match take_step::<R>(moves, flash, step) {
-            Some(page) => {
-                progress.writes += 1;
-                progress.written_bytes += R::written_bytes(&page);
-                progress.last_page = Some(page);
-            }
-            None => progress.erases += 1,
+        if let Step::Erase { block } = step {
+            progress.erased.push(block);
+        }
+        if let Some(page) = take_step::<R>(moves, flash, step) {
+            progress.writes += 1;
+            progress.written_bytes += R::written_bytes(&page);
+            progress.last_page = Some(page);
         }
     }
     progress

@@ -110,6 +110,7 @@ fn steps_text(sizes: Sizes, list: Vec<u32>, originals: &[u8]) -> Result<String, 
         parts,
         place: 0,
         budget: 0,
+        wear_limit: 0,
         original: 0,
     };
     let split = answer(&request);

@@ -5,6 +5,7 @@ use Rattle.flash.specs.Lists.{range, any, isSame}
 use Rattle.flash.specs.Tables.{Row, refusal}
 use Rattle.flash.specs.declared.sizes.Sizes.{Sizes}
 use Rattle.flash.specs.Geometry.{inRange, originalCount, slotCount, storeLength, marksLength, listLength, pinsLength, setsLength, workLength}
+use Rattle.flash.specs.declared.wear.Wear.{Wear}
 use Rattle.flash.specs.Chip.{Chip, erased, markAt, isBlank}
 use Rattle.flash.proofs.Bools.{bool-cases, or-false-left, or-false-right}
 use Rattle.flash.proofs.Tables.{refusal-zero, refusal-skip, refusal-nil}
@@ -18,6 +19,7 @@ use Rattle.split.proofs.Answers.{lengths-are}
 use Rattle.split.proofs.DropLaws.{completed-length, completed-accepted}
 use Rattle.method.specs.Move.{move, AcceptedMove, Lent}
 use Rattle.method.specs.Place.{lastPlace, marksOf}
+use Rattle.method.specs.Worn.{isWornOut}
 use Rattle.method.specs.Answers.{badChip, badParts, isElsewhere, moveRows, runRows}
 
 -- store and marks as a place has them: its marks, and every page marked 255 is blank
@@ -139,19 +141,30 @@ module _ (Z : Sizes) (chip : Chip) (place : ℕ) where
       whole t h (inr q) = rw q
 
 -- what a run that is not refused was given
-pub record RunTaken (R : Request) (chip : Chip) (work : List ℕ) (place : ℕ) : Type 0 where
+pub record RunTaken (R : Request) (chip : Chip) (work : List ℕ) (wear : Wear) (place limit : ℕ) : Type 0 where
   pub accepted : AcceptedMove (move R)
   pub lent : Lent (R .sizes) chip work
   pub stands : StandsAt (R .sizes) chip place
   pub fits : ListFits R
+  pub lasts : isWornOut (R .sizes .n) wear place limit ≡ false
 
-pub run-taken : (R : Request) (chip : Chip) (work : List ℕ) (place : ℕ) → refusal (runRows R chip work place) ≡ 0 → RunTaken R chip work place
+pub run-taken : (R : Request) (chip : Chip) (work : List ℕ) (wear : Wear) (place limit : ℕ) → refusal (runRows R chip work wear place limit) ≡ 0
+    → RunTaken R chip work wear place limit
 unfolding runRows
-run-taken R chip work place e =
+run-taken R chip work wear place limit e =
     let a = move-accepted R chip work _ e in
-    record { accepted = a .0; lent = a .1; stands = stands-at (R .sizes) chip place (refusal-zero _ _ (omega arith) (a .3) .0); fits = a .2 }
+    let five = refusal-zero _ _ (omega arith) (a .3) in
+    record {
+      accepted = a .0;
+      lent = a .1;
+      stands = stands-at (R .sizes) chip place (five .0);
+      fits = a .2;
+      lasts = refusal-zero _ _ (omega arith) (five .1) .0;
+    }
 
-pub taken-run : (R : Request) (chip : Chip) (work : List ℕ) (place : ℕ) → RunTaken R chip work place → refusal (runRows R chip work place) ≡ 0
+pub taken-run : (R : Request) (chip : Chip) (work : List ℕ) (wear : Wear) (place limit : ℕ) → RunTaken R chip work wear place limit
+    → refusal (runRows R chip work wear place limit) ≡ 0
 unfolding runRows
-taken-run R chip work place T =
-    accepted-move R chip work _ (T .accepted) (T .lent) (T .fits) (refusal-skip _ [] (at-stands (R .sizes) chip place (T .stands)) refusal-nil)
+taken-run R chip work wear place limit T =
+    accepted-move R chip work _ (T .accepted) (T .lent) (T .fits)
+    (refusal-skip _ _ (at-stands (R .sizes) chip place (T .stands)) (refusal-skip _ [] (T .lasts) refusal-nil))

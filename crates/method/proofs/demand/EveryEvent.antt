@@ -1,11 +1,12 @@
 -- Demand 3: every list of events keeps what is kept, so the claim holds at each of its moments.
-use Rattle.flash.proofs.Kit.{_≡_, refl, sym, ap, subst, ⊎-elim, _≢_, Bool, true, false, cond, true≢false, List, [], _∷_, _++_, map, Option}
+use Rattle.flash.proofs.Kit.{_≡_, refl, sym, ap, _∙_, subst, ⊎-elim, _≢_, Bool, true, false, cond, true≢false, List, [], _∷_, _++_, map, Option}
 use Rattle.flash.proofs.Kit.{none as nothing, some, ℕ, zero, suc, _+_, _*_, _≤_, _<_, zero-mod, arith, eqb, length, eqb-false, ne-eqb}
 use Rattle.flash.specs.Lists.{range, count}
 use Rattle.flash.specs.Tables.{refusal}
 use Rattle.flash.specs.declared.sizes.Sizes.{Sizes}
 use Rattle.flash.specs.Geometry.{originalCount}
 use Rattle.flash.specs.PageSum.{sum}
+use Rattle.flash.specs.declared.wear.Wear.{Wear}
 use Rattle.flash.specs.Chip.{Chip}
 use Rattle.flash.proofs.Bools.{bool-cases}
 use Rattle.flash.proofs.Comparisons.{eq-cases}
@@ -16,7 +17,7 @@ use Rattle.method.specs.Step.{operationsFrom}
 use Rattle.method.specs.State.{originalsIn}
 use Rattle.method.specs.Mend.{Reading, reading}
 use Rattle.method.specs.Read.{termPage, storedSlots, readTerms, readPage}
-use Rattle.method.specs.Answers.{RunAnswer, runRows, runCarriedOut, stepsTaken, runRefused, runAnswer, mendRows, mended, mendAnswer, readRows, readGives, readAnswer}
+use Rattle.method.specs.Answers.{RunAnswer, runRows, runCarriedOut, stepsTaken, runRefused, runAnswer, mendRows, MendAnswer, mended, mendAnswer, readRows, readGives, readAnswer}
 use Rattle.method.specs.Runs.{Start}
 use Rattle.method.specs.Events.{Call, run, mend, read, CutPoint, Event, History, numberOf, mendSteps, stepsOf, chipAfter, chipReturned, returnsFinished, starting, during, after, stepsFinished, moments}
 use Rattle.method.specs.Demand3.{CutObeys, Allowed, AllAllowed, Keeps, AtEach, Demand3}
@@ -30,22 +31,23 @@ use Rattle.method.proofs.demand.RunEvents.{run-number, run-kept}
 use Rattle.method.proofs.demand.MendEvents.{mend-kept}
 
 -- ---- refused calls leave all as it was
-run-refused : (R : Request) (chip : Chip) (work : List ℕ) (place budget : ℕ) → refusal (runRows R chip work place) ≢ 0
-    → runAnswer R chip work place budget ≡ runRefused (refusal (runRows R chip work place)) chip work
+pub run-refused : (R : Request) (chip : Chip) (work : List ℕ) (wear : Wear) (place budget limit : ℕ) → refusal (runRows R chip work wear place limit) ≢ 0
+    → runAnswer R chip work wear place budget limit ≡ runRefused (refusal (runRows R chip work wear place limit)) chip work wear
 unfolding runAnswer
-run-refused R chip work place budget ne = rw (ne-eqb (refusal (runRows R chip work place)) 0 ne)
+run-refused R chip work wear place budget limit ne = rw (ne-eqb (refusal (runRows R chip work wear place limit)) 0 ne)
 
-mended-number : (Z : Sizes) (chip : Chip) (found : Reading) → mended Z chip found .number ≡ 0
+mended-number : (Z : Sizes) (chip : Chip) (wear : Wear) (found : Reading) → mended Z chip wear found .number ≡ 0
 unfolding mended
-mended-number Z chip found = go (found .toErase)
+mended-number Z chip wear found = go (found .toErase)
   where
-    go : (toErase : Option ℕ) → mended Z chip (record { place = found .place; toErase = toErase }) .number ≡ 0
+    go : (toErase : Option ℕ) → mended Z chip wear (record { place = found .place; toErase = toErase }) .number ≡ 0
     go nothing = refl
     go (some b) = refl
 
-mend-refused : (Z : Sizes) (chip : Chip) → mendAnswer Z chip .number ≢ 0 → mendAnswer Z chip .chip ≡ chip
+pub mend-refused : (Z : Sizes) (chip : Chip) (wear : Wear) → mendAnswer Z chip wear .number ≢ 0
+    → mendAnswer Z chip wear ≡ record { number = refusal (mendRows Z chip); place = 0; erases = 0; chip = chip; wear = wear }
 unfolding mendAnswer
-mend-refused Z chip ne = ⊎-elim
+mend-refused Z chip wear ne = ⊎-elim
     (λ (q : eqb number 0 ≡ true). go q (reading Z (chip .marks)) refl)
     (λ (q : eqb number 0 ≡ false). rw q)
     (bool-cases (eqb number 0))
@@ -53,9 +55,10 @@ mend-refused Z chip ne = ⊎-elim
     number : ℕ
     number = refusal (mendRows Z chip)
 
-    go : eqb number 0 ≡ true → (found : Option Reading) → reading Z (chip .marks) ≡ found → mendAnswer Z chip .chip ≡ chip
+    go : eqb number 0 ≡ true → (found : Option Reading) → reading Z (chip .marks) ≡ found
+        → mendAnswer Z chip wear ≡ record { number = number; place = 0; erases = 0; chip = chip; wear = wear }
     go q nothing e = rw (q, e)
-    go q (some found) e = absurd (ne (rw (q, e) (mended-number Z chip found)))
+    go q (some found) e = absurd (ne (rw (q, e) (mended-number Z chip wear found)))
 
 -- ---- one event
 module _ (R : Request) (chip₀ : Chip) (S : Start R chip₀) where
@@ -73,48 +76,49 @@ module _ (R : Request) (chip₀ : Chip) (S : Start R chip₀) where
     abbrev EventsKept : Call → Type 0
     EventsKept call = (cut : CutPoint) → CutObeys call cut (h .chip) → EventKept X originals h call cut
 
-    run-idle : (N : Request) (work : List ℕ) (place budget : ℕ) → numberOf (run N work place budget) (h .chip) ≢ 0 → EventsKept (run N work place budget)
+    run-idle : (N : Request) (work : List ℕ) (wear : Wear) (place budget limit : ℕ) → numberOf (run N work wear place budget limit) (h .chip) ≢ 0 → EventsKept (run N work wear place budget limit)
     unfolding numberOf stepsOf chipAfter chipReturned returnsFinished runRefused runCarriedOut
-    run-idle N work place budget ne =
-        let refused : refusal (runRows N (h .chip) work place) ≢ 0 = λ e. ne (ap (λ (a : RunAnswer). a .number) (run-answer N (h .chip) work place budget e)) in
+    run-idle N work wear place budget limit ne =
+        let refused : refusal (runRows N (h .chip) work wear place limit) ≢ 0 = λ e. ne (ap (λ (a : RunAnswer). a .number) (run-answer N (h .chip) work wear place budget limit e)) in
         let no-steps : List Operation = operationsFrom (N .sizes) place (stepsTaken (N .sizes) place budget) in
-        idle X originals h K (run N work place budget)
-        (ap (λ (b : Bool). cond b no-steps []) (ne-eqb (runAnswer N (h .chip) work place budget .number) 0 ne))
-        (ap (λ (a : RunAnswer). a .chip) (run-refused N (h .chip) work place 0 refused))
-        (ap (λ (a : RunAnswer). a .chip) (run-refused N (h .chip) work place budget refused))
-        (ap (λ (a : RunAnswer). eqb (a .finished) 1) (run-refused N (h .chip) work place budget refused))
+        idle X originals h K (run N work wear place budget limit)
+        (ap (λ (b : Bool). cond b no-steps []) (ne-eqb (runAnswer N (h .chip) work wear place budget limit .number) 0 ne))
+        (ap (λ (a : RunAnswer). a .chip) (run-refused N (h .chip) work wear place 0 limit refused))
+        (ap (λ (a : RunAnswer). a .chip) (run-refused N (h .chip) work wear place budget limit refused))
+        (ap (λ (a : RunAnswer). eqb (a .finished) 1) (run-refused N (h .chip) work wear place budget limit refused))
 
-    mend-idle : (Z : Sizes) → numberOf (mend Z) (h .chip) ≢ 0 → EventsKept (mend Z)
+    mend-idle : (Z : Sizes) (wear : Wear) → numberOf (mend Z wear) (h .chip) ≢ 0 → EventsKept (mend Z wear)
     unfolding numberOf stepsOf chipAfter chipReturned returnsFinished
-    mend-idle Z ne =
-        idle X originals h K (mend Z) (ap (λ (b : Bool). cond b (mendSteps (reading Z (h .chip .marks))) []) (ne-eqb (mendAnswer Z (h .chip) .number) 0 ne)) refl (mend-refused Z (h .chip) ne) refl
+    mend-idle Z wear ne =
+        idle X originals h K (mend Z wear) (ap (λ (b : Bool). cond b (mendSteps (reading Z (h .chip .marks))) []) (ne-eqb (mendAnswer Z (h .chip) wear .number) 0 ne)) refl
+        (ap (λ (a : MendAnswer). a .chip) (mend-refused Z (h .chip) wear ne)) refl
 
     read-idle : (N : Request) (work : List ℕ) (k : ℕ) → EventsKept (read N work k)
     unfolding stepsOf chipAfter chipReturned returnsFinished
     read-idle N work k = idle X originals h K (read N work k) refl refl refl refl
 
-    run-shared : (N : Request) → plan N ≡ X → (work : List ℕ) (place budget : ℕ)
-        → numberOf (run N work place budget) (h .chip) ≡ 0 → h .unmended ≡ false → EventsKept (run N work place budget)
+    run-shared : (N : Request) → plan N ≡ X → (work : List ℕ) (wear : Wear) (place budget limit : ℕ)
+        → numberOf (run N work wear place budget limit) (h .chip) ≡ 0 → h .unmended ≡ false → EventsKept (run N work wear place budget limit)
     unfolding numberOf
-    run-shared N e work place budget ok mended cut obeys =
+    run-shared N e work wear place budget limit ok mended cut obeys =
         let full = subst (λ (X : Plan). length originals ≡ originalCount (X .move .sizes) * X .move .sizes .p) (sym e) (start-full R chip₀ S) in
         let kept = subst (λ (X : Plan). Kept X originals h) (sym e) K in
-        let number = run-number N (h .chip) work place budget ok in
-        subst (λ (X : Plan). EventKept X originals h (run N work place budget) cut) e
-        (run-kept N (subst (λ (X : Plan). AcceptedMove (X .move)) (sym e) A) originals full h kept work place budget number mended cut obeys)
+        let number = sym (run-number N (h .chip) work wear place budget limit) ∙ ok in
+        subst (λ (X : Plan). EventKept X originals h (run N work wear place budget limit) cut) e
+        (run-kept N (subst (λ (X : Plan). AcceptedMove (X .move)) (sym e) A) originals full h kept work wear place budget limit number mended cut obeys)
 
-    mend-shared : (Z : Sizes) → Z ≡ R .sizes → EventsKept (mend Z)
-    mend-shared Z e = subst (λ (Z : Sizes). EventsKept (mend Z)) (sym e) (mend-kept X A originals h K)
+    mend-shared : (Z : Sizes) (wear : Wear) → Z ≡ R .sizes → EventsKept (mend Z wear)
+    mend-shared Z wear e = subst (λ (Z : Sizes). EventsKept (mend Z wear)) (sym e) (mend-kept X A originals h K wear)
 
     pub event-kept : (call : Call) (cut : CutPoint) → Allowed R (record { call = call; cut = cut }) h → EventKept X originals h call cut
-    event-kept (run N work place budget) cut O = ⊎-elim
-        (λ (ok : numberOf (run N work place budget) (h .chip) ≡ 0). run-shared N (O .shares ok) work place budget ok (O .mended ok) cut (O .cut-obeys))
-        (λ ne. run-idle N work place budget ne cut (O .cut-obeys))
-        (eq-cases (numberOf (run N work place budget) (h .chip)) 0)
-    event-kept (mend Z) cut O = ⊎-elim
-        (λ (ok : numberOf (mend Z) (h .chip) ≡ 0). mend-shared Z (O .shares ok) cut (O .cut-obeys))
-        (λ ne. mend-idle Z ne cut (O .cut-obeys))
-        (eq-cases (numberOf (mend Z) (h .chip)) 0)
+    event-kept (run N work wear place budget limit) cut O = ⊎-elim
+        (λ (ok : numberOf (run N work wear place budget limit) (h .chip) ≡ 0). run-shared N (O .shares ok) work wear place budget limit ok (O .mended ok) cut (O .cut-obeys))
+        (λ ne. run-idle N work wear place budget limit ne cut (O .cut-obeys))
+        (eq-cases (numberOf (run N work wear place budget limit) (h .chip)) 0)
+    event-kept (mend Z wear) cut O = ⊎-elim
+        (λ (ok : numberOf (mend Z wear) (h .chip) ≡ 0). mend-shared Z wear (O .shares ok) cut (O .cut-obeys))
+        (λ ne. mend-idle Z wear ne cut (O .cut-obeys))
+        (eq-cases (numberOf (mend Z wear) (h .chip)) 0)
     event-kept (read N work k) cut O = read-idle N work k cut (O .cut-obeys)
 
   -- ---- lists of events

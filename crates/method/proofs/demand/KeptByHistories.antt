@@ -5,6 +5,7 @@ use Rattle.flash.specs.Lists.{count}
 use Rattle.flash.specs.Tables.{refusal}
 use Rattle.flash.specs.declared.sizes.Sizes.{Sizes}
 use Rattle.flash.specs.Geometry.{slotOf, originalCount, slotCount, storeLength, workLength}
+use Rattle.flash.specs.declared.wear.Wear.{Wear}
 use Rattle.flash.specs.Chip.{Chip, pageAt, isWhole}
 use Rattle.flash.proofs.Searches.{count-take}
 use Rattle.flash.proofs.Tables.{refusal-skip, refusal-nil}
@@ -16,7 +17,8 @@ use Rattle.method.specs.Place.{operations, lastPlace, filled}
 use Rattle.method.specs.Read.{fillerPage, storedSlots, readSlots}
 use Rattle.method.specs.State.{originalsIn, countsAs}
 use Rattle.method.specs.Step.{isErase, erasesBlock}
-use Rattle.method.specs.Answers.{readRows, runCarriedOut, stepsTaken, mendAnswer, readGives, readAnswer, runAnswer}
+use Rattle.method.specs.Worn.{isWornOut}
+use Rattle.method.specs.Answers.{readRows, runCarriedOut, stepsTaken, MendAnswer, mendAnswer, readGives, readAnswer, runAnswer}
 use Rattle.method.specs.Runs.{Start}
 use Rattle.method.specs.Events.{History}
 use Rattle.method.specs.Demand3.{Stays, Keeps}
@@ -32,7 +34,7 @@ use Rattle.method.proofs.places.Turns.{turn, turn-high, turn-erases}
 use Rattle.method.proofs.recovery.MarksSeen.{terms-seen, page-seen}
 use Rattle.method.proofs.recovery.Moments.{Moment, moment-shape, finished-page}
 use Rattle.method.proofs.recovery.MendFinds.{moment-fits}
-use Rattle.method.proofs.recovery.MendAnswers.{recovers}
+use Rattle.method.proofs.recovery.MendAnswers.{Recovered, recovers}
 use Rattle.method.proofs.places.ErasesCounted.{at-most-twice}
 
 -- where an erase is still to come, so is its turn's end
@@ -129,19 +131,26 @@ module _ (R : Request) (chip₀ : Chip) (S : Start R chip₀) where
     final : h .finished ≡ true → (k : ℕ) → k < originalCount W → pageAt (W .p) chip (slotOf (W .m) (getD (X .move .list) k 0)) ≡ countsAs X originals k
     final e k k-in = finished-page X A originals chip (subst (Moment W (chip .marks)) (K .ended e) (K .moment)) (K .holds) k k-in
 
-    goes-on : (work : List ℕ) → length work ≡ workLength W → (budget : ℕ) → lastPlace W ≤ budget
-        → runAnswer R (mendAnswer W chip .chip) work (mendAnswer W chip .place) budget .finished ≡ 1
-    unfolding runCarriedOut stepsTaken
-    goes-on work l budget enough =
-        let C = recovers W (A .ranges) chip (K .store-length) (K .place) (K .moment) in
-        let T : RunTaken R (mendAnswer W chip .chip) work (K .place) = record {
-          accepted = A;
-          lent = record { store-length = C .store-length; marks-length = C .marks-length; work-length = l };
-          stands = C .stands;
-          fits = start-fits R chip₀ S;
-        } in
-        let to-end : K .place + min budget (lastPlace W - K .place) ≡ lastPlace W = omega (arith, K .moment .in-move) in
-        rw (C .place-is, run-answer R (mendAnswer W chip .chip) work (K .place) budget (taken-run R _ _ _ T), to-end, eq-eqb (lastPlace W) (lastPlace W) refl)
+    module _ (worn : Wear) where
+      abbrev answer : MendAnswer
+      answer = mendAnswer W chip worn
+
+      C : Recovered W chip (K .place) answer
+      C = recovers W (A .ranges) chip (K .store-length) (K .place) (K .moment) worn
+
+      goes-on : (work : List ℕ) → length work ≡ workLength W → (wear : Wear) (limit : ℕ) → isWornOut (W .n) wear (answer .place) limit ≡ false
+          → (budget : ℕ) → lastPlace W ≤ budget → runAnswer R (answer .chip) work wear (answer .place) budget limit .finished ≡ 1
+      unfolding runCarriedOut stepsTaken
+      goes-on work l wear limit lasts budget enough =
+          let T : RunTaken R (answer .chip) work wear (K .place) limit = record {
+            accepted = A;
+            lent = record { store-length = C .store-length; marks-length = C .marks-length; work-length = l };
+            stands = C .stands;
+            fits = start-fits R chip₀ S;
+            lasts = rw (C .place-is) at lasts;
+          } in
+          let to-end : K .place + min budget (lastPlace W - K .place) ≡ lastPlace W = omega (arith, K .moment .in-move) in
+          rw (C .place-is, run-answer R (answer .chip) work wear (K .place) budget limit (taken-run R _ _ _ _ limit T), to-end, eq-eqb (lastPlace W) (lastPlace W) refl)
 
     pub keeps : Keeps R chip₀ h
     keeps = record {
@@ -153,7 +162,7 @@ module _ (R : Request) (chip₀ : Chip) (S : Start R chip₀) where
           ap (λ (to : ℕ). pageAt (W .p) chip (slotOf (W .m) to)) (sym (completed-kept (R .list) k kept)) ∙ final e k k-in
           ∙ counts-kept X originals k kept ∙ start-page R chip₀ S k;
       final-dropped = λ e k k-in gone. final e k k-in ∙ counts-dropped X originals k gone;
-      placed = λ work place e. (let T = run-taken R chip work place e in is-state X A originals chip place (T .stands) (K .store-length) (K .holds));
-      recovers = recovers W (A .ranges) chip (K .store-length) (K .place) (K .moment) .number-is;
+      placed = λ work wear place limit e. (let T = run-taken R chip work wear place limit e in is-state X A originals chip place (T .stands) (K .store-length) (K .holds));
+      recovers = λ worn. C worn .number-is;
       goes-on = goes-on;
     }

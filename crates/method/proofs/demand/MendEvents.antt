@@ -3,6 +3,7 @@ use Rattle.flash.proofs.Kit.{_≡_, refl, sym, ap, _∙_, subst, true, cond, Li
 use Rattle.flash.proofs.Kit.{eqb, length, getD, take}
 use Rattle.flash.specs.Lists.{count}
 use Rattle.flash.specs.declared.sizes.Sizes.{Sizes}
+use Rattle.flash.specs.declared.wear.Wear.{Wear}
 use Rattle.flash.specs.Chip.{Chip}
 use Rattle.flash.proofs.Searches.{count-append, count-take}
 use Rattle.method.specs.Move.{Plan, AcceptedMove}
@@ -23,18 +24,18 @@ use Rattle.method.proofs.recovery.CutsLeave.{mend-cut}
 use Rattle.method.proofs.demand.KeptByHistories.{Bounded, within, once-more, Kept}
 use Rattle.method.proofs.demand.CallsWithoutSteps.{EventKept, idle}
 
-module _ (X : Plan) (A : AcceptedMove (X .move)) (originals : List ℕ) (h : History) (K : Kept X originals h) where
+module _ (X : Plan) (A : AcceptedMove (X .move)) (originals : List ℕ) (h : History) (K : Kept X originals h) (wear : Wear) where
   abbrev Z : Sizes
   Z = X .move .sizes
 
   abbrev call : Call
-  call = mend (X .move .sizes)
+  call = mend (X .move .sizes) wear
 
   abbrev answer : MendAnswer
-  answer = mendAnswer Z (h .chip)
+  answer = mendAnswer Z (h .chip) wear
 
   R : Recovered Z (h .chip) (K .place) answer
-  R = recovers Z (A .ranges) (h .chip) (K .store-length) (K .place) (K .moment)
+  R = recovers Z (A .ranges) (h .chip) (K .store-length) (K .place) (K .moment) wear
 
   steps-are : (found : Reading) → reading Z (h .chip .marks) ≡ some found → stepsOf call (h .chip) ≡ mendSteps (some found)
   unfolding stepsOf numberOf
@@ -48,7 +49,7 @@ module _ (X : Plan) (A : AcceptedMove (X .move)) (originals : List ℕ) (h : His
   keeps-all e =
       let found : Reading = record { place = K .place; toErase = none } in
       idle X originals h K call (steps-are found e) refl
-      (ap (λ (x : MendAnswer). x .chip) (answers Z (A .ranges) (h .chip) (K .store-length) (K .place) (K .moment) found e)) refl
+      (ap (λ (x : MendAnswer). x .chip) (answers Z (A .ranges) (h .chip) (K .store-length) (K .place) (K .moment) wear found e)) refl
 
   -- ---- a block to erase
   module _ (z : filled Z (K .place) ≡ 0) (e : reading Z (h .chip .marks) ≡ some (record { place = K .place; toErase = some (filling Z (K .place)) })) where

@@ -6,6 +6,7 @@ use Rattle.flash.specs.Lists.{count}
 use Rattle.flash.specs.Tables.{refusal}
 use Rattle.flash.specs.declared.sizes.Sizes.{Sizes}
 use Rattle.flash.specs.Geometry.{originalCount}
+use Rattle.flash.specs.declared.wear.Wear.{Wear}
 use Rattle.flash.specs.Chip.{Chip}
 use Rattle.flash.proofs.Bools.{bool-cases, never-both, or-cases}
 use Rattle.flash.proofs.Bounds.{range-in}
@@ -15,6 +16,7 @@ use Rattle.method.specs.Move.{Plan, move, plan, AcceptedMove}
 use Rattle.method.specs.Place.{Operation, write, erase, done, operations, operationAt, lastPlace, filled}
 use Rattle.method.specs.Step.{Running, steps, isErase, operationsFrom}
 use Rattle.method.specs.Cut.{CutInside}
+use Rattle.method.specs.Worn.{wornBy}
 use Rattle.method.specs.Answers.{RunAnswer, runRows, runCarriedOut, stepsTaken, runRefused, runAnswer}
 use Rattle.method.specs.Events.{Call, run, CutPoint, uncut, between, inside, History, numberOf, stepsOf, chipAfter, chipReturned, returnsFinished, isMend, during, returned, cutShort, afterCall, stepsFinished, sizesGiven}
 use Rattle.method.specs.Demand3.{CutObeys}
@@ -35,16 +37,20 @@ use Rattle.method.proofs.demand.KeptByHistories.{Bounded, within, once-
 use Rattle.method.proofs.demand.CallsWithoutSteps.{EventKept}
 
 -- the number that run returns is that of its table
-pub run-number : (R : Request) (chip : Chip) (work : List ℕ) (place budget : ℕ) → runAnswer R chip work place budget .number ≡ 0 → refusal (runRows R chip work place) ≡ 0
-unfolding runAnswer runRefused
-run-number R chip work place budget e = ⊎-elim
-    (λ (q : eqb (refusal (runRows R chip work place)) 0 ≡ true). eqb-true _ 0 q)
-    (λ (q : eqb (refusal (runRows R chip work place)) 0 ≡ false). rw q at e)
-    (bool-cases (eqb (refusal (runRows R chip work place)) 0))
+pub run-number : (R : Request) (chip : Chip) (work : List ℕ) (wear : Wear) (place budget limit : ℕ)
+    → runAnswer R chip work wear place budget limit .number ≡ refusal (runRows R chip work wear place limit)
+unfolding runAnswer runCarriedOut runRefused
+run-number R chip work wear place budget limit = ⊎-elim
+    (λ (q : eqb number 0 ≡ true). rw q (sym (eqb-true number 0 q)))
+    (λ (q : eqb number 0 ≡ false). rw q)
+    (bool-cases (eqb number 0))
+  where
+    number : ℕ
+    number = refusal (runRows R chip work wear place limit)
 
 module _ (R : Request) (A : AcceptedMove (move R)) (originals : List ℕ) (full : length originals ≡ originalCount (R .sizes) * R .sizes .p)
-    (h : History) (K : Kept (plan R) originals h) (work : List ℕ) (place budget : ℕ)
-    (ok : refusal (runRows R (h .chip) work place) ≡ 0) (mended : h .unmended ≡ false) where
+    (h : History) (K : Kept (plan R) originals h) (work : List ℕ) (wear : Wear) (place budget limit : ℕ)
+    (ok : refusal (runRows R (h .chip) work wear place limit) ≡ 0) (mended : h .unmended ≡ false) where
   abbrev X : Plan
   X = plan R
 
@@ -52,13 +58,13 @@ module _ (R : Request) (A : AcceptedMove (move R)) (originals : List ℕ) (full 
   Z = R .sizes
 
   abbrev call : Call
-  call = run R work place budget
+  call = run R work wear place budget limit
 
   abbrev total : ℕ
   total = stepsTaken Z place budget
 
-  T : RunTaken R (h .chip) work place
-  T = run-taken R (h .chip) work place ok
+  T : RunTaken R (h .chip) work wear place limit
+  T = run-taken R (h .chip) work wear place limit ok
 
   total-in : place + total ≤ lastPlace Z
   unfolding stepsTaken
@@ -71,13 +77,13 @@ module _ (R : Request) (A : AcceptedMove (move R)) (originals : List ℕ) (full 
   steps-are : stepsOf call (h .chip) ≡ operationsFrom Z place total
   unfolding stepsOf numberOf runCarriedOut
   steps-are =
-      ap (λ (a : RunAnswer). cond (eqb (a .number) 0) (operationsFrom Z place total) []) (run-answer R (h .chip) work place budget ok)
+      ap (λ (a : RunAnswer). cond (eqb (a .number) 0) (operationsFrom Z place total) []) (run-answer R (h .chip) work wear place budget limit ok)
 
   chip-after : (i : ℕ) → i ≤ total → chipAfter call (h .chip) i ≡ steps X i place start .chip
   unfolding chipAfter runCarriedOut stepsTaken
   chip-after i l =
       let all : min i (lastPlace Z - place) ≡ i = omega (arith, total-in) in
-      ap (λ (a : RunAnswer). a .chip) (run-answer R (h .chip) work place i ok) ∙ ap (λ (x : ℕ). steps X x place start .chip) all
+      ap (λ (a : RunAnswer). a .chip) (run-answer R (h .chip) work wear place i limit ok) ∙ ap (λ (x : ℕ). steps X x place start .chip) all
 
   some-steps : (i : ℕ) → i ≤ total → take i (operationsFrom Z place total) ≡ operationsFrom Z place i
   unfolding operationsFrom
@@ -118,8 +124,8 @@ module _ (R : Request) (A : AcceptedMove (move R)) (originals : List ℕ) (full 
     abbrev now : Chip
     now = steps X i place start .chip
 
-    S : RunTaken R now (steps X i place start .work) (place + i)
-    S = still-taken R (h .chip) work place i (omega (arith, total-in)) T
+    S : RunTaken R now (steps X i place start .work) (wornBy (operationsFrom Z place i) wear) (place + i) limit
+    S = still-taken R (h .chip) work wear place i limit (omega (arith, total-in)) T
 
     now-holds : Holding X originals now
     now-holds =
@@ -172,14 +178,14 @@ module _ (R : Request) (A : AcceptedMove (move R)) (originals : List ℕ) (full 
   unfolding returned isMend chipReturned returnsFinished runCarriedOut
   returned-kept =
       kept-at total (omega arith) (returned h call)
-      (ap (λ (a : RunAnswer). a .chip) (run-answer R (h .chip) work place budget ok))
+      (ap (λ (a : RunAnswer). a .chip) (run-answer R (h .chip) work wear place budget limit ok))
       (ap (λ (o : List Operation). h .begun ++ o) steps-are)
       refl (λ e. e) (λ e. ⊎-elim (still-over total (omega arith)) (λ f. ap (resumesAt Z) (reported f) ∙ resumes-last Z) (or-cases (h .finished) _ e))
     where
-      told : eqb (place + total) (lastPlace Z) ≡ false → eqb (runAnswer R (h .chip) work place budget .finished) 1 ≡ false
-      told q = ap (λ (a : RunAnswer). eqb (a .finished) 1) (run-answer R (h .chip) work place budget ok) ∙ rw q
+      told : eqb (place + total) (lastPlace Z) ≡ false → eqb (runAnswer R (h .chip) work wear place budget limit .finished) 1 ≡ false
+      told q = ap (λ (a : RunAnswer). eqb (a .finished) 1) (run-answer R (h .chip) work wear place budget limit ok) ∙ rw q
 
-      reported : eqb (runAnswer R (h .chip) work place budget .finished) 1 ≡ true → place + total ≡ lastPlace Z
+      reported : eqb (runAnswer R (h .chip) work wear place budget limit .finished) 1 ≡ true → place + total ≡ lastPlace Z
       reported e = ⊎-elim (eqb-true _ _) (λ q. absurd (never-both e (told q))) (bool-cases (eqb (place + total) (lastPlace Z)))
 
   between-kept : (i : ℕ) → i ≤ total → Kept X originals (cutShort h call i (chipAfter call (h .chip) i))

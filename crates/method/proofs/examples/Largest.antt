@@ -3,6 +3,7 @@ use Rattle.flash.proofs.Kit.{_≡_, refl, _∙_, false, cond, not, List, [], _�
 use Rattle.flash.specs.Lists.{range, any}
 use Rattle.flash.specs.Tables.{Row, refusal}
 use Rattle.flash.specs.Geometry.{inRange}
+use Rattle.flash.specs.Wear.{counterEnd, unworn}
 use Rattle.flash.specs.Chip.{Chip}
 use Rattle.flash.proofs.Tables.{refusal-skip, refusal-nil}
 use Rattle.split.specs.OneToOne.{dropped, badList}
@@ -16,8 +17,9 @@ use Rattle.split.proofs.DropLaws.{undropped-completed}
 use Rattle.method.specs.Move.{plan}
 use Rattle.method.specs.Read.{storedSlots, readTerms, readPage}
 use Rattle.method.specs.Mend.{seen, reading}
-use Rattle.method.specs.Answers.{badParts, fitsNone, isElsewhere, moveRows, runRows, readRows, stepsTaken, runCarriedOut, runAnswer, readGives, readAnswer}
-use Rattle.method.specs.Cases.{sizes, junk, counts, ran, small, resting}
+use Rattle.method.specs.Worn.{isWornOut}
+use Rattle.method.specs.Answers.{badParts, fitsNone, isElsewhere, moveRows, runRows, readRows, stepsTaken, runCarriedOut, readGives, readAnswer}
+use Rattle.method.specs.Cases.{sizes, junk, counts, runs, ran, small, resting}
 use Rattle.method.proofs.basics.Open.{all-open}
 use Rattle.method.proofs.states.RunsAddUp.{run-answer}
 
@@ -73,20 +75,24 @@ moves rest e =
     (refusal-skip _ _ (rw (undropped-completed entries undropped) is-split) e))))
 
 -- ---- run
+lasts : isWornOut 64 unworn 0 counterEnd ≡ false
+unfolding all-open
+lasts = refl
+
 here : isElsewhere (sizes 64 1) (resting 64) 0 ≡ false
 unfolding all-open
 here = refl
 
-run-taken : refusal (runRows asked (resting 64) (junk 1) 0) ≡ 0
+run-taken : refusal (runRows asked (resting 64) (junk 1) unworn 0 counterEnd) ≡ 0
 unfolding runRows
-run-taken = moves _ (refusal-skip _ [] here refusal-nil)
+run-taken = moves _ (refusal-skip _ _ here (refusal-skip _ [] lasts refusal-nil))
 
-no-steps : runCarriedOut (plan asked) (resting 64) (junk 1) 0 (stepsTaken (sizes 64 1) 0 0) ≡ ran 0 (counts 0 0 0 0) 0 (resting 64) (junk 1)
+no-steps : runCarriedOut (plan asked) (resting 64) (junk 1) unworn 0 (stepsTaken (sizes 64 1) 0 0) ≡ ran 0 (counts 0 0 0 0) 0 (resting 64) (junk 1) []
 unfolding all-open
 no-steps = refl
 
-pub largest-run : runAnswer asked (resting 64) (junk 1) 0 0 ≡ ran 0 (counts 0 0 0 0) 0 (resting 64) (junk 1)
-largest-run = run-answer asked (resting 64) (junk 1) 0 0 run-taken ∙ no-steps
+pub largest-run : runs asked (resting 64) (junk 1) 0 0 ≡ ran 0 (counts 0 0 0 0) 0 (resting 64) (junk 1) []
+largest-run = run-answer asked (resting 64) (junk 1) unworn 0 0 counterEnd run-taken ∙ no-steps
 
 -- ---- read
 fits : fitsNone (reading (sizes 64 1) (resting 64 .marks)) ≡ false

@@ -3,6 +3,8 @@ use Rattle.flash.proofs.Kit.{_≡_, refl, sym, ap, subst, true, false, not, som
 use Rattle.flash.specs.Tables.{refusal}
 use Rattle.flash.specs.declared.sizes.Sizes.{Sizes}
 use Rattle.flash.specs.Geometry.{Bounds, slot, storeLength, marksLength, letter}
+use Rattle.flash.specs.declared.wear.Wear.{Wear}
+use Rattle.flash.specs.Wear.{risen}
 use Rattle.flash.specs.Chip.{Chip, erased, markAt, isBlank, eraseBlock}
 use Rattle.flash.proofs.Blocks.{full-at}
 use Rattle.flash.proofs.Bounds.{range-in}
@@ -39,7 +41,7 @@ pub record Recovered (Z : Sizes) (chip : Chip) (place : ℕ) (answer : MendAnswe
   pub marks-length : length (answer .chip .marks) ≡ marksLength Z
   pub fades : Fades Z chip (answer .chip)
 
-module _ (Z : Sizes) (B : Bounds Z) (chip : Chip) (store-length : length (chip .store) ≡ storeLength Z) (place : ℕ) (C : Moment Z (chip .marks) place) where
+module _ (Z : Sizes) (B : Bounds Z) (chip : Chip) (store-length : length (chip .store) ≡ storeLength Z) (place : ℕ) (C : Moment Z (chip .marks) place) (wear : Wear) where
   open Sizes Z using (n, m, p as P)
 
   accepted : (found : Reading) → reading Z (chip .marks) ≡ some found → refusal (mendRows Z chip) ≡ 0
@@ -48,7 +50,7 @@ module _ (Z : Sizes) (B : Bounds Z) (chip : Chip) (store-length : length (chip .
       let lengths : badChip Z chip ≡ false = rw (eq-eqb _ _ store-length, eq-eqb _ _ (C .marks-length)) refl in
       refusal-skip _ _ (ap not (range-in Z B)) (refusal-skip _ _ lengths (refusal-skip _ [] (ap fitsNone e) refusal-nil))
 
-  pub answers : (found : Reading) → reading Z (chip .marks) ≡ some found → mendAnswer Z chip ≡ mended Z chip found
+  pub answers : (found : Reading) → reading Z (chip .marks) ≡ some found → mendAnswer Z chip wear ≡ mended Z chip wear found
   unfolding mendAnswer
   answers found e = rw (accepted found e, e)
 
@@ -85,7 +87,7 @@ module _ (Z : Sizes) (B : Bounds Z) (chip : Chip) (store-length : length (chip .
         erased-stands Z chip b (S .inside) store-length (C .marks-length) place own (C .others)
         (λ c q apart h k e. (let r = erased-between Z (chip .marks) b (suc b) _ c q S h k e in absurd (apart (omega arith)))) (B .m-low) (C .in-move)
 
-    recovered-torn : Recovered Z chip place (record { number = 0; place = place; erases = 1; chip = left })
+    recovered-torn : Recovered Z chip place (record { number = 0; place = place; erases = 1; chip = left; wear = risen b wear })
     recovered-torn = record {
       number-is = refl;
       place-is = refl;
@@ -96,7 +98,7 @@ module _ (Z : Sizes) (B : Bounds Z) (chip : Chip) (store-length : length (chip .
       fades = erase-fades Z b chip (S .inside) store-length (C .marks-length);
     }
 
-  recovered-full : filled Z place ≡ m → MarksAt Z place (chip .marks) → Recovered Z chip place (record { number = 0; place = place; erases = 0; chip = chip })
+  recovered-full : filled Z place ≡ m → MarksAt Z place (chip .marks) → Recovered Z chip place (record { number = 0; place = place; erases = 0; chip = chip; wear = wear })
   recovered-full k A = record {
     number-is = refl;
     place-is = refl;
@@ -107,10 +109,10 @@ module _ (Z : Sizes) (B : Bounds Z) (chip : Chip) (store-length : length (chip .
     fades = fades-refl Z chip;
   }
 
-  pub recovers : Recovered Z chip place (mendAnswer Z chip)
+  pub recovers : Recovered Z chip place (mendAnswer Z chip wear)
   unfolding mended
   recovers = go (finds Z B (chip .marks) place C)
     where
-      go : Finds Z (chip .marks) place → Recovered Z chip place (mendAnswer Z chip)
+      go : Finds Z (chip .marks) place → Recovered Z chip place (mendAnswer Z chip wear)
       go (torn z S e) = subst (Recovered Z chip place) (sym (answers (record { place = place; toErase = some (filling Z place) }) e)) (recovered-torn z S)
       go (full k A e) = subst (Recovered Z chip place) (sym (answers (record { place = place; toErase = none }) e)) (recovered-full k A)

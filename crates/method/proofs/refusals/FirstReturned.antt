@@ -10,7 +10,7 @@ pub first-by-all : FirstReturned
 unfolding order before splitRows moveRows runRows mendRows readRows
 first-by-all = record {
   by-split = λ R. first-returned order (splitRows R) 0 refl;
-  by-run = λ R chip work place. first-returned order (runRows R chip work place) 0 refl;
+  by-run = λ R chip work wear place limit. first-returned order (runRows R chip work wear place limit) 0 refl;
   by-mend = λ Z chip. first-returned order (mendRows Z chip) 0 refl;
   by-read = λ R chip work k. first-returned order (readRows R chip work k) 0 refl;
 }

@@ -2,6 +2,7 @@
 use Rattle.flash.proofs.Kit.{_≡_, refl, ⊎-elim, _≢_, Bool, true, false, cond, List, ℕ, eqb, length, ne-eqb}
 use Rattle.flash.specs.Tables.{Row, refusal, firstFit, numberOr0}
 use Rattle.flash.specs.Geometry.{inRange, listLength}
+use Rattle.flash.specs.declared.wear.Wear.{Wear}
 use Rattle.flash.specs.Chip.{Chip}
 use Rattle.flash.proofs.Bools.{bool-cases}
 use Rattle.split.specs.Request.{Request, badRequest}
@@ -20,9 +21,10 @@ module _ (R : Request) (chip : Chip) (work : List ℕ) (other : inRange (R .size
       (λ (e : inRange (R .sizes) ≡ false). rw e)
       (bool-cases (inRange (R .sizes)))
 
-  pub run-refuses-list : (place budget : ℕ) → runAnswer R chip work place budget ≡ runRefused (cond (inRange (R .sizes)) 2 1) chip work
+  pub run-refuses-list : (wear : Wear) (place budget limit : ℕ)
+      → runAnswer R chip work wear place budget limit ≡ runRefused (cond (inRange (R .sizes)) 2 1) chip work wear
   unfolding runAnswer runRows
-  run-refuses-list place budget = rw (list-refused _, not-zero (inRange (R .sizes)))
+  run-refuses-list wear place budget limit = rw (list-refused _, not-zero (inRange (R .sizes)))
 
   pub read-refuses-list : (k : ℕ) → readAnswer R chip work k ≡ readRefused (cond (inRange (R .sizes)) 2 1) work
   unfolding readAnswer readRows

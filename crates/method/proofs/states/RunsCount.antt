@@ -1,10 +1,11 @@
 -- What a run counts: its steps, writes and erases are those of its operations, its bytes those of the pages that it wrote.
-use Rattle.flash.proofs.Kit.{_≡_, refl, sym, ap, ap₂, _∙_, subst, List, ℕ, zero, suc, _+_, _*_, _≤_, _<_, zero-add, add-one, suc-mul, mul-le-mul-right, arith, length, take, drop}
+use Rattle.flash.proofs.Kit.{_≡_, refl, sym, ap, ap₂, _∙_, subst, false, List, ℕ, zero, suc, _+_, _*_, _≤_, _<_, zero-add, add-one, suc-mul, mul-le-mul-right, arith, length, take, drop}
 use Rattle.flash.specs.Lists.{range, count, total}
 use Rattle.flash.specs.Tables.{refusal}
 use Rattle.flash.specs.declared.sizes.Sizes.{Sizes}
 use Rattle.flash.specs.Geometry.{slot, workLength, Bounds}
 use Rattle.flash.specs.PageSum.{writtenBytes}
+use Rattle.flash.specs.declared.wear.Wear.{Wear}
 use Rattle.flash.specs.Chip.{Chip, pageAt}
 use Rattle.flash.proofs.Bounds.{slot-in-marks, slot-in-store, product-le}
 use Rattle.flash.proofs.Chips.{write-page}
@@ -17,6 +18,7 @@ use Rattle.method.specs.Move.{Plan, plan, AcceptedMove}
 use Rattle.method.specs.Place.{write, markOf, operations, operationAt, lastPlace, passAt, filling, filled}
 use Rattle.method.specs.State.{originalsIn, stateOf}
 use Rattle.method.specs.Step.{Running, perform, step, steps, isWrite, operationsFrom, tallied, tallyOf}
+use Rattle.method.specs.Worn.{wearsOut}
 use Rattle.method.specs.Answers.{RunAnswer, stepsTaken, runRows, runCarriedOut, runAnswer}
 use Rattle.method.specs.Runs.{Start}
 use Rattle.method.specs.Counts.{bytesOfStep, bytesOfSteps, Counted, RunsCount}
@@ -104,7 +106,7 @@ most-bytes Z B bytes writes few h =
     let some = mul-le-mul-right (Z .p) h in
     (omega arith, omega arith)
 
-module _ (R : Request) (chip : Chip) (work : List ℕ) (place budget : ℕ) (ok : refusal (runRows R chip work place) ≡ 0) where
+module _ (R : Request) (chip : Chip) (work : List ℕ) (wear : Wear) (place budget limit : ℕ) (ok : refusal (runRows R chip work wear place limit) ≡ 0) where
   abbrev W : Sizes
   W = R .sizes
 
@@ -114,8 +116,8 @@ module _ (R : Request) (chip : Chip) (work : List ℕ) (place budget : ℕ) (ok 
   abbrev start : Running
   start = record { chip = chip; work = work }
 
-  T : RunTaken R chip work place
-  T = run-taken R chip work place ok
+  T : RunTaken R chip work wear place limit
+  T = run-taken R chip work wear place limit ok
 
   in-move : place + taken ≤ lastPlace W
   in-move = taken-in W place budget (T .stands .inside)
@@ -124,11 +126,11 @@ module _ (R : Request) (chip : Chip) (work : List ℕ) (place budget : ℕ) (ok 
   stands = record { lent = T .lent; stands = T .stands }
 
   -- a run of i steps, where there are as many
-  chip-at : (i : ℕ) → i ≤ taken → runAnswer R chip work place i .chip ≡ steps (plan R) i place start .chip
+  chip-at : (i : ℕ) → i ≤ taken → runAnswer R chip work wear place i limit .chip ≡ steps (plan R) i place start .chip
   unfolding runCarriedOut stepsTaken
   chip-at i h =
       let all : stepsTaken W place i ≡ i = omega (arith, in-move) in
-      ap (λ (a : RunAnswer). a .chip) (run-answer R chip work place i ok) ∙ ap (λ (x : ℕ). steps (plan R) x place start .chip) all
+      ap (λ (a : RunAnswer). a .chip) (run-answer R chip work wear place i limit ok) ∙ ap (λ (x : ℕ). steps (plan R) x place start .chip) all
 
   few-writes : count isWrite (operationsFrom W place taken) ≤ 2 * W .n * W .m
   unfolding operationsFrom
@@ -136,19 +138,19 @@ module _ (R : Request) (chip : Chip) (work : List ℕ) (place budget : ℕ) (ok 
       omega (arith, count-take isWrite taken (drop place (operations W)), count-drop isWrite place (operations W), all-writes W)
 
   abbrev tally-told : Tally
-  tally-told = runAnswer R chip work place budget .tally
+  tally-told = runAnswer R chip work wear place budget limit .tally
 
   told : tally-told ≡ tallyOf (plan R) taken place start
   unfolding runCarriedOut
-  told = ap (λ (a : RunAnswer). a .tally) (run-answer R chip work place budget ok)
+  told = ap (λ (a : RunAnswer). a .tally) (run-answer R chip work wear place budget limit ok)
 
-  bytes-told : tally-told .bytes ≡ bytesOfSteps W place taken (λ i. runAnswer R chip work place i .chip)
+  bytes-told : tally-told .bytes ≡ bytesOfSteps W place taken (λ i. runAnswer R chip work wear place i limit .chip)
   unfolding bytesOfSteps
   bytes-told =
       ap (λ (t : Tally). t .bytes) told ∙ bytes-are (plan R) (T .accepted) start place stands taken in-move
       ∙ total-same _ _ 0 taken (λ i l h. ap (bytesOfStep W (operationAt W (place + i))) (sym (chip-at (i + 1) (omega arith))))
 
-  pub run-counts : Counted R chip work place budget
+  pub run-counts : Counted R chip work wear place budget limit
   run-counts =
       let counts = tally-counts (plan R) taken place start in-move in
       let steps-are = steps-tallied (plan R) taken place start in-move in
@@ -165,14 +167,16 @@ module _ (R : Request) (chip : Chip) (work : List ℕ) (place budget : ℕ) (ok 
       }
 
 -- ---- from rest
-from-rest : (R : Request) (chip : Chip) → Start R chip → (work : List ℕ) → length work ≡ workLength (R .sizes) → (t : ℕ) → t ≤ lastPlace (R .sizes)
-    → runAnswer R chip work 0 t .tally .bytes ≡ bytesOfSteps (R .sizes) 0 t (stateOf (plan R) (originalsIn (R .sizes) chip))
+from-rest : (R : Request) (chip : Chip) → Start R chip → (work : List ℕ) → length work ≡ workLength (R .sizes)
+    → (wear : Wear) (limit : ℕ) → wearsOut (R .sizes .n) wear limit ≡ false → (t : ℕ) → t ≤ lastPlace (R .sizes)
+    → runAnswer R chip work wear 0 t limit .tally .bytes ≡ bytesOfSteps (R .sizes) 0 t (stateOf (plan R) (originalsIn (R .sizes) chip))
 unfolding bytesOfSteps stepsTaken
-from-rest R chip S work l t h =
+from-rest R chip S work l wear limit lasts t h =
     let all : stepsTaken (R .sizes) 0 t ≡ t = omega arith in
-    let ok = taken-run R chip work 0 (start-taken R chip S work l) in
-    rw all at (bytes-told R chip work 0 t ok)
-    ∙ total-same _ _ 0 t (λ i low high. ap (bytesOfStep (R .sizes) (operationAt (R .sizes) (0 + i))) (after-steps R chip S work l (i + 1) (omega arith) .2))
+    let ok = taken-run R chip work wear 0 limit (start-taken R chip S work l wear limit lasts) in
+    rw all at (bytes-told R chip work wear 0 t limit ok)
+    ∙ total-same _ _ 0 t (λ i low high.
+    ap (bytesOfStep (R .sizes) (operationAt (R .sizes) (0 + i))) (after-steps R chip S work l wear limit lasts (i + 1) (omega arith) .2))
 
 pub runs-count : RunsCount
 runs-count = record { counted = run-counts; from-rest = from-rest }

@@ -4,7 +4,7 @@
 use super::nonsense::wrong_mark;
 use super::other_splits::elsewhere;
 use super::refusals::flaws;
-use super::walk::{compare_split, random_scene, sizes};
+use super::walk::{any_record, compare_split, random_scene, sizes};
 use super::Outcome;
 use crate::harness::compare::Comparer;
 use crate::harness::player::Player;
@@ -46,6 +46,8 @@ fn play(comparer: &mut Comparer, shape: Sizes, most: usize, random: &mut Random)
     if random.one_in(2) {
         scene.sets = elsewhere(&scene, random);
     }
+    // One erase too many for the most worn block, if it has no room left.
+    scene.wear_limit -= random.one_in(6) as u32;
     let mut player = Player::new(comparer, &scene);
     let block_steps = shape.pages() + 1;
     let mut list = List {
@@ -122,7 +124,14 @@ impl List {
             return self.story.mend(player);
         };
         let budget = self.budget(random);
-        self.story.run(player, place, budget)?;
+        // Mostly a record with full counters is refused where a move begins.
+        if place > 0 && random.one_in(10) {
+            self.story.lend_record(any_record(random));
+        }
+        let numbers = self.story.run(player, place, budget)?;
+        if numbers.returned == 12 {
+            self.story.new_module();
+        }
         Ok(())
     }
 

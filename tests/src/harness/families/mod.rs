@@ -14,6 +14,7 @@ mod refusals;
 mod small_moves;
 mod torn;
 mod walk;
+mod wear;
 mod written_bytes;
 
 use super::compare::{Comparer, Difference};
@@ -39,10 +40,14 @@ const EVENTS: Family = Family {
 /// The families that look at demand 3 over whole lists.
 pub static LISTS: [Family; 2] = [EVERY_CUT, EVENTS];
 
-pub static FAMILIES: [Family; 16] = [
+pub static FAMILIES: [Family; 17] = [
     Family {
         name: "refusals, one and two at once",
         cases: refusals::cases,
+    },
+    Family {
+        name: "erase counters and their limit",
+        cases: wear::cases,
     },
     Family {
         name: "all lists of n x m up to 6",

@@ -87,6 +87,9 @@ pub fn flaws(request: &Request) -> Vec<Flaw> {
         flaws.extend(flash_flaws());
     }
     flaws.extend(number_flaws(request));
+    if call == Call::Run || call == Call::Mend {
+        flaws.extend(wear_flaws());
+    }
     flaws.extend(call.parts().iter().flat_map(|&part| length_flaws(part)));
     flaws
 }
@@ -194,6 +197,24 @@ fn flash_flaws() -> Vec<Flaw> {
         Box::new(|request| request.parts.store[0] = 254),
         Box::new(|request| request.parts.store.fill(0)),
         Box::new(|request| request.parts.store.fill(255)),
+    ]
+}
+
+/// Records and limits that refuse a run from place 0 and no other call; the
+/// last counters refuse none, but with 64 blocks.
+fn wear_flaws() -> Vec<Flaw> {
+    let full = |block: fn(&Request) -> usize| -> Flaw {
+        Box::new(move |request| {
+            let at = 4 * block(request).min(64);
+            request.parts.wear[at..at + 4].fill(255);
+        })
+    };
+    vec![
+        full(|_| 0),
+        full(|request| request.sizes.data_blocks()),
+        full(|_| 64),
+        Box::new(|request| request.parts.wear.fill(255)),
+        Box::new(|request| request.wear_limit = 0),
     ]
 }
 

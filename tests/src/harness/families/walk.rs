@@ -5,7 +5,9 @@ use crate::harness::compare::Comparer;
 use crate::random::Random;
 use crate::scene::Scene;
 use crate::simulator::request::Call;
+use crate::simulator::rules::Correct;
 use crate::simulator::sizes::Sizes;
+use crate::simulator::wear::{record, COUNTERS};
 
 pub fn sizes(n: usize, m: usize, page_bytes: usize, s: usize) -> Sizes {
     let [n, m, page_bytes, s] = [n, m, page_bytes, s].map(|number| number as u32);
@@ -21,14 +23,19 @@ pub fn sizes(n: usize, m: usize, page_bytes: usize, s: usize) -> Sizes {
 pub fn scene_with(sizes: Sizes, list: Vec<u16>, random: &mut Random) -> Scene {
     if random.one_in(4) {
         let originals = pages(sizes, random);
-        return pinned(Scene::at_rest(sizes, list, originals), random);
+        return lent(Scene::at_rest(sizes, list, originals), random);
     }
     any_bytes(sizes, list, random)
 }
 
 pub fn any_bytes(sizes: Sizes, list: Vec<u16>, random: &mut Random) -> Scene {
     let originals = random.bytes(sizes.originals() * sizes.bytes());
-    pinned(Scene::at_rest(sizes, list, originals), random)
+    lent(Scene::at_rest(sizes, list, originals), random)
+}
+
+/// What else the caller lends: pins, and a record of erases with its limit.
+fn lent(scene: Scene, random: &mut Random) -> Scene {
+    worn(pinned(scene, random), random)
 }
 
 /// Some of the pages that the list leaves where they are, or drops, get a pin.
@@ -40,6 +47,43 @@ fn pinned(mut scene: Scene, random: &mut Random) -> Scene {
         }
     }
     scene
+}
+
+/// A record of which the blocks of the store keep the limit, some of them
+/// without room: those above have any counters, also full ones.
+fn worn(mut scene: Scene, random: &mut Random) -> Scene {
+    const FAR: usize = u32::MAX as usize - 1000;
+    let widest = *random.pick(&[0, 3, 1 << 16, FAR]);
+    let mut counters: Vec<u32> = (0..COUNTERS)
+        .map(|_| random.between(0, widest) as u32)
+        .collect();
+    let used = scene.sizes.data_blocks() + 1;
+    let most = counters[..used].iter().max().copied().unwrap_or(0);
+    scene.wear_limit = match random.below(4) {
+        0 => most + 2,
+        1 => most + random.between(2, 900) as u32,
+        _ => u32::MAX,
+    };
+    for count in &mut counters[used..] {
+        if random.one_in(4) {
+            *count = u32::MAX - random.below(2) as u32;
+        }
+    }
+    scene.wear = record::<Correct>(&counters);
+    scene
+}
+
+/// Any counters, half of them near their end or at it.
+pub fn any_record(random: &mut Random) -> Vec<u8> {
+    let counters: Vec<u32> = (0..COUNTERS)
+        .map(|_| match random.below(4) {
+            0 => u32::MAX,
+            1 => u32::MAX - random.below(4) as u32,
+            2 => random.below(300) as u32,
+            _ => random.number() as u32,
+        })
+        .collect();
+    record::<Correct>(&counters)
 }
 
 /// Originals with any bytes, with 255s among them, with nothing but 255s or

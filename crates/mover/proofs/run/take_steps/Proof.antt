@@ -2,31 +2,34 @@
 use Rattle.flash.proofs.Kit.{_≡_, refl, sym, ap, ap₂, _∙_, ⊎-elim, ℕ, _+_, _-_, _≤_, _<_, arith, needs, length}
 use Rattle.flash.specs.Lists.{part}
 use Rattle.flash.specs.Chip.{Chip, pageAt}
+use Rattle.flash.specs.declared.wear.Wear.{Wear}
 use Rattle.flash.proofs.Bools.{never-both}
 use Rattle.method.specs.declared.tally.Tally.{Tally}
 use Rattle.method.specs.Move.{Plan, moveOf}
-use Rattle.method.specs.Place.{lastPlace}
-use Rattle.method.specs.Step.{Running, runningOf, steps, tallyOf}
+use Rattle.method.specs.Place.{lastPlace, filled}
+use Rattle.method.specs.Step.{Running, runningOf, steps, operationsFrom, tallyOf}
+use Rattle.method.specs.Worn.{wornBy}
 use Rattle.method.proofs.basics.AcceptedCalls.{stands-at}
 use Rattle.method.proofs.places.Tallies.{few-tallied}
 use Rattle.method.proofs.states.StepsLeadOn.{Stood}
 use Rattle.walk.specs.inner.Slots.{slotsLength}
 use Rattle.walk.specs.inner.Terms.{planBy}
 use Rattle.places.specs.inner.Place.{placeOf}
-use Rattle.places.proofs.PlaceLaws.{last-small, number-is, is-place}
+use Rattle.places.proofs.PlaceLaws.{last-small, number-is, is-place, page-is}
+use Rattle.places.proofs.StepTold.{bounds-erase}
 use Rattle.mover.specs.inner.Steps.{OtherTable, lastSlot}
-use Rattle.mover.proofs.RunLaws.{none-taken, none-counted, one-taken, one-counted, counts-fit, carried, goes-on, work-left}
+use Rattle.mover.proofs.RunLaws.{none-taken, none-counted, none-worn, one-taken, one-counted, counts-fit, erase-worn, write-worn, carried, goes-on, work-left}
 use Rattle.mover.proofs.run.take_steps.Statement.{statement}
 use Rattle.mover.proofs.run.take_steps.Tie as tie
 
 abbrev Inv-loop : tie.InvT-loop
-Inv-loop sizes list sets store₀ marks₀ work place budget few pages other₀ drops places tally₀ slots₀ last taken reciprocal at₀ held₀ i₀ store marks other tally slots at held i =
+Inv-loop sizes list sets store₀ marks₀ work place budget few pages other₀ drops places wear₀ tally₀ slots₀ last taken reciprocal at₀ held₀ i₀ store marks other wear tally slots at held i =
     _≡_ {A = Chip} (record { store = store; marks = marks }) (steps (planBy sizes list sets drops) i place (runningOf store₀ marks₀ work) .chip)
     × (tally ≡ tallyOf (planBy sizes list sets drops) i place (runningOf store₀ marks₀ work)) × (at ≡ placeOf sizes (place + i)) × (i ≤ taken) × OtherTable (moveOf sizes list sets) held other
-    × (length slots ≡ slotsLength)
+    × (length slots ≡ slotsLength) × (wear ≡ wornBy (operationsFrom sizes place i) wear₀)
 
 abbrev μ-loop : tie.MeasureT-loop
-μ-loop sizes list sets store₀ marks₀ work place budget few pages other₀ drops places tally₀ slots₀ last taken reciprocal at₀ held₀ i₀ store marks other tally slots at held i = taken - i
+μ-loop sizes list sets store₀ marks₀ work place budget few pages other₀ drops places wear₀ tally₀ slots₀ last taken reciprocal at₀ held₀ i₀ store marks other wear tally slots at held i = taken - i
 
 abbrev planned : tie.Start Inv-loop μ-loop → Plan
 planned c = planBy (c .args .sizes) (c .args .list .now) (c .args .sets .now) (c .args .drops .now)
@@ -70,6 +73,7 @@ loop-holds c =
       omega arith,
       record { sources-tell = λ e. absurd (never-both refl e); sets-tell = λ e. start .pre .3 },
       refl,
+      none-worn _ _ _,
     )
 
 -- where the loop stands
@@ -112,21 +116,52 @@ step-requires c κs =
       (loop .before .before .reciprocal .ensures, is-place _ _ _ (l .inv .2), rw at (S .stands .marks), l .inv .5, lent .store-length, lent .marks-length, few),
     )
 
+-- where the turn began whose step is taken
+abbrev turn : tie.Joined1 Inv-loop μ-loop → tie.In-loop Inv-loop μ-loop
+turn c = c .before .before .before .before .before .before .before .before .before .before .before .before .before .before .before .before
+
+freed-requires : tie.Need-freed-requires Inv-loop μ-loop
+freed-requires c κs =
+    let inner = c .before .before .before .before .before .before .before .before .before .before .before .before .before .before .before .before in
+    let l = inner .before .loop in
+    (is-place _ _ _ (l .inv .2), rw (number-is _ _ _ (l .inv .2)) (inside inner .0), c .if1 .taken)
+
+-- the block of an erase has a counter
+rise-requires : tie.Need-rise-requires Inv-loop μ-loop
+rise-requires c κs =
+    let inner = c .before .before .before .before .before .before .before .before .before .before .before .before .before .before .before .before .before in
+    let a = start (inner .before) in
+    omega (arith, bounds-erase (a .args .sizes) _ _ (c .freed .ensures), a .pre .0 .ranges .n-high)
+
 next-requires : tie.Need-next-requires Inv-loop μ-loop
 next-requires c κs =
-    let inner = c .before .before .before .before .before .before .before .before .before .before .before .before .before in
+    let inner = turn c in
     let l = inner .before .loop in
     (start (inner .before) .pre .0 .ranges, is-place _ _ _ (l .inv .2), rw (number-is _ _ _ (l .inv .2)) (inside inner .0))
 
 add-i : tie.Need-add-i Inv-loop μ-loop
-add-i c = omega (arith, inside (c .before .before .before .before .before .before .before .before .before .before .before .before .before .before))
+add-i c = omega (arith, inside (turn (c .before)))
+
+-- the counters after the step
+worn-is : (c : tie.Joined1 Inv-loop μ-loop) (wear : Wear) → (let l = turn c .before in let a = start l .args in
+    l .loop .wear ≡ wornBy (operationsFrom (a .sizes) (a .place) (l .loop .i)) wear
+    → c .if1 .wear ≡ wornBy (operationsFrom (a .sizes) (a .place) (l .loop .i + 1)) wear)
+worn-is c wear e =
+    let inner = turn c in
+    let l = inner .before .loop in
+    let a = start (inner .before) .args in
+    let at = number-is _ _ _ (l .inv .2) in
+    ⊎-elim
+    (λ w. w .3 ∙ erase-worn (a .sizes) (a .place) (l .i) (inside inner .0) (w .1 .result) _ wear _ (rw at at (w .1 .ensures)) e (w .2 .ensures))
+    (λ w. w .1 ∙ write-worn (a .sizes) (a .place) (l .i) (inside inner .0) (λ full. w .0 .left (page-is _ _ (is-place _ _ _ (l .inv .2)) ∙ ap (filled (a .sizes)) at ∙ full)) _ wear e)
+    (c .if1 .came)
 
 loop-less : tie.Need-loop-less Inv-loop μ-loop
 loop-less c = search needs
 
 loop-again : tie.Need-loop-again Inv-loop μ-loop
 loop-again c =
-    let step = c .before .before .before .before .before in
+    let step = c .before .before .before .before .before .before .before .before in
     let inner = step .before .before .before .before .before .before .before .before .before in
     let s = start (inner .before) in
     let l = inner .before .loop in
@@ -139,6 +174,7 @@ loop-again c =
       omega arith,
       step .before .before .before .before .before .before .fill-other .ensures,
       step .step .ensures .1,
+      worn-is (c .before) _ (l .inv .6),
     )
 
 -- where it ends: the place reached is in the move
@@ -150,7 +186,7 @@ sub-keep-last-page c =
     let l = c .before .before .before .before in
     let s = start l in
     let few = few-tallied (planned s) (l .loop .i) (s .args .place) (from s) (omega (arith, placed (l .before .before .before))) in
-    omega (arith, ap (λ (t : Tally). t .writes) (l .loop .inv .1), c .before .if1 .taken)
+    omega (arith, ap (λ (t : Tally). t .writes) (l .loop .inv .1), c .before .if2 .taken)
 
 keep-last-page-requires : tie.Need-keep-last-page-requires Inv-loop μ-loop
 keep-last-page-requires c κs =
@@ -159,8 +195,8 @@ keep-last-page-requires c κs =
     (s .pre .0 .ranges, omega (arith, placed (l .before .before .before)), standing l .lent .store-length, s .pre .1 .work-length)
 
 -- the work page that is left
-work-is : (c : tie.Joined1 Inv-loop μ-loop) → (let l = c .before .before .before in let s = start l in
-    c .if1 .work ≡ steps (planned s) (l .loop .i) (s .args .place) (from s) .work)
+work-is : (c : tie.Joined2 Inv-loop μ-loop) → (let l = c .before .before .before in let s = start l in
+    c .if2 .work ≡ steps (planned s) (l .loop .i) (s .args .place) (from s) .work)
 unfolding pageAt
 work-is c =
     let l = c .before .before .before in
@@ -176,7 +212,7 @@ work-is c =
     ⊎-elim
     (λ t. t .6 ∙ t .3 .ensures ∙ there ∙ sym (L .new (omega (arith, t .0 .taken))))
     (λ t. t .1 ∙ sym (L .old (omega (arith, t .0 .left))))
-    (c .if1 .came)
+    (c .if2 .came)
 
 cast-finished : tie.Need-cast-finished Inv-loop μ-loop
 cast-finished c = search needs
@@ -199,10 +235,10 @@ returns c =
     let smaller = l .before .before .before in
     let all : l .loop .i ≡ smaller .smaller .result = omega arith in
     let s = start l in
-    let work : c .if1 .work ≡ steps (planned s) (smaller .smaller .result) (s .args .place) (from s) .work =
+    let work : c .if2 .work ≡ steps (planned s) (smaller .smaller .result) (s .args .place) (from s) .work =
     work-is c ∙ ap (λ (i : ℕ). steps (planned s) i (s .args .place) (from s) .work) all in
-    carried _ _ _ _ _ _ _ _ _ _ _ _ (smaller .before .last-place .ensures) (smaller .smaller .ensures)
-    (rw all at (l .loop .inv .0)) work (rw all at (l .loop .inv .1))
+    carried _ _ _ _ _ _ _ _ _ _ _ _ _ _ (smaller .before .last-place .ensures) (smaller .smaller .ensures)
+    (rw all at (l .loop .inv .0)) work (rw all at (l .loop .inv .1)) (rw all at (l .loop .inv .6))
 
 pub take-steps-spec : {M : Type 1} → statement M
 take-steps-spec =
@@ -219,6 +255,8 @@ take-steps-spec =
     loop-holds
     fill-other-requires
     step-requires
+    freed-requires
+    rise-requires
     next-requires
     add-i
     loop-less

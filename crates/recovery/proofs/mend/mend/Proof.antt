@@ -19,7 +19,7 @@ in-range-requires : tie.Need-in-range-requires
 in-range-requires c κs = search needs
 
 returns : tie.Need-returns
-returns c = sym (refused-1 _ _ (sym (c .before .in-range .ensures) ∙ not-true _ (c .if1 .taken)))
+returns c = sym (refused-1 _ _ _ (sym (c .before .in-range .ensures) ∙ not-true _ (c .if1 .taken)))
 
 -- the sizes are in range
 in-ranges : (c : tie.Else1) → inRange (c .before .before .before .before .args .sizes) ≡ true
@@ -37,7 +37,7 @@ unfolding badChip
 lengths c = rw (c .before .store-length .ensures, c .slot-count .ensures)
 
 returns-2 : tie.Need-returns-2
-returns-2 c = sym (refused-2 _ _ (in-ranges (c .before .before .before)) (sym (lengths (c .before)) ∙ c .if2 .taken))
+returns-2 c = sym (refused-2 _ _ _ (in-ranges (c .before .before .before)) (sym (lengths (c .before)) ∙ c .if2 .taken))
 
 -- the lengths are right
 good : (c : tie.Else2) → (let a = c .before .before .before .before .before .before .before .args in badChip (a .sizes) (chip (a .store .now) (a .marks .now))) ≡ false
@@ -98,6 +98,12 @@ place-in-turn-requires-2 c κs =
     let B = in-range _ (in-ranges (t .before .before .before .before .before .before .before)) in
     (B .n-high, B .m-high, inside t, omega arith)
 
+rise-requires : tie.Need-rise-requires
+rise-requires c κs =
+    let t = c .before .before .before .before .before .before .before .before .before in
+    let B = in-range _ (in-ranges (t .before .before .before .before .before .before .before)) in
+    omega (arith, inside t, B .n-high)
+
 same-length : tie.Need-same-length
 same-length c = search needs
 
@@ -106,7 +112,7 @@ unfolding answerOf
 returns-3 c =
     let r = c .before .before in
     let k = r .before .before in
-    sym (refused-6 _ _ (in-ranges (k .before .before .before)) (good k) (sym (told r) ∙ ap (readingOf _) (c .enum-told .given .1)))
+    sym (refused-6 _ _ _ (in-ranges (k .before .before .before)) (good k) (sym (told r) ∙ ap (readingOf _) (c .enum-told .given .1)))
 
 same-length-2 : tie.Need-same-length-2
 same-length-2 c = search needs
@@ -120,7 +126,7 @@ returns-4 c =
     let filled : c .before .if3 .filled ≡ cond (t .backward .given .0 .0) change (change - 1) =
     ⊎-elim (λ w. rw (w .1, w .0 .taken)) (λ w. rw (w .1, w .0 .left)) (c .before .if3 .came) in
     rw (c .place-in-turn .ensures, filled)
-    (sym (mended-full _ _ (in-ranges (k .before .before .before)) (good k) _ (sym (told (t .before .before)) ∙ ap (readingOf _) (t .backward .given .1))))
+    (sym (mended-full _ _ _ (in-ranges (k .before .before .before)) (good k) _ (sym (told (t .before .before)) ∙ ap (readingOf _) (t .backward .given .1))))
 
 same-length-3 : tie.Need-same-length-3
 same-length-3 c = search needs
@@ -131,11 +137,12 @@ same-length-4 c = search needs
 returns-5 : tie.Need-returns-5
 unfolding answerOf
 returns-5 c =
-    let e = c .before .before .before .before .before in
+    let w = c .before in
+    let e = w .before .before .before .before .before in
     let t = e .before .before .before .before in
     let k = t .before .before .before .before in
-    rw (e .erase-block .ensures, c .place-in-turn2 .ensures)
-    (sym (mended-torn _ _ (in-ranges (k .before .before .before)) (good k) _ _ (sym (told (t .before .before)) ∙ ap (readingOf _) (t .backward2 .given .1))))
+    rw (e .erase-block .ensures, w .place-in-turn2 .ensures, c .rise .ensures)
+    (sym (mended-torn _ _ _ (in-ranges (k .before .before .before)) (good k) _ _ (sym (told (t .before .before)) ∙ ap (readingOf _) (t .backward2 .given .1))))
 
 pub mend-spec : {M : Type 1} → statement M
 mend-spec =
@@ -154,6 +161,7 @@ mend-spec =
     enum-known-backward-2
     erase-block-requires
     place-in-turn-requires-2
+    rise-requires
     same-length
     returns-3
     same-length-2

@@ -1,10 +1,10 @@
 -- `Place::operation` meets its contract: what the place holds tells the step.
-use Rattle.flash.proofs.Kit.{_≡_, sym, ap, _∙_, ⊎-elim, _<_, add-one, arith, eqb-true}
+use Rattle.flash.proofs.Kit.{_≡_, sym, ap, _∙_, ⊎-elim, _<_, arith, eqb-true}
 use Rattle.flash.proofs.Bools.{both}
 use Rattle.method.specs.Place.{markOf, lastPlace}
 use Rattle.places.specs.declared.place.Op.the-variants.{Write}
-use Rattle.places.specs.inner.Place.{passOf}
-use Rattle.places.proofs.PlaceLaws.{low, high, all-done, goes-on, writes, erases}
+use Rattle.places.specs.inner.Place.{passOf, opOf}
+use Rattle.places.proofs.PlaceLaws.{all-done, goes-on, writes, page-full}
 use Rattle.places.proofs.place.Place.operation.Statement.{statement}
 use Rattle.places.proofs.place.Place.operation.Tie as tie
 
@@ -34,23 +34,14 @@ returns-2 c =
     ap (Write (self .backward) (self .block) (self .page)) (mark c)
     ∙ sym (writes (start .args .sizes) self (start .pre .1) (on e) (c .before .before .if2 .taken))
 
-sub-freed : tie.Need-sub-freed
-sub-freed c = let e = c .before .before .before in let start = e .before in low (start .args .sizes) (start .args .self) (start .pre .1) (on e) (c .if4 .taken)
-
-add-freed : tie.Need-add-freed
-add-freed c = let start = c .before .before .before .before in omega (arith, high (start .args .sizes) (start .args .self) (start .pre .1) (c .if4 .left))
+freed-requires : tie.Need-freed-requires
+freed-requires c κs =
+    let e = c .before .before in
+    let start = e .before in
+    (start .pre .1, on e, page-full (start .args .sizes) (start .args .self) (start .pre .1) (c .if2 .left))
 
 returns-3 : tie.Need-returns-3
-returns-3 c =
-    let e = c .before .before .before in
-    let start = e .before in
-    sym (erases (start .args .sizes) (start .args .self) (start .pre .1) (on e) (c .before .if2 .left) ∙ rw (c .if4 .taken))
-
-returns-4 : tie.Need-returns-4
-returns-4 c =
-    let e = c .before .before .before in
-    let start = e .before in
-    sym (erases (start .args .sizes) (start .args .self) (start .pre .1) (on e) (c .before .if2 .left) ∙ rw (c .if4 .left, ← add-one (start .args .self .block)))
+returns-3 c = (let start = c .before .before .before .before in sym (ap (opOf (start .args .sizes)) (c .freed .ensures)))
 
 pub operation-spec : {M : Type 1} → statement M
-operation-spec = tie.close (tie.spec returns letter-after-requires returns-2 sub-freed add-freed returns-3 returns-4)
+operation-spec = tie.close (tie.spec returns letter-after-requires returns-2 freed-requires returns-3)
