@@ -66,9 +66,9 @@ noted-counters block count wear = ⊎-elim
     (λ (e : replaces (wear .highest) (wear .block) count block ≡ false). ap (λ (w : Wear). w .counters) (noted-old block count wear e))
     (bool-cases (replaces (wear .highest) (wear .block) count block))
 
-pub risen-counters : (block : ℕ) (wear : Wear) → risen block wear .counters ≡ set (wear .counters) block (raised (counterAt wear block))
+pub risen-set : (block : ℕ) (wear : Wear) → risen block wear .counters ≡ set (wear .counters) block (raised (counterAt wear block))
 unfolding risen
-risen-counters block wear = noted-counters block _ _
+risen-set block wear = noted-counters block _ _
 
 noted-up-counters : (blocks : ℕ) (wear : Wear) → notedUpTo blocks wear .counters ≡ wear .counters
 unfolding notedUpTo

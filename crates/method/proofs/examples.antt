@@ -3,5 +3,6 @@ pub mod ExampleCuts
 pub mod Largest
 pub mod Cases
 pub mod DropCases
+pub mod WearCases
 pub mod Example
 pub mod TwoPages

@@ -146,7 +146,7 @@ three = small 3 (1 ∷ 2 ∷ 0 ∷ [])
 abbrev pub threeAtRest : Chip
 threeAtRest = chip (255 ∷ 1 ∷ 2 ∷ 4 ∷ []) (255 ∷ 0 ∷ 0 ∷ 0 ∷ [])
 
-abbrev threeFinished : Chip
+abbrev pub threeFinished : Chip
 threeFinished = chip (255 ∷ 4 ∷ 1 ∷ 2 ∷ []) (255 ∷ 2 ∷ 2 ∷ 2 ∷ [])
 
 -- before step 3, and cut inside it: the erase of block 2

@@ -27,12 +27,15 @@ use Rattle.method.specs.Answers.{order, runRows, mendRows, readRows}
 use Rattle.method.specs.Runs.{RunsAddUp, StatesReached}
 use Rattle.method.specs.Counts.{RunsCount}
 use Rattle.method.specs.Demand3.{Demand3}
+use Rattle.method.specs.WearCounts.{WearCounts}
+use Rattle.method.specs.HighestCounter.{HighestCounter}
 use Rattle.method.specs.PinsStay.{PinsStay}
 use Rattle.method.specs.NoDrops.{NoDrops}
 use Rattle.method.specs.Example.{ExampleHolds, BoundsMet}
 use Rattle.method.specs.TwoPages.{TwoPagesHold}
 use Rattle.method.specs.Cases.{CasesHold}
 use Rattle.method.specs.DropCases.{DropCasesHold}
+use Rattle.method.specs.WearCases.{WearCasesHold}
 
 -- rule 4.3: there are as many steps as the last place says
 unfoldable pub StepsCounted : Type 0
@@ -142,6 +145,7 @@ pub record FirstReturned : Type 0 where
 pub record Claims : Type 0 where
   pub cases : (byte : ℕ) → CasesHold byte
   pub drop-cases : DropCasesHold
+  pub wear-cases : WearCasesHold
   pub runs : RunsAddUp
   pub states : StatesReached
   pub counts : RunsCount
@@ -157,6 +161,8 @@ pub record Claims : Type 0 where
   pub erases-next : ErasesNext
   pub first : FirstReturned
   pub demand-3 : Demand3
+  pub wear : WearCounts
+  pub highest : HighestCounter
   pub pins : PinsStay
   pub no-drops : NoDrops
   pub bounds : BoundsMet

@@ -18,6 +18,7 @@ pub mod PinsStay
 pub mod NoDrops
 pub mod Cases
 pub mod DropCases
+pub mod WearCases
 pub mod HighestCounter
 pub mod Example
 pub mod TwoPages

@@ -14,7 +14,7 @@ use Rattle.flash.specs.declared.wear.Wear.{Wear}
 use Rattle.flash.specs.Wear.{counterEnd, counterCount, counterAt}
 use Rattle.split.specs.Request.{Request}
 use Rattle.method.specs.Place.{operations}
-use Rattle.method.specs.Step.{isErase, erasesBlock}
+use Rattle.method.specs.Step.{erasesBlock}
 use Rattle.method.specs.Worn.{erasesOf, wearsOut}
 use Rattle.method.specs.Answers.{runRows, runAnswer}
 use Rattle.method.specs.Events.{Call, Event, History, numberOf, stepsOf, after, wearGiven, wearReturned, erasesReturned, wearAfter, wearAtEnd}
@@ -23,7 +23,7 @@ use Rattle.method.specs.Events.{erasesReported, operationsReported}
 -- a record as it can be given: 65 counters of 32 bits
 pub record Counters (wear : Wear) : Type 0 where
   pub length-is : length (wear .counters) ≡ counterCount
-  pub within : (b : ℕ) → counterAt wear b ≤ counterEnd
+  pub within : (b : ℕ) → b < counterCount → counterAt wear b ≤ counterEnd
 
 -- no counter has come to its end
 abbrev pub NoneEnded : Wear → Type 0

@@ -1,5 +1,5 @@
 -- Demand 3: every list of events keeps what is kept, so the claim holds at each of its moments.
-use Rattle.flash.proofs.Kit.{_≡_, refl, sym, ap, subst, ⊎-elim, _≢_, Bool, true, false, cond, true≢false, List, [], _∷_, _++_, map, Option}
+use Rattle.flash.proofs.Kit.{_≡_, refl, sym, ap, _∙_, subst, ⊎-elim, _≢_, Bool, true, false, cond, true≢false, List, [], _∷_, _++_, map, Option}
 use Rattle.flash.proofs.Kit.{none as nothing, some, ℕ, zero, suc, _+_, _*_, _≤_, _<_, zero-mod, arith, eqb, length, eqb-false, ne-eqb}
 use Rattle.flash.specs.Lists.{range, count}
 use Rattle.flash.specs.Tables.{refusal}
@@ -17,7 +17,7 @@ use Rattle.method.specs.Step.{operationsFrom}
 use Rattle.method.specs.State.{originalsIn}
 use Rattle.method.specs.Mend.{Reading, reading}
 use Rattle.method.specs.Read.{termPage, storedSlots, readTerms, readPage}
-use Rattle.method.specs.Answers.{RunAnswer, runRows, runCarriedOut, stepsTaken, runRefused, runAnswer, mendRows, mended, mendAnswer, readRows, readGives, readAnswer}
+use Rattle.method.specs.Answers.{RunAnswer, runRows, runCarriedOut, stepsTaken, runRefused, runAnswer, mendRows, MendAnswer, mended, mendAnswer, readRows, readGives, readAnswer}
 use Rattle.method.specs.Runs.{Start}
 use Rattle.method.specs.Events.{Call, run, mend, read, CutPoint, Event, History, numberOf, mendSteps, stepsOf, chipAfter, chipReturned, returnsFinished, starting, during, after, stepsFinished, moments}
 use Rattle.method.specs.Demand3.{CutObeys, Allowed, AllAllowed, Keeps, AtEach, Demand3}
@@ -31,7 +31,7 @@ use Rattle.method.proofs.demand.RunEvents.{run-number, run-kept}
 use Rattle.method.proofs.demand.MendEvents.{mend-kept}
 
 -- ---- refused calls leave all as it was
-run-refused : (R : Request) (chip : Chip) (work : List ℕ) (wear : Wear) (place budget limit : ℕ) → refusal (runRows R chip work wear place limit) ≢ 0
+pub run-refused : (R : Request) (chip : Chip) (work : List ℕ) (wear : Wear) (place budget limit : ℕ) → refusal (runRows R chip work wear place limit) ≢ 0
     → runAnswer R chip work wear place budget limit ≡ runRefused (refusal (runRows R chip work wear place limit)) chip work wear
 unfolding runAnswer
 run-refused R chip work wear place budget limit ne = rw (ne-eqb (refusal (runRows R chip work wear place limit)) 0 ne)
@@ -44,7 +44,8 @@ mended-number Z chip wear found = go (found .toErase)
     go nothing = refl
     go (some b) = refl
 
-mend-refused : (Z : Sizes) (chip : Chip) (wear : Wear) → mendAnswer Z chip wear .number ≢ 0 → mendAnswer Z chip wear .chip ≡ chip
+pub mend-refused : (Z : Sizes) (chip : Chip) (wear : Wear) → mendAnswer Z chip wear .number ≢ 0
+    → mendAnswer Z chip wear ≡ record { number = refusal (mendRows Z chip); place = 0; erases = 0; chip = chip; wear = wear }
 unfolding mendAnswer
 mend-refused Z chip wear ne = ⊎-elim
     (λ (q : eqb number 0 ≡ true). go q (reading Z (chip .marks)) refl)
@@ -54,7 +55,8 @@ mend-refused Z chip wear ne = ⊎-elim
     number : ℕ
     number = refusal (mendRows Z chip)
 
-    go : eqb number 0 ≡ true → (found : Option Reading) → reading Z (chip .marks) ≡ found → mendAnswer Z chip wear .chip ≡ chip
+    go : eqb number 0 ≡ true → (found : Option Reading) → reading Z (chip .marks) ≡ found
+        → mendAnswer Z chip wear ≡ record { number = number; place = 0; erases = 0; chip = chip; wear = wear }
     go q nothing e = rw (q, e)
     go q (some found) e = absurd (ne (rw (q, e) (mended-number Z chip wear found)))
 
@@ -88,7 +90,8 @@ module _ (R : Request) (chip₀ : Chip) (S : Start R chip₀) where
     mend-idle : (Z : Sizes) (wear : Wear) → numberOf (mend Z wear) (h .chip) ≢ 0 → EventsKept (mend Z wear)
     unfolding numberOf stepsOf chipAfter chipReturned returnsFinished
     mend-idle Z wear ne =
-        idle X originals h K (mend Z wear) (ap (λ (b : Bool). cond b (mendSteps (reading Z (h .chip .marks))) []) (ne-eqb (mendAnswer Z (h .chip) wear .number) 0 ne)) refl (mend-refused Z (h .chip) wear ne) refl
+        idle X originals h K (mend Z wear) (ap (λ (b : Bool). cond b (mendSteps (reading Z (h .chip .marks))) []) (ne-eqb (mendAnswer Z (h .chip) wear .number) 0 ne)) refl
+        (ap (λ (a : MendAnswer). a .chip) (mend-refused Z (h .chip) wear ne)) refl
 
     read-idle : (N : Request) (work : List ℕ) (k : ℕ) → EventsKept (read N work k)
     unfolding stepsOf chipAfter chipReturned returnsFinished
@@ -100,7 +103,7 @@ module _ (R : Request) (chip₀ : Chip) (S : Start R chip₀) where
     run-shared N e work wear place budget limit ok mended cut obeys =
         let full = subst (λ (X : Plan). length originals ≡ originalCount (X .move .sizes) * X .move .sizes .p) (sym e) (start-full R chip₀ S) in
         let kept = subst (λ (X : Plan). Kept X originals h) (sym e) K in
-        let number = run-number N (h .chip) work wear place budget limit ok in
+        let number = sym (run-number N (h .chip) work wear place budget limit) ∙ ok in
         subst (λ (X : Plan). EventKept X originals h (run N work wear place budget limit) cut) e
         (run-kept N (subst (λ (X : Plan). AcceptedMove (X .move)) (sym e) A) originals full h kept work wear place budget limit number mended cut obeys)
 

@@ -37,12 +37,16 @@ use Rattle.method.proofs.demand.KeptByHistories.{Bounded, within, once-
 use Rattle.method.proofs.demand.CallsWithoutSteps.{EventKept}
 
 -- the number that run returns is that of its table
-pub run-number : (R : Request) (chip : Chip) (work : List ℕ) (wear : Wear) (place budget limit : ℕ) → runAnswer R chip work wear place budget limit .number ≡ 0 → refusal (runRows R chip work wear place limit) ≡ 0
-unfolding runAnswer runRefused
-run-number R chip work wear place budget limit e = ⊎-elim
-    (λ (q : eqb (refusal (runRows R chip work wear place limit)) 0 ≡ true). eqb-true _ 0 q)
-    (λ (q : eqb (refusal (runRows R chip work wear place limit)) 0 ≡ false). rw q at e)
-    (bool-cases (eqb (refusal (runRows R chip work wear place limit)) 0))
+pub run-number : (R : Request) (chip : Chip) (work : List ℕ) (wear : Wear) (place budget limit : ℕ)
+    → runAnswer R chip work wear place budget limit .number ≡ refusal (runRows R chip work wear place limit)
+unfolding runAnswer runCarriedOut runRefused
+run-number R chip work wear place budget limit = ⊎-elim
+    (λ (q : eqb number 0 ≡ true). rw q (sym (eqb-true number 0 q)))
+    (λ (q : eqb number 0 ≡ false). rw q)
+    (bool-cases (eqb number 0))
+  where
+    number : ℕ
+    number = refusal (runRows R chip work wear place limit)
 
 module _ (R : Request) (A : AcceptedMove (move R)) (originals : List ℕ) (full : length originals ≡ originalCount (R .sizes) * R .sizes .p)
     (h : History) (K : Kept (plan R) originals h) (work : List ℕ) (wear : Wear) (place budget limit : ℕ)
