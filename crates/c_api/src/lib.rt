@@ -7,3 +7,4 @@ pub mod read;
 pub mod run;
 mod sizes;
 pub mod split_call;
+mod wear;

@@ -227,7 +227,7 @@ fn carry_out(
     )
 }
 
-fn refused(number: u32, wear: Wear) -> RunResult
+pub fn refused(number: u32, wear: Wear) -> RunResult
     ensures { λ r. ⌜ r ≡ record { number = number; place = 0; tally = nothingDone; finished = 0; wear = wear } ⌝ }
 {
     RunResult {

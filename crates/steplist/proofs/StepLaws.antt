@@ -1,6 +1,7 @@
 -- One step more: what it leaves, counts and prints.
 use Rattle.flash.proofs.Kit.{_≡_, ap, _∙_, List, ℕ, _≤_, _<_, arith, length}
 use Rattle.flash.specs.Lists.{count}
+use Rattle.flash.specs.Wear.{counterEnd, unworn}
 use Rattle.split.specs.Request.{Request}
 use Rattle.method.specs.Move.{Plan, plan}
 use Rattle.method.specs.Place.{operationAt, lastPlace}
@@ -27,12 +28,12 @@ module _ (R : Request) (run : Running) (place : ℕ) (L : Listable R run place) 
   unfolding stepsTaken
   one-left = omega arith
 
-  pub one-step : (ran : RunResult) (store marks work : List ℕ) → ranAs ran store marks work ≡ runAnswer R (run .chip) (run .work) place 1 → OneStep (plan R) run place ran store marks work
+  pub one-step : (ran : RunResult) (store marks work : List ℕ) → ranAs ran store marks work ≡ runAnswer R (run .chip) (run .work) unworn place 1 counterEnd → OneStep (plan R) run place ran store marks work
   unfolding runCarriedOut steps
   one-step ran store marks work A =
-      let e = run-answer R (run .chip) (run .work) place 1 (L .taken) ∙ ap (runCarriedOut (plan R) (run .chip) (run .work) place) one-left in
+      let e = run-answer R (run .chip) (run .work) unworn place 1 counterEnd (L .taken) ∙ ap (runCarriedOut (plan R) (run .chip) (run .work) unworn place) one-left in
       let B = A ∙ e in
-      let after = still-taken R (run .chip) (run .work) place 1 (omega arith) (run-taken R (run .chip) (run .work) place (L .taken)) in
+      let after = still-taken R (run .chip) (run .work) unworn place 1 counterEnd (omega arith) (run-taken R (run .chip) (run .work) unworn place counterEnd (L .taken)) in
       let size : length work ≡ R .sizes .p = ap (λ (a : RunAnswer). length (a .work)) B ∙ after .lent .work-length in
       let counts = tally-counts (plan R) 1 place run (omega arith) in
       record {

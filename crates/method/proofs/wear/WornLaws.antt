@@ -1,10 +1,17 @@
 -- The counters after operations: of two lists, step by step, and number 12 once the move is under way.
-use Rattle.flash.proofs.Kit.{_≡_, refl, ap, _∙_, false, List, [], _∷_, _++_, ℕ, _+_, _≤_, _<_, arith, ne-eqb}
+use Rattle.flash.proofs.Kit.{_≡_, refl, ap, _∙_, ⊎-elim, true, false, List, [], _∷_, _++_, Option, none, some, ℕ, _+_, _≤_, _<_, arith, eqb, length, length-set, ne-eqb}
+use Rattle.flash.specs.Tables.{refusal}
+use Rattle.flash.specs.Chip.{Chip}
+use Rattle.flash.specs.Wear.{risen}
+use Rattle.flash.proofs.Bools.{bool-cases}
+use Rattle.split.specs.Request.{Request}
 use Rattle.flash.specs.declared.sizes.Sizes.{Sizes}
 use Rattle.flash.specs.declared.wear.Wear.{Wear}
-use Rattle.method.specs.Place.{Operation, operationAt, lastPlace}
+use Rattle.method.specs.Place.{Operation, write, erase, done, operationAt, lastPlace}
 use Rattle.method.specs.Step.{operationsFrom}
 use Rattle.method.specs.Worn.{wornOnce, wornBy, isWornOut}
+use Rattle.method.specs.Mend.{Reading, reading}
+use Rattle.method.specs.Answers.{runRows, runCarriedOut, runRefused, runAnswer, stepsTaken, mendRows, mended, mendAnswer}
 use Rattle.method.proofs.places.Tallies.{operationsFrom-split, operationsFrom-suc}
 
 pub worn-append : (first second : List Operation) (wear : Wear) → wornBy (first ++ second) wear ≡ wornBy second (wornBy first wear)
@@ -30,3 +37,42 @@ module _ (Z : Sizes) (place : ℕ) where
 pub under-way : (n : ℕ) (wear : Wear) (place limit : ℕ) → 1 ≤ place → isWornOut n wear place limit ≡ false
 unfolding isWornOut
 under-way n wear place limit h = rw (ne-eqb place 0 (λ e. omega arith))
+
+-- ---- the record keeps its length
+worn-once-length : (operation : Operation) (wear : Wear) → length (wornOnce operation wear .counters) ≡ length (wear .counters)
+unfolding wornOnce risen
+worn-once-length (write pass block page) wear = refl
+worn-once-length (erase block) wear = length-set (wear .counters) block _
+worn-once-length done wear = refl
+
+pub worn-length : (operations : List Operation) (wear : Wear) → length (wornBy operations wear .counters) ≡ length (wear .counters)
+unfolding wornBy
+worn-length [] wear = refl
+worn-length (operation ∷ operations) wear = worn-length operations (wornOnce operation wear) ∙ worn-once-length operation wear
+
+pub run-wear-length : (R : Request) (chip : Chip) (work : List ℕ) (wear : Wear) (place budget limit : ℕ)
+    → length (runAnswer R chip work wear place budget limit .wear .counters) ≡ length (wear .counters)
+unfolding runAnswer runCarriedOut runRefused
+run-wear-length R chip work wear place budget limit = ⊎-elim
+    (λ (e : eqb (refusal (runRows R chip work wear place limit)) 0 ≡ true).
+    rw e (worn-length (operationsFrom (R .sizes) place (stepsTaken (R .sizes) place budget)) wear))
+    (λ (e : eqb (refusal (runRows R chip work wear place limit)) 0 ≡ false). rw e refl)
+    (bool-cases (eqb (refusal (runRows R chip work wear place limit)) 0))
+
+pub mend-wear-length : (Z : Sizes) (chip : Chip) (wear : Wear) → length (mendAnswer Z chip wear .wear .counters) ≡ length (wear .counters)
+unfolding mendAnswer mended risen
+mend-wear-length Z chip wear = ⊎-elim
+    (λ (q : eqb number 0 ≡ true). go q (reading Z (chip .marks)) refl)
+    (λ (q : eqb number 0 ≡ false). rw q refl)
+    (bool-cases (eqb number 0))
+  where
+    number : ℕ
+    number = refusal (mendRows Z chip)
+
+    found-length : (place : ℕ) (toErase : Option ℕ) → length (mended Z chip wear (record { place = place; toErase = toErase }) .wear .counters) ≡ length (wear .counters)
+    found-length place none = refl
+    found-length place (some b) = length-set (wear .counters) b _
+
+    go : eqb number 0 ≡ true → (found : Option Reading) → reading Z (chip .marks) ≡ found → length (mendAnswer Z chip wear .wear .counters) ≡ length (wear .counters)
+    go q none e = rw (q, e)
+    go q (some found) e = rw (q, e) (found-length (found .place) (found .toErase))

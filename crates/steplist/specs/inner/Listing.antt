@@ -5,6 +5,7 @@ use Prim.Native.Nat.{ℕ, _≤_}
 use lib.ListN.{length}
 use Rattle.flash.specs.Lists.{count}
 use Rattle.flash.specs.Tables.{refusal}
+use Rattle.flash.specs.Wear.{counterEnd, unworn}
 use Rattle.split.specs.Request.{Request}
 use Rattle.method.specs.Move.{Plan}
 use Rattle.method.specs.Place.{operationAt, lastPlace}
@@ -23,7 +24,7 @@ pub record Listable (R : Request) (run : Running) (place : ℕ) : Type 0 where
   pub few-blocks : R .sizes .n ≤ 8
   pub few-pages : R .sizes .m ≤ 8
   pub short-pages : R .sizes .p ≤ 64
-  pub taken : refusal (runRows R (run .chip) (run .work) place) ≡ 0
+  pub taken : refusal (runRows R (run .chip) (run .work) unworn place counterEnd) ≡ 0
 
 -- no line is longer
 abbrev pub mostLine : ℕ

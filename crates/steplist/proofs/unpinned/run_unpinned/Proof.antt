@@ -1,5 +1,6 @@
 -- The run with a copy of the list, and as many zeros for pins as there are pages.
 use Rattle.flash.proofs.Kit.{_≡_, sym, ap, ap₂, _∙_, List, ℕ, _≤_, arith, needs, length}
+use Rattle.flash.specs.Wear.{counterEnd, unworn}
 use Rattle.split.specs.Request.{requestOf}
 use Rattle.method.specs.Answers.{runAnswer}
 use Rattle.listing.proofs.InputLaws.{few-originals}
@@ -50,7 +51,7 @@ returns c =
     let a = count .before .before .before .before .before .before .args in
     done .run .ensures .0
     ∙ ap₂ (λ (list pins : List ℕ). runAnswer (requestOf (a .sizes) list pins (a .sets .now)) (record { store = a .store .now; marks = a .marks .now })
-    (a .work .now) (a .place) (a .budget))
+    (a .work .now) unworn (a .place) (a .budget) counterEnd)
     (front-again (count .original-count .result) 64 (d .copy-list .last .0) (copied d) ∙ d .copy-list .ensures)
     (no-pins (count .original-count .ensures) (few count))
 

@@ -1,0 +1,81 @@
+-- The record of erases as bytes: its counters one by one.
+use Rattle.flash.proofs.Kit.{_≡_, refl, sym, ap, _∙_, List, [], _∷_, _++_, map, ℕ, zero, suc, _+_, _*_, _≤_, _<_, not-suc-le-zero, arith, length, getD, set, take, drop, length-take-le, length-drop, length-append}
+use Rattle.flash.specs.Lists.{range, concatMap}
+use Rattle.flash.specs.declared.wear.Wear.{Wear}
+use Rattle.flash.proofs.Loops.{front-more, front-all, piece-put}
+use Rattle.c_api.specs.Wear.{spelledAt, spelling, wearOf, wearBytes}
+
+map-range-at : (f : ℕ → ℕ) (start size i : ℕ) → i < size → getD (map f (range start size)) i 0 ≡ f (start + i)
+unfolding range
+map-range-at f start zero i h = absurd (not-suc-le-zero h)
+map-range-at f start (suc size) zero h = ap f (let e : start ≡ start + 0 = omega arith in e)
+map-range-at f start (suc size) (suc i) h =
+    map-range-at f (suc start) size i (omega arith) ∙ ap f (let e : suc start + i ≡ start + suc i = omega arith in e)
+
+map-range-length : (f : ℕ → ℕ) (start size : ℕ) → length (map f (range start size)) ≡ size
+unfolding range
+map-range-length f start zero = refl
+map-range-length f start (suc size) = ap suc (map-range-length f (suc start) size)
+
+pub counters-length : (bytes : List ℕ) → length (wearOf bytes .counters) ≡ 65
+unfolding wearOf
+counters-length bytes = map-range-length (λ block. spelledAt bytes (block * 4)) 0 65
+
+pub counter-is : (bytes : List ℕ) (b : ℕ) → b < 65 → getD (wearOf bytes .counters) b 0 ≡ spelledAt bytes (b * 4)
+unfolding wearOf
+counter-is bytes b h = map-range-at (λ block. spelledAt bytes (block * 4)) 0 65 b h ∙ ap (λ (x : ℕ). spelledAt bytes (x * 4)) (let e : 0 + b ≡ b = omega arith in e)
+
+-- one more counter that is read
+pub read-more : (bytes old counters : List ℕ) (b value : ℕ) → length old ≡ 65 → b < 65 → counters ≡ take b (wearOf bytes .counters) ++ drop b old
+    → value ≡ spelledAt bytes (b * 4) → set counters b value ≡ take (b + 1) (wearOf bytes .counters) ++ drop (b + 1) old
+read-more bytes old counters b value size h is e =
+    rw (is, e ∙ sym (counter-is bytes b h)) (front-more (wearOf bytes .counters) old b (counters-length bytes ∙ sym size) (omega arith))
+
+-- all of them
+pub read-all : (bytes old counters : List ℕ) (b : ℕ) → length old ≡ 65 → 65 ≤ b → counters ≡ take b (wearOf bytes .counters) ++ drop b old
+    → _≡_ {A = Wear} (record { counters = counters }) (wearOf bytes)
+read-all bytes old counters b size h is =
+    ap {B = Wear} (λ (x : List ℕ). record { counters = x }) (is ∙ front-all (wearOf bytes .counters) old b (counters-length bytes ∙ sym size) (omega arith))
+
+-- ---- the bytes that spell the counters
+pub spellings-length : (counters : List ℕ) → length (concatMap spelling counters) ≡ length counters * 4
+unfolding concatMap spelling
+spellings-length [] = refl
+spellings-length (c ∷ counters) = let h = spellings-length counters in omega arith
+
+-- those of one counter
+pub spelling-at : (counters : List ℕ) (b : ℕ) → b < length counters → take 4 (drop (b * 4) (concatMap spelling counters)) ≡ spelling (getD counters b 0)
+unfolding concatMap spelling
+spelling-at [] b h = absurd (not-suc-le-zero h)
+spelling-at (c ∷ counters) zero h = refl
+spelling-at (c ∷ counters) (suc b) h =
+    let four : suc b * 4 ≡ suc (suc (suc (suc (b * 4)))) = omega arith in
+    rw four (spelling-at counters b (omega arith))
+
+-- the part that is lent for one counter
+pub part-length : (bytes : List ℕ) (b n : ℕ) → n ≡ 4 → b * 4 + 4 ≤ length bytes → length (take n (drop (b * 4) bytes)) ≡ 4
+part-length bytes b n e h = rw e (length-take-le 4 (drop (b * 4) bytes) (omega (arith, length-drop (b * 4) bytes)))
+
+-- one more counter that is written
+pub write-more : (wear : Wear) (old bytes : List ℕ) (b n : ℕ) → length (wear .counters) ≡ 65 → length old ≡ 260 → b < 65 → n ≡ 4
+    → bytes ≡ take (b * 4) (wearBytes wear) ++ drop (b * 4) old → (part : List ℕ) → part ≡ spelling (getD (wear .counters) b 0)
+    → take (b * 4) bytes ++ (part ++ drop n (drop (b * 4) bytes)) ≡ take ((b + 1) * 4) (wearBytes wear) ++ drop ((b + 1) * 4) old
+unfolding wearBytes
+write-more wear old bytes b n size room h four is part e =
+    let all : length (wearBytes wear) ≡ length old = omega (arith, spellings-length (wear .counters)) in
+    let next : b * 4 + 4 ≡ (b + 1) * 4 = omega arith in
+    rw (four, e ∙ sym (spelling-at (wear .counters) b (omega arith))) (piece-put (wearBytes wear) old bytes (b * 4) 4 all (omega arith) is ∙ rw next)
+
+-- with some counters written, the bytes are as many
+pub laid-length : (wear : Wear) (old : List ℕ) (i : ℕ) → length (wear .counters) ≡ 65 → length old ≡ 260 → i ≤ 260
+    → length (take i (wearBytes wear) ++ drop i old) ≡ length old
+unfolding wearBytes
+laid-length wear old i size room h =
+    let front = length-take-le i (wearBytes wear) (omega (arith, spellings-length (wear .counters))) in
+    omega (arith, length-append (take i (wearBytes wear)) (drop i old), front, length-drop i old)
+
+pub write-all : (wear : Wear) (old bytes : List ℕ) (b : ℕ) → length (wear .counters) ≡ 65 → length old ≡ 260 → 65 ≤ b
+    → bytes ≡ take (b * 4) (wearBytes wear) ++ drop (b * 4) old → bytes ≡ wearBytes wear
+unfolding wearBytes
+write-all wear old bytes b size room h is =
+    is ∙ front-all (wearBytes wear) old (b * 4) (omega (arith, spellings-length (wear .counters))) (omega arith)

@@ -1,0 +1,49 @@
+-- `decode_wear` reads a counter a turn.
+use Rattle.flash.proofs.Kit.{_≡_, refl, _++_, _-_, _≤_, arith, needs, length, take, drop}
+use Rattle.c_api.specs.Wear.{spelledAt, wearOf}
+use Rattle.c_api.proofs.WearLaws.{read-more, read-all}
+use Rattle.c_api.proofs.wear.decode_wear.Statement.{statement}
+use Rattle.c_api.proofs.wear.decode_wear.Tie as tie
+
+abbrev Inv-loop : tie.InvT-loop
+Inv-loop bytes counters₀ b₀ counters b =
+    (counters ≡ take b (wearOf bytes .counters) ++ drop b counters₀) × (b ≤ 65) × (length counters₀ ≡ 65)
+
+abbrev μ-loop : tie.MeasureT-loop
+μ-loop bytes counters₀ b₀ counters b = 65 - b
+
+loop-holds : tie.Need-loop-holds Inv-loop μ-loop
+loop-holds c = (refl, omega arith, refl)
+
+loop-again : tie.Need-loop-again Inv-loop μ-loop
+unfolding spelledAt
+loop-again c =
+    let at = c .before .before .before .before .before .before in
+    let l = at .loop in
+    (read-more (at .before .before .args .bytes .now) _ (l .counters) (l .b) _ (l .inv .2) (omega arith) (l .inv .0) (c .counter .ensures), omega arith, refl)
+
+returns : tie.Need-returns Inv-loop μ-loop
+returns c = (let l = c .before .loop in read-all (c .before .before .before .args .bytes .now) _ (l .counters) (l .b) (l .inv .2) (omega arith) (l .inv .0))
+
+pub decode-wear-spec : {M : Type 1} → statement M
+decode-wear-spec =
+    tie.close
+    (tie.spec
+    Inv-loop
+    μ-loop
+    loop-holds
+    (λ c. search needs)
+    (λ c. search needs)
+    (λ c. search needs)
+    (λ c. search needs)
+    (λ c. search needs)
+    (λ c. search needs)
+    (λ c. search needs)
+    (λ c. search needs)
+    (λ c κs. search needs)
+    (λ c. search needs)
+    (λ c. search needs)
+    (λ c. search needs)
+    (λ c. search needs)
+    loop-again
+    returns)
