@@ -70,6 +70,9 @@ pub risen-set : (block : ℕ) (wear : Wear) → risen block wear .counters ≡ s
 unfolding risen
 risen-set block wear = noted-counters block _ _
 
+pub risen-length : (block : ℕ) (wear : Wear) → length (risen block wear .counters) ≡ length (wear .counters)
+risen-length block wear = ap (λ (xs : List ℕ). length xs) (risen-set block wear) ∙ length-set (wear .counters) block _
+
 noted-up-counters : (blocks : ℕ) (wear : Wear) → notedUpTo blocks wear .counters ≡ wear .counters
 unfolding notedUpTo
 noted-up-counters zero wear = refl

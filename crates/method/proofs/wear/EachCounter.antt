@@ -1,10 +1,10 @@
 -- What operations add to each counter, and to all together.
 use Rattle.flash.proofs.Kit.{_≡_, sym, ap, _∙_, ⊎-elim, _≢_, List, [], _∷_, _++_, ℕ, zero, suc, _+_, _≤_, _<_, min, arith, length}
-use Rattle.flash.proofs.Kit.{getD, set, length-set, getD-set-same, getD-set-other, not-suc-le-zero, le-of-suc-le-suc, lt-ltb, le-ltb, eq-eqb, ne-eqb}
+use Rattle.flash.proofs.Kit.{getD, set, getD-set-same, getD-set-other, not-suc-le-zero, le-of-suc-le-suc, lt-ltb, le-ltb, eq-eqb, ne-eqb}
 use Rattle.flash.specs.Lists.{count, total}
 use Rattle.flash.specs.declared.wear.Wear.{Wear}
 use Rattle.flash.specs.Wear.{counterEnd, counterCount, counterAt, raised, risen}
-use Rattle.flash.proofs.CounterLaws.{risen-set}
+use Rattle.flash.proofs.CounterLaws.{risen-set, risen-length}
 use Rattle.flash.proofs.Comparisons.{eq-cases, lt-cases}
 use Rattle.method.specs.Place.{Operation, write, erase, done}
 use Rattle.method.specs.Step.{isErase, erasesBlock}
@@ -30,7 +30,7 @@ module _ (wear : Wear) (C : Counters wear) where
 
   risen-counters : (b : ℕ) → Counters (risen b wear)
   risen-counters b = record {
-    length-is = ap (λ (xs : List ℕ). length xs) (risen-set b wear) ∙ length-set (wear .counters) b _ ∙ C .length-is;
+    length-is = risen-length b wear ∙ C .length-is;
     within = λ c h. ⊎-elim
         (λ (e : c ≡ b). rw e (omega (arith, rises b (omega arith))))
         (λ (apart : c ≢ b). omega (arith, stays b c apart, C .within c h))

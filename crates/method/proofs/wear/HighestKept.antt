@@ -1,10 +1,10 @@
 -- The pair of the highest count: the update rule, and what calls and lists of them keep.
-use Rattle.flash.proofs.Kit.{_≡_, refl, sym, ap, _∙_, subst, ⊎-elim, true, false, List, [], _∷_, ℕ, _≤_, _<_, arith, length, length-set, ltb, eqb, lt-ltb, le-ltb}
+use Rattle.flash.proofs.Kit.{_≡_, refl, sym, ap, _∙_, subst, ⊎-elim, true, false, List, [], _∷_, ℕ, _≤_, _<_, arith, length, ltb, eqb, lt-ltb, le-ltb}
 use Rattle.flash.proofs.Kit.{eq-eqb, ne-eqb}
 use Rattle.flash.specs.Chip.{Chip}
 use Rattle.flash.specs.declared.wear.Wear.{Wear}
 use Rattle.flash.specs.Wear.{counterCount, counterAt, raised, replaces, noted, risen, refreshed, PairCorrect, unworn}
-use Rattle.flash.proofs.CounterLaws.{risen-set, risen-correct, refreshed-counters, refreshed-correct, correct-once}
+use Rattle.flash.proofs.CounterLaws.{risen-length, risen-correct, refreshed-counters, refreshed-correct, correct-once}
 use Rattle.method.specs.Place.{Operation, write, erase, done}
 use Rattle.method.specs.Worn.{wornOnce, wornBy}
 use Rattle.method.specs.Events.{Call, Event, History, stepsOf, wearGiven, wearReturned, wearAtEnd, operationsReported}
@@ -34,7 +34,7 @@ worn-correct [] wear long H C = C
 worn-correct (write pass b q ∷ operations) wear long H C = worn-correct operations wear long (H .1) C
 worn-correct (done ∷ operations) wear long H C = worn-correct operations wear long (H .1) C
 worn-correct (erase b ∷ operations) wear long H C =
-    worn-correct operations (risen b wear) (ap (λ (xs : List ℕ). length xs) (risen-set b wear) ∙ length-set (wear .counters) b _ ∙ long) (H .1)
+    worn-correct operations (risen b wear) (risen-length b wear ∙ long) (H .1)
     (risen-correct b wear long (H .0) C)
 
 call-keeps : (call : Call) (chip : Chip) (kept : Wear) → Counters (wearGiven call kept) → PairCorrect (wearGiven call kept) → PairCorrect (wearReturned call chip kept)
