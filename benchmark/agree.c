@@ -54,6 +54,7 @@ static struct answer any_call(const struct mover *mover, struct scene *z, uint32
     case 0: return call_split(mover, z);
     case 1: return call_run(mover, z, number, budget);
     case 2: return call_mend(mover, z);
+    case 4: return call_refresh(mover, z);
     default: return call_read(mover, z, number);
     }
 }
@@ -100,7 +101,7 @@ static void drop_some(struct scene *z, uint64_t *random)
         }
 }
 
-/* Half of the records have any counters; half of the limits are just kept, or passed by one. */
+/* Half of the records have any counters, half of these a pair that is wrong; half of the limits are just kept, or passed by one. */
 static void wear_some(struct scene *z, uint64_t *random)
 {
     uint32_t most = 0;
@@ -108,6 +109,10 @@ static void wear_some(struct scene *z, uint64_t *random)
         return;
     for (uint32_t block = 0; block < MOVER_COUNTERS; block++)
         mover_set_counter(z->wear, block, random_below(random, 1 << 8 * random_below(random, 4)));
+    if (random_below(random, 2) == 0) {
+        mover_set_counter(z->wear, MOVER_COUNTERS, random_below(random, 300));
+        z->wear[MOVER_WEAR_BYTES - 1] = (uint8_t)random_below(random, 256);
+    }
     for (uint32_t block = 0; block <= z->n; block++)
         if (mover_counter(z->wear, block) > most)
             most = mover_counter(z->wear, block);
@@ -137,7 +142,7 @@ static int agree_once(const struct mover *a, const struct mover *b, uint64_t *ra
     uint32_t big = random_below(random, 64) == 0;
     uint32_t n = 1 + random_below(random, big ? 64 : 6), m = big ? 64 - random_below(random, 3) : 1 + random_below(random, 5);
     uint32_t last = 2 * n * (m + 1);
-    uint32_t place = random_below(random, last + 1), call = random_below(random, 4), budget = random_below(random, last + 3);
+    uint32_t place = random_below(random, last + 1), call = random_below(random, 5), budget = random_below(random, last + 3);
     uint32_t number = call == 3 ? random_below(random, n * m + 1) : random_below(random, 8) == 0 ? random_below(random, last + 3) : place;
     uint64_t same_fault;
     int same;

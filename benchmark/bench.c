@@ -20,8 +20,8 @@ const double AIM = 1.1;
 static const double MEMCPY_AIM = 1.5, STACK_AIM_KIB = 20;
 
 const struct mover movers[BOTH] = {
-    {"library", mover_split, mover_run, mover_mend, mover_read, mover_hex_read, mover_hex_write},
-    {"plain C", plain_split, plain_run, plain_mend, plain_read, plain_hex_read, plain_hex_write},
+    {"library", mover_split, mover_run, mover_mend, mover_wear_refresh, mover_read, mover_hex_read, mover_hex_write},
+    {"plain C", plain_split, plain_run, plain_mend, plain_wear_refresh, plain_read, plain_hex_read, plain_hex_write},
 };
 
 uint64_t seed = 1;
@@ -152,6 +152,12 @@ static void mend_job(const struct mover *mover, struct scene *scene, const struc
 {
     for (uint32_t i = 0; i < task->repeat; i++)
         must_be_done(call_mend(mover, scene), task);
+}
+
+static void refresh_job(const struct mover *mover, struct scene *scene, const struct task *task)
+{
+    for (uint32_t i = 0; i < task->repeat; i++)
+        must_be_done(call_refresh(mover, scene), task);
 }
 
 /* Some of the originals, at equal distances. */
@@ -297,6 +303,7 @@ int main(int count, char **words)
     line("read, one cycle of all blocks in each set, three quarters of it", 64, 4096, CYCLE_UP, 65 * 96 + 7, 8, read_job);
     line("mend, n = m = 64, P = 4096, a block to erase", 64, 4096, RANDOM, 65 * 30 + 20, 50, mend_job);
     line("mend, no block to erase", 64, 4096, RANDOM, 65 * 30 + 64, 2000, mend_job);
+    line("highest count made afresh", 64, 1, RANDOM, 65 * 30, 20000, refresh_job);
     hex_lines();
     printf("\ndeepest stack %46s %12s\n", movers[LIBRARY].name, movers[PLAIN].name);
     print_stack();

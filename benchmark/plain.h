@@ -19,6 +19,8 @@ uint32_t plain_mend(uint32_t n, uint32_t m, uint32_t page_bytes, uint32_t s,
                     uint8_t *store, uint64_t store_len, uint8_t *marks, uint64_t marks_len, uint8_t *wear, uint64_t wear_len,
                     uint32_t *place, uint32_t *erases);
 
+uint32_t plain_wear_refresh(uint8_t *wear, uint64_t wear_len);
+
 uint32_t plain_read(uint32_t n, uint32_t m, uint32_t page_bytes, uint32_t s,
                     const uint8_t *list, uint64_t list_len, const uint8_t *pins, uint64_t pins_len, const uint8_t *sets, uint64_t sets_len,
                     const uint8_t *store, uint64_t store_len, const uint8_t *marks, uint64_t marks_len,

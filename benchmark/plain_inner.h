@@ -6,7 +6,7 @@
 #include <stdint.h>
 #include <string.h>
 
-enum { BLOCKS = 64, PAGES = 64, ORIGINALS = BLOCKS * PAGES, ERASED = 255, NONE = 255, DROPPED = 65535, WEAR_BYTES = 260 };
+enum { BLOCKS = 64, PAGES = 64, ORIGINALS = BLOCKS * PAGES, ERASED = 255, NONE = 255, DROPPED = 65535, COUNTERS = 65, WEAR_BYTES = 4 * COUNTERS + 5 };
 
 struct sizes {
     uint32_t n, m, p, s;

@@ -2,14 +2,35 @@
 #include "plain.h"
 #include "plain_inner.h"
 
-/* A full counter stays. */
+static void set_counter(uint8_t *wear, uint32_t block, uint32_t count)
+{
+    for (int i = 0; i < 4; i++)
+        wear[4 * block + (uint32_t)i] = (uint8_t)(count >> 8 * i);
+}
+
+/* A full counter stays. The highest count, with its block, stands behind the counters. */
 static void count_erase(uint8_t *wear, uint32_t block)
 {
-    uint8_t *at = wear + 4 * block;
-    uint32_t count = counter(wear, block);
+    uint32_t count = counter(wear, block), highest = counter(wear, COUNTERS);
     count += count != UINT32_MAX;
-    for (int i = 0; i < 4; i++)
-        at[i] = (uint8_t)(count >> 8 * i);
+    set_counter(wear, block, count);
+    if (count > highest || (count == highest && block < wear[WEAR_BYTES - 1])) {
+        set_counter(wear, COUNTERS, count);
+        wear[WEAR_BYTES - 1] = (uint8_t)block;
+    }
+}
+
+uint32_t plain_wear_refresh(uint8_t *wear, uint64_t wear_len)
+{
+    uint32_t most = 0;
+    if (wear_len != WEAR_BYTES)
+        return 2;
+    for (uint32_t block = 1; block < COUNTERS; block++)
+        if (counter(wear, block) > counter(wear, most))
+            most = block;
+    set_counter(wear, COUNTERS, counter(wear, most));
+    wear[WEAR_BYTES - 1] = (uint8_t)most;
+    return 0;
 }
 
 void plain_erase(const struct sizes *z, uint8_t *store, uint8_t *marks, uint8_t *wear, uint32_t block)

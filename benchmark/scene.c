@@ -31,6 +31,13 @@ struct answer call_mend(const struct mover *mover, struct scene *z)
     return a;
 }
 
+struct answer call_refresh(const struct mover *mover, struct scene *z)
+{
+    struct answer a = {0, {0}};
+    a.number = mover->refresh(z->wear, z->wear_len);
+    return a;
+}
+
 struct answer call_read(const struct mover *mover, struct scene *z, uint32_t original)
 {
     struct answer a = {0, {0}};

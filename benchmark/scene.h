@@ -22,6 +22,7 @@ struct mover {
                     uint32_t *, uint32_t *, uint32_t *, uint32_t *, uint32_t *, uint32_t *);
     uint32_t (*mend)(uint32_t, uint32_t, uint32_t, uint32_t, uint8_t *, uint64_t, uint8_t *, uint64_t, uint8_t *, uint64_t, uint32_t *,
                      uint32_t *);
+    uint32_t (*refresh)(uint8_t *, uint64_t);
     uint32_t (*read)(uint32_t, uint32_t, uint32_t, uint32_t, const uint8_t *, uint64_t, const uint8_t *, uint64_t, const uint8_t *,
                      uint64_t, const uint8_t *, uint64_t, const uint8_t *, uint64_t, uint8_t *, uint64_t, uint32_t, uint32_t *,
                      uint32_t *);
@@ -37,6 +38,7 @@ struct answer {
 struct answer call_split(const struct mover *mover, struct scene *scene);
 struct answer call_run(const struct mover *mover, struct scene *scene, uint32_t place, uint32_t budget);
 struct answer call_mend(const struct mover *mover, struct scene *scene);
+struct answer call_refresh(const struct mover *mover, struct scene *scene);
 struct answer call_read(const struct mover *mover, struct scene *scene, uint32_t original);
 struct answer call_hex_read(const struct mover *mover, struct scene *scene);
 struct answer call_hex_write(const struct mover *mover, struct scene *scene);

@@ -34,8 +34,9 @@
  *   marks        (n + 1) * m bytes, one a page in the same order: 0, 1 or 2 where a page is written, 255 where none is; 3 to 254 only
  *                where a cut left it so: mover_mend and mover_read count it as 255, mover_run refuses it with 5
  *   work         page_bytes bytes to work in
- *   wear         MOVER_WEAR_BYTES: a counter of erases for each of blocks 0 to 64, however many there are, four bytes each, low byte first. It
- *                belongs to the chip and not to the move: keep it as long as the chip
+ *   wear         MOVER_WEAR_BYTES: a counter of erases for each of blocks 0 to 64, however many there are, four bytes each, low byte first; then
+ *                the highest count, four bytes in the same order, and the lowest block that has it, one byte. It belongs to the chip and not
+ *                to the move: keep it as long as the chip
  *   text         an Intel HEX file; mover_hex_write fills exactly mover_hex_bytes, mover_hex_read takes any length
  *
  * A DROPPED PAGE, whose entry is MOVER_DROPPED, is 255s throughout from the first call that takes the list: read gives them at once, while
@@ -45,7 +46,9 @@
  *
  * WEAR. mover_run and mover_mend add one to the counter of a block for each erase that they finish; a counter at UINT32_MAX stays there. A
  * call that is cut returns nothing, and its erases are in no record: with one step a call a cut loses one erase at most. mover_run looks at the
- * limit where a move begins, at place 0, and nowhere else: what has begun is never refused for wear.
+ * limit where a move begins, at place 0, and nowhere else: what has begun is never refused for wear. Each erase also brings the highest count
+ * and its block up to date: a higher count replaces both, an equal one at a lower block replaces the block. If they are right before a call, so are
+ * they after it; a new chip's record, all zeros, is right, and mover_wear_refresh makes any record right. No call looks whether they are.
  *
  * Before a move the pages of blocks 1 to n have mark s, and those of block 0 have mark 255 and bytes 255 throughout.
  *
@@ -98,7 +101,7 @@ enum mover_entry {
 /* The length of the record of erases, and the blocks it has counters for. */
 enum mover_wear {
     MOVER_COUNTERS = 65,
-    MOVER_WEAR_BYTES = 4 * MOVER_COUNTERS
+    MOVER_WEAR_BYTES = 4 * MOVER_COUNTERS + 5
 };
 
 /* What the step at a place does. */
@@ -138,7 +141,7 @@ uint32_t mover_run(uint32_t n, uint32_t m, uint32_t page_bytes, uint32_t s,
  * there is one; it may itself be cut, and called again.
  *   *place   where the move goes on; 2 * n * (m + 1) if it is finished
  *   *erases  1 if a block was erased, else 0; it is the block that mover_operation tells of at *place, which at the end is 0, the spare
- * Changes only that block's bytes, marks and counter.
+ * Changes only that block's bytes, marks and counter, and the highest count with its block.
  * A block whose pages all have the same letter is full of it; a block that is full of none is unfinished. The number is 6 unless, letters
  * counted modulo 3, one of these is so:
  *   one block is unfinished, all below it are full of s + 1, and all above it of s
@@ -150,6 +153,10 @@ uint32_t mover_run(uint32_t n, uint32_t m, uint32_t page_bytes, uint32_t s,
 uint32_t mover_mend(uint32_t n, uint32_t m, uint32_t page_bytes, uint32_t s,
                     uint8_t *store, uint64_t store_len, uint8_t *marks, uint64_t marks_len, uint8_t *wear, uint64_t wear_len,
                     uint32_t *place, uint32_t *erases);
+
+/* Makes the highest count of a record, and the lowest block that has it, afresh from its 65 counters. Changes only these five bytes.
+ * Returns 0, or 2 if the length is not MOVER_WEAR_BYTES. */
+uint32_t mover_wear_refresh(uint8_t *wear, uint64_t wear_len);
 
 /* Reads an original at any moment of the move, also after a cut and before recovery: puts it into `work`. A dropped one is 255s.
  *   *count          how many stored pages were summed for it, 1 to n; 0 for a dropped one
@@ -255,6 +262,17 @@ static inline void mover_set_counter(uint8_t *wear, uint32_t block, uint32_t cou
     int i;
     for (i = 0; i < 4; i++)
         wear[4 * (uint64_t)block + (uint64_t)i] = (uint8_t)(count >> 8 * i & 255);
+}
+
+/* The highest count of a record, and the lowest block that has it, without a look at the counters. */
+static inline uint32_t mover_highest_count(const uint8_t *wear)
+{
+    return mover_counter(wear, MOVER_COUNTERS);
+}
+
+static inline uint32_t mover_highest_block(const uint8_t *wear)
+{
+    return wear[MOVER_WEAR_BYTES - 1];
 }
 
 /* The sizes and lent parts of a move, gathered once. Each part must have the length that the functions above give; the pins, n * m zeros

@@ -298,6 +298,7 @@ static int prepare(struct demo *demo)
     move->wear = malloc(MOVER_WEAR_BYTES);
     for (uint32_t block = 0; block < MOVER_COUNTERS; block++)
         mover_set_counter(demo->chip.record, block, o->wear);
+    mover_wear_refresh(demo->chip.record, MOVER_WEAR_BYTES);
     demo->originals = malloc(mover_store_bytes(o->blocks, o->pages, o->page_bytes));
     return demo->list != NULL && demo->pins != NULL && move->sets != NULL && move->store != NULL && move->marks != NULL
         && move->work != NULL && move->wear != NULL && demo->originals != NULL

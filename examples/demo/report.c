@@ -68,8 +68,9 @@ void print_progress(struct demo *demo)
     printf("\r  [");
     for (uint32_t i = 0; i < WIDTH; i++)
         putchar(i < full ? '#' : '.');
-    printf("] %3" PRIu32 "%%  %" PRIu32 " cut%s, %" PRIu32 " page%s read ", full * 100 / WIDTH, demo->cuts, s(demo->cuts),
-           demo->pages_read, s(demo->pages_read));
+    printf("] %3" PRIu32 "%%  %" PRIu32 " cut%s, %" PRIu32 " page%s read, most worn block %" PRIu32 " with %" PRIu32 " ", full * 100 / WIDTH,
+           demo->cuts, s(demo->cuts), demo->pages_read, s(demo->pages_read), mover_highest_block(demo->chip.record),
+           mover_highest_count(demo->chip.record));
     fflush(stdout);
 }
 
@@ -82,12 +83,9 @@ static uint32_t counter(const struct demo *demo, uint32_t block)
 static void print_wear(const struct demo *demo)
 {
     enum { WIDTH = 40 };
-    uint32_t highest = 1;
-    for (uint32_t block = 0; block <= demo->options.blocks; block++)
-        if (counter(demo, block) > highest)
-            highest = counter(demo, block);
+    uint32_t highest = mover_highest_count(demo->chip.record);
     for (uint32_t block = 0; block <= demo->options.blocks; block++) {
-        uint64_t full = (uint64_t)counter(demo, block) * WIDTH / highest;
+        uint64_t full = (uint64_t)counter(demo, block) * WIDTH / (highest > 0 ? highest : 1);
         printf("  block %2" PRIu32 "    ", block);
         for (uint32_t i = 0; i < WIDTH; i++)
             putchar(i < full ? '#' : '.');
@@ -97,15 +95,18 @@ static void print_wear(const struct demo *demo)
     printf("\n");
 }
 
-/* Whether each counter has risen by the erases of its block that were done, unless it is at its end. */
+/* Whether each counter has risen by the erases of its block that were done, unless it is at its end, and the highest is the one kept. */
 static int counted_well(const struct demo *demo)
 {
+    uint32_t highest = mover_highest_count(demo->chip.record), most_worn = mover_highest_block(demo->chip.record);
     for (uint32_t block = 0; block < MOVER_COUNTERS; block++) {
         uint64_t due = demo->options.wear + (uint64_t)(block <= demo->options.blocks ? demo->chip.erased[block] : 0);
         if (counter(demo, block) != (due > UINT32_MAX ? UINT32_MAX : due))
             return 0;
+        if (counter(demo, block) > highest || (counter(demo, block) == highest && block < most_worn))
+            return 0;
     }
-    return 1;
+    return counter(demo, most_worn) == highest;
 }
 
 static void print_cuts(const struct demo *demo)
@@ -175,8 +176,9 @@ static int print_verdict(const struct demo *demo)
     }
     printf("\nEvery page that was kept is in its place.\n");
     if (demo->worn)
-        printf("The module is worn: one move more, and a block would have had more than %" PRIu32 " erases. It was refused.\n",
-               demo->options.limit);
+        printf("The module is worn: block %" PRIu32 " has had %" PRIu32 " erase%s, the most of all, and one move more would take a block\n"
+               "past %" PRIu32 ". It was refused.\n", mover_highest_block(demo->chip.record), mover_highest_count(demo->chip.record),
+               s(mover_highest_count(demo->chip.record)), demo->options.limit);
     return 1;
 }
 

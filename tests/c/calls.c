@@ -54,6 +54,8 @@ static void mends(const char *what, const uint8_t *store, const uint8_t *marks, 
     if (block >= 0) {
         due_chip[block] = due_tags[block] = 255;
         mover_set_counter(due_wear, (uint32_t)block, 1);
+        mover_set_counter(due_wear, MOVER_COUNTERS, 1);
+        due_wear[MOVER_WEAR_BYTES - 1] = (uint8_t)block;
     }
     got = mover_mend(3, 1, 1, s, chip, 4, tags, marks_len, wear, MOVER_WEAR_BYTES, &got_place, &got_erases);
     check(what, got == number && got_place == place && got_erases == erases && memcmp(chip, due_chip, 4) == 0
@@ -338,6 +340,7 @@ int main(void)
     pins_travel_checked();
     drops_checked();
     wear_checked();
+    highest_checked();
     bytes_checked();
     most_bytes_checked();
     tells_checked();

@@ -11,6 +11,9 @@ void drops_checked(void);
 /* Erase counters, and the limit of a run. */
 void wear_checked(void);
 
+/* The highest counter kept at hand. */
+void highest_checked(void);
+
 /* Intel HEX. */
 void hex_checked(void);
 

@@ -45,7 +45,7 @@ static void bytes_checked(void)
     uint8_t wear[MOVER_WEAR_BYTES] = {0};
     mover_set_counter(wear, 63, UINT32_C(0x04030201));
     mover_set_counter(wear, 64, UINT32_C(0xFCFDFEFF));
-    check("the length of a record", sizeof wear == 260);
+    check("the length of a record", sizeof wear == 265);
     check("counters, low byte first", memcmp(wear + 252, due, 8) == 0 && mover_counter(wear, 63) == UINT32_C(0x04030201)
                                           && mover_counter(wear, 64) == UINT32_C(0xFCFDFEFF) && mover_counter(wear, 62) == 0);
 }
@@ -153,24 +153,25 @@ static void order_checked(void)
     struct worn worn;
     uint32_t place = 77, erases = 77;
     begin(&worn, none);
-    check("run: 12", run_with(&worn, 260, 0) == MOVER_BAD_WEAR);
-    check("run: a record too short", run_with(&worn, 259, 0) == MOVER_BAD_LENGTH);
-    check("run: a record too long", run_with(&worn, 261, 0) == MOVER_BAD_LENGTH);
-    check("run: 5 by the place", run_with(&worn, 260, 1) == MOVER_BAD_PLACE);
+    check("run: 12", run_with(&worn, 265, 0) == MOVER_BAD_WEAR);
+    check("run: counters alone", run_with(&worn, 260, 0) == MOVER_BAD_LENGTH);
+    check("run: a record too short", run_with(&worn, 264, 0) == MOVER_BAD_LENGTH);
+    check("run: a record too long", run_with(&worn, 266, 0) == MOVER_BAD_LENGTH);
+    check("run: 5 by the place", run_with(&worn, 265, 1) == MOVER_BAD_PLACE);
     worn.store[0] = 254;
-    check("run: 5 before 12", run_with(&worn, 260, 0) == MOVER_BAD_PLACE);
+    check("run: 5 before 12", run_with(&worn, 265, 0) == MOVER_BAD_PLACE);
     worn.sets[0] = 1;
-    check("run: 4 before 12", run_with(&worn, 260, 0) == MOVER_BAD_SPLIT);
+    check("run: 4 before 12", run_with(&worn, 265, 0) == MOVER_BAD_SPLIT);
     worn.pins[0] = 1;
-    check("run: 11 before 12", run_with(&worn, 260, 0) == MOVER_BAD_PINS);
+    check("run: 11 before 12", run_with(&worn, 265, 0) == MOVER_BAD_PINS);
     worn.list[0] = 3;
-    check("run: 3 before 12", run_with(&worn, 260, 0) == MOVER_BAD_LIST);
-    check("mend: a record too short", mover_mend(3, 1, 1, 0, worn.store, 4, worn.marks, 4, worn.wear, 259, &place, &erases)
+    check("run: 3 before 12", run_with(&worn, 265, 0) == MOVER_BAD_LIST);
+    check("mend: a record too short", mover_mend(3, 1, 1, 0, worn.store, 4, worn.marks, 4, worn.wear, 264, &place, &erases)
                                           == MOVER_BAD_LENGTH && place == 0 && erases == 0);
-    check("mend: a record too long", mover_mend(3, 1, 1, 0, worn.store, 4, worn.marks, 4, worn.wear, 261, &place, &erases)
+    check("mend: a record too long", mover_mend(3, 1, 1, 0, worn.store, 4, worn.marks, 4, worn.wear, 266, &place, &erases)
                                          == MOVER_BAD_LENGTH);
     memset(worn.marks, 1, 4);
-    check("mend: 6", mover_mend(3, 1, 1, 0, worn.store, 4, worn.marks, 4, worn.wear, 260, &place, &erases) == MOVER_BAD_MARKS);
+    check("mend: 6", mover_mend(3, 1, 1, 0, worn.store, 4, worn.marks, 4, worn.wear, 265, &place, &erases) == MOVER_BAD_MARKS);
     check("nothing counted", counts(&worn, 0, 0, 0, 0, 0));
 }
 

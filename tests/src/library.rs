@@ -2,7 +2,7 @@
 
 use crate::harness::interface::{
     mover_hex_read, mover_hex_write, mover_mend, mover_operation, mover_read, mover_run,
-    mover_split, Calls, HexCalls, OperationCall,
+    mover_split, mover_wear_refresh, Calls, HexCalls, OperationCall,
 };
 
 pub fn calls() -> Calls {
@@ -11,6 +11,7 @@ pub fn calls() -> Calls {
         run: mover_run,
         mend: mover_mend,
         read: mover_read,
+        refresh: mover_wear_refresh,
     }
 }
 

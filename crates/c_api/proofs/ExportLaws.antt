@@ -4,6 +4,7 @@ use Rattle.flash.specs.declared.sizes.Sizes.{Sizes}
 use Rattle.flash.specs.Geometry.{inRange, originalCount}
 use Rattle.flash.specs.Chip.{Chip}
 use Rattle.flash.specs.declared.wear.Wear.{Wear}
+use Rattle.flash.specs.Wear.{refreshed}
 use Rattle.flash.proofs.Bools.{bool-cases}
 use Rattle.split.specs.Request.{requestOf}
 use Rattle.split.specs.Answer.{SplitAnswer, splitAnswer}
@@ -18,7 +19,7 @@ use Rattle.mover.specs.declared.run.RunResult.{RunResult}
 use Rattle.mover.specs.Answers.{ranAs}
 use Rattle.c_api.specs.Wear.{wearLength, wearOf, wearBytes}
 use Rattle.c_api.specs.Bytes.{entriesWithin}
-use Rattle.c_api.specs.Exports.{onBytes, splitOfBytes, ranBytes, runOfBytes, mendedBytes, mendOfBytes, readOfBytes}
+use Rattle.c_api.specs.Exports.{onBytes, splitOfBytes, ranBytes, runOfBytes, mendedBytes, mendOfBytes, readOfBytes, RefreshBytes, refreshOfBytes}
 use Rattle.c_api.proofs.BytesLaws.{on-bytes}
 use Rattle.c_api.proofs.WearLaws.{counters-length}
 
@@ -96,3 +97,14 @@ module _ (Z : Sizes) (chip : Chip) (lent : List ℕ) where
     pub mend-counters : length (r .wear .counters) ≡ 65
     mend-counters =
         ap (λ (a : MendAnswer). length (a .wear .counters)) is ∙ mend-wear-length Z chip (wearOf lent) ∙ counters-length lent
+
+-- ---- the pair made afresh
+module _ (lent : List ℕ) where
+  pub refresh-other-length : length lent ≢ wearLength → _≡_ {A = RefreshBytes} (record { number = 2; wear = lent }) (refreshOfBytes lent)
+  unfolding refreshOfBytes
+  refresh-other-length ne = rw (ne-eqb (length lent) wearLength ne)
+
+  pub refresh-done : length lent ≡ wearLength → (fresh : Wear) (wear : List ℕ) → fresh ≡ refreshed (wearOf lent) → wear ≡ wearBytes fresh
+      → _≡_ {A = RefreshBytes} (record { number = 0; wear = wear }) (refreshOfBytes lent)
+  unfolding refreshOfBytes
+  refresh-done size fresh wear is e = rw (eq-eqb (length lent) wearLength size, e, is)

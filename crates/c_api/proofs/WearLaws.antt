@@ -1,9 +1,9 @@
 -- The record of erases as bytes: its counters one by one.
-use Rattle.flash.proofs.Kit.{_≡_, refl, sym, ap, _∙_, List, [], _∷_, _++_, map, ℕ, zero, suc, _+_, _*_, _≤_, _<_, not-suc-le-zero, arith, length, getD, set, take, drop, length-take-le, length-drop, length-append}
+use Rattle.flash.proofs.Kit.{_≡_, refl, sym, ap, _∙_, List, [], _∷_, _++_, map, ℕ, zero, suc, _+_, _*_, _≤_, _<_, not-suc-le-zero, arith, length, getD, set, take, drop, length-take-le, length-drop, length-append, append-assoc, take-at, drop-at, drop-drop, drop-cons, drop-of-length-le, set-at}
 use Rattle.flash.specs.Lists.{range, concatMap}
 use Rattle.flash.specs.declared.wear.Wear.{Wear}
 use Rattle.flash.proofs.Loops.{front-more, front-all, piece-put}
-use Rattle.c_api.specs.Wear.{spelledAt, spelling, wearOf, wearBytes}
+use Rattle.c_api.specs.Wear.{spelledAt, spelling, wearOf, counterBytes, wearBytes}
 
 map-range-at : (f : ℕ → ℕ) (start size i : ℕ) → i < size → getD (map f (range start size)) i 0 ≡ f (start + i)
 unfolding range
@@ -31,11 +31,13 @@ pub read-more : (bytes old counters : List ℕ) (b value : ℕ) → length old �
 read-more bytes old counters b value size h is e =
     rw (is, e ∙ sym (counter-is bytes b h)) (front-more (wearOf bytes .counters) old b (counters-length bytes ∙ sym size) (omega arith))
 
--- all of them
-pub read-all : (bytes old counters : List ℕ) (b : ℕ) → length old ≡ 65 → 65 ≤ b → counters ≡ take b (wearOf bytes .counters) ++ drop b old
-    → _≡_ {A = Wear} (record { counters = counters }) (wearOf bytes)
-read-all bytes old counters b size h is =
-    ap {B = Wear} (λ (x : List ℕ). record { counters = x }) (is ∙ front-all (wearOf bytes .counters) old b (counters-length bytes ∙ sym size) (omega arith))
+-- all of them, and the pair
+pub read-all : (bytes old counters : List ℕ) (b highest : ℕ) → length old ≡ 65 → 65 ≤ b → counters ≡ take b (wearOf bytes .counters) ++ drop b old
+    → highest ≡ spelledAt bytes 260 → _≡_ {A = Wear} (record { counters = counters; highest = highest; block = getD bytes 264 0 }) (wearOf bytes)
+unfolding wearOf
+read-all bytes old counters b highest size h is e =
+    let all = is ∙ front-all (wearOf bytes .counters) old b (counters-length bytes ∙ sym size) (omega arith) in
+    λ i. record { counters = all i; highest = e i; block = getD bytes 264 0 }
 
 -- ---- the bytes that spell the counters
 pub spellings-length : (counters : List ℕ) → length (concatMap spelling counters) ≡ length counters * 4
@@ -58,24 +60,51 @@ part-length bytes b n e h = rw e (length-take-le 4 (drop (b * 4) bytes) (omega (
 
 -- one more counter that is written
 pub write-more : (wear : Wear) (old bytes : List ℕ) (b n : ℕ) → length (wear .counters) ≡ 65 → length old ≡ 260 → b < 65 → n ≡ 4
-    → bytes ≡ take (b * 4) (wearBytes wear) ++ drop (b * 4) old → (part : List ℕ) → part ≡ spelling (getD (wear .counters) b 0)
-    → take (b * 4) bytes ++ (part ++ drop n (drop (b * 4) bytes)) ≡ take ((b + 1) * 4) (wearBytes wear) ++ drop ((b + 1) * 4) old
-unfolding wearBytes
+    → bytes ≡ take (b * 4) (counterBytes wear) ++ drop (b * 4) old → (part : List ℕ) → part ≡ spelling (getD (wear .counters) b 0)
+    → take (b * 4) bytes ++ (part ++ drop n (drop (b * 4) bytes)) ≡ take ((b + 1) * 4) (counterBytes wear) ++ drop ((b + 1) * 4) old
+unfolding counterBytes
 write-more wear old bytes b n size room h four is part e =
-    let all : length (wearBytes wear) ≡ length old = omega (arith, spellings-length (wear .counters)) in
+    let all : length (counterBytes wear) ≡ length old = omega (arith, spellings-length (wear .counters)) in
     let next : b * 4 + 4 ≡ (b + 1) * 4 = omega arith in
-    rw (four, e ∙ sym (spelling-at (wear .counters) b (omega arith))) (piece-put (wearBytes wear) old bytes (b * 4) 4 all (omega arith) is ∙ rw next)
+    rw (four, e ∙ sym (spelling-at (wear .counters) b (omega arith))) (piece-put (counterBytes wear) old bytes (b * 4) 4 all (omega arith) is ∙ rw next)
 
 -- with some counters written, the bytes are as many
 pub laid-length : (wear : Wear) (old : List ℕ) (i : ℕ) → length (wear .counters) ≡ 65 → length old ≡ 260 → i ≤ 260
-    → length (take i (wearBytes wear) ++ drop i old) ≡ length old
-unfolding wearBytes
+    → length (take i (counterBytes wear) ++ drop i old) ≡ length old
+unfolding counterBytes
 laid-length wear old i size room h =
-    let front = length-take-le i (wearBytes wear) (omega (arith, spellings-length (wear .counters))) in
-    omega (arith, length-append (take i (wearBytes wear)) (drop i old), front, length-drop i old)
+    let front = length-take-le i (counterBytes wear) (omega (arith, spellings-length (wear .counters))) in
+    omega (arith, length-append (take i (counterBytes wear)) (drop i old), front, length-drop i old)
 
 pub write-all : (wear : Wear) (old bytes : List ℕ) (b : ℕ) → length (wear .counters) ≡ 65 → length old ≡ 260 → 65 ≤ b
-    → bytes ≡ take (b * 4) (wearBytes wear) ++ drop (b * 4) old → bytes ≡ wearBytes wear
-unfolding wearBytes
+    → bytes ≡ take (b * 4) (counterBytes wear) ++ drop (b * 4) old → bytes ≡ counterBytes wear
+unfolding counterBytes
 write-all wear old bytes b size room h is =
-    is ∙ front-all (wearBytes wear) old (b * 4) (omega (arith, spellings-length (wear .counters))) (omega arith)
+    is ∙ front-all (counterBytes wear) old (b * 4) (omega (arith, spellings-length (wear .counters))) (omega arith)
+
+-- ---- and the pair behind them
+counters-laid : (wear : Wear) → length (wear .counters) ≡ 65 → length (counterBytes wear) ≡ 260
+unfolding counterBytes
+counters-laid wear size = omega (arith, spellings-length (wear .counters))
+
+-- four bytes and one behind what is laid
+pair-put : (laid four bytes : List ℕ) (block : ℕ) → length laid ≡ 260 → length four ≡ 4 → length bytes ≡ 265
+    → set (take 260 (laid ++ drop 260 bytes) ++ (four ++ drop 4 (drop 260 (laid ++ drop 260 bytes)))) 264 block ≡ laid ++ (four ++ (block ∷ []))
+pair-put laid four bytes block a b c =
+    let front = take-at laid (drop 260 bytes) 260 a in
+    let back = drop-at laid (drop 260 bytes) 260 a in
+    let last : drop 4 (drop 260 bytes) ≡ getD bytes 264 0 ∷ [] =
+    drop-drop 4 260 bytes ∙ drop-cons bytes 264 0 (omega arith) ∙ ap (λ (l : List ℕ). getD bytes 264 0 ∷ l) (drop-of-length-le bytes {i = 265} (omega arith)) in
+    rw (front, back, last, ← append-assoc laid four (getD bytes 264 0 ∷ []), ← append-assoc laid four (block ∷ []))
+    (set-at (laid ++ four) (getD bytes 264 0) [] block 264 (length-append laid four ∙ omega arith))
+
+-- the whole record
+pub record-put : (wear : Wear) (bytes laid four : List ℕ) → length (wear .counters) ≡ 65 → length bytes ≡ 265 → laid ≡ counterBytes wear → four ≡ spelling (wear .highest)
+    → set (take 260 (laid ++ drop 260 bytes) ++ (four ++ drop 4 (drop 260 (laid ++ drop 260 bytes)))) 264 (wear .block) ≡ wearBytes wear
+unfolding wearBytes spelling
+record-put wear bytes laid four size room e f =
+    pair-put laid four bytes (wear .block) (ap (λ (l : List ℕ). length l) e ∙ counters-laid wear size) (ap (λ (l : List ℕ). length l) f) room ∙ rw (e, f)
+
+pub record-length : (wear : Wear) → length (wear .counters) ≡ 65 → length (wearBytes wear) ≡ 265
+unfolding wearBytes spelling
+record-length wear size = length-append (counterBytes wear) _ ∙ omega (arith, counters-laid wear size)

@@ -7,6 +7,7 @@ use lib.ListN.{length}
 use Rattle.flash.specs.declared.sizes.Sizes.{Sizes}
 use Rattle.flash.specs.Geometry.{inRange}
 use Rattle.flash.specs.Chip.{Chip}
+use Rattle.flash.specs.Wear.{refreshed}
 use Rattle.split.specs.Request.{requestOf}
 use Rattle.split.specs.Answer.{SplitAnswer, splitAnswer}
 use Rattle.method.specs.declared.tally.Tally.{Tally}
@@ -94,3 +95,12 @@ unfoldable pub readOfBytes : Sizes → (list pins sets : List ℕ) → Chip → 
 readOfBytes Z list pins sets chip work original =
     onBytes Z (λ number. readRefused number work)
     (λ entries. readAnswer (requestOf Z entries pins sets) chip work original) list
+
+-- the call that makes the pair afresh
+pub record RefreshBytes : Type 0 where
+  pub number : ℕ
+  pub wear : List ℕ
+
+unfoldable pub refreshOfBytes : (wear : List ℕ) → RefreshBytes
+refreshOfBytes wear =
+    cond (eqb (length wear) wearLength) (record { number = 0; wear = wearBytes (refreshed (wearOf wear)) }) (record { number = 2; wear = wear })

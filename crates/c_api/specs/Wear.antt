@@ -1,14 +1,14 @@
--- Rule 12.6: the record of erases in the C calls.
-use mathlib.Core.List.{List, [], _∷_, map}
+-- Rule 12.8: the record of erases in the C calls.
+use mathlib.Core.List.{List, [], _∷_, _++_, map}
 use Prim.Native.Nat.{ℕ, _+_, _*_, _/_, _%_}
 use lib.ListN.{getD}
 use Rattle.flash.specs.Lists.{range, concatMap}
 use Rattle.flash.specs.declared.wear.Wear.{Wear}
 use Rattle.flash.specs.Wear.{counterCount}
 
--- four bytes for each counter
+-- four bytes for each counter and for the highest count, one for its block
 abbrev pub wearLength : ℕ
-wearLength = 260
+wearLength = 265
 
 -- the number that four bytes spell, the low one first
 unfoldable pub spelled : (low second third high : ℕ) → ℕ
@@ -22,7 +22,14 @@ unfoldable pub spelling : ℕ → List ℕ
 spelling number = number % 256 ∷ number / 256 % 256 ∷ number / 65536 % 256 ∷ number / 16777216 % 256 ∷ []
 
 unfoldable pub wearOf : (bytes : List ℕ) → Wear
-wearOf bytes = record { counters = map (λ block. spelledAt bytes (block * 4)) (range 0 counterCount) }
+wearOf bytes = record {
+  counters = map (λ block. spelledAt bytes (block * 4)) (range 0 counterCount);
+  highest = spelledAt bytes 260;
+  block = getD bytes 264 0;
+}
+
+unfoldable pub counterBytes : Wear → List ℕ
+counterBytes wear = concatMap spelling (wear .counters)
 
 unfoldable pub wearBytes : Wear → List ℕ
-wearBytes wear = concatMap spelling (wear .counters)
+wearBytes wear = counterBytes wear ++ (spelling (wear .highest) ++ (wear .block ∷ []))

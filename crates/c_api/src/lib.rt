@@ -4,6 +4,7 @@ mod list;
 pub mod mend;
 pub mod operation;
 pub mod read;
+pub mod refresh;
 pub mod run;
 mod sizes;
 pub mod split_call;

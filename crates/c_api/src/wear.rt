@@ -1,15 +1,20 @@
-// The record of erases as C lends it: four bytes a counter, the low one first.
+// The record of erases as C lends it: four bytes a counter, the low one first; then the highest count alike, and a byte for its block.
 ghost use mathlib.Core.Path.{_≡_};
 ghost use lib.ListN.{length};
 ghost use Rattle.flash.specs.Wear.{counterCount};
-ghost use Rattle.c_api.specs.Wear.{spelled, spelling, wearLength, wearOf, wearBytes};
+ghost use Rattle.c_api.specs.Wear.{spelled, spelling, wearLength, wearOf, counterBytes, wearBytes};
 use flash::wear::BLOCKS;
 use flash::wear::Wear;
 
 const COUNTER: usize = 4;
 
+// Where the pair lies: the highest count, and its block.
+const HIGHEST: usize = BLOCKS * COUNTER;
+
+const BLOCK: usize = HIGHEST + COUNTER;
+
 // The length of the record.
-pub const WEAR: usize = BLOCKS * COUNTER;
+pub const WEAR: usize = BLOCK + 1;
 
 // The counter that four bytes spell.
 fn counter(low: u8, second: u8, third: u8, high: u8) -> u32
@@ -29,7 +34,18 @@ pub fn decode_wear(bytes: &[u8]) -> Wear
         counters[b] = counter(bytes[at], bytes[at + 1], bytes[at + 2], bytes[at + 3]);
         b += 1;
     }
-    Wear { counters }
+    let highest = counter(
+        bytes[HIGHEST],
+        bytes[HIGHEST + 1],
+        bytes[HIGHEST + 2],
+        bytes[HIGHEST + 3],
+    );
+    let block = bytes[BLOCK];
+    Wear {
+        counters,
+        highest,
+        block,
+    }
 }
 
 // The four bytes of a counter.
@@ -43,9 +59,10 @@ fn spell(counter: u32, bytes: &mut [u8])
     bytes[3] = (counter / 16777216 % 256) as u8;
 }
 
-pub fn encode_wear(wear: Wear, bytes: &mut [u8])
-    requires { ⌜ (length (now bytes) ≡ wearLength) × (length (wear .counters) ≡ counterCount) ⌝ }
-    ensures { λ _. ⌜ now (bytes .exit) ≡ wearBytes wear ⌝ }
+// The bytes of all counters.
+fn encode_counters(wear: Wear, bytes: &mut [u8])
+    requires { ⌜ (length (now bytes) ≡ 260) × (length (wear .counters) ≡ counterCount) ⌝ }
+    ensures { λ _. ⌜ now (bytes .exit) ≡ counterBytes wear ⌝ }
 {
     let mut b = 0;
     while b < BLOCKS {
@@ -53,4 +70,13 @@ pub fn encode_wear(wear: Wear, bytes: &mut [u8])
         spell(wear.counters[b], &mut bytes[at..at + COUNTER]);
         b += 1;
     }
+}
+
+pub fn encode_wear(wear: Wear, bytes: &mut [u8])
+    requires { ⌜ (length (now bytes) ≡ wearLength) × (length (wear .counters) ≡ counterCount) ⌝ }
+    ensures { λ _. ⌜ now (bytes .exit) ≡ wearBytes wear ⌝ }
+{
+    encode_counters(wear, &mut bytes[..HIGHEST]);
+    spell(wear.highest, &mut bytes[HIGHEST..BLOCK]);
+    bytes[BLOCK] = wear.block;
 }

@@ -2,6 +2,7 @@
 pub mod Kit
 pub mod Bools
 pub mod Comparisons
+pub mod CounterLaws
 pub mod Tables
 pub mod Searches
 pub mod Filters

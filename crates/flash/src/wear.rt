@@ -1,7 +1,7 @@
-// How often each block was erased. The record goes into a call by value and comes back with its answer.
+// How often each block was erased, and which the most. The record goes into a call by value and comes back with its answer.
 ghost use mathlib.Core.Path.{_≡_};
 ghost use Prim.Native.Nat.{_<_};
-ghost use Rattle.flash.specs.Wear.{raised, risen, unworn};
+ghost use Rattle.flash.specs.Wear.{raised, replaces, risen, refreshed, unworn};
 
 // The spare and the most data blocks.
 pub const BLOCKS: usize = 65;
@@ -9,9 +9,11 @@ pub const BLOCKS: usize = 65;
 // The largest number of 32 bits.
 const END: u32 = 4294967295;
 
-// A counter for each of blocks 0 to 64.
+// A counter for each of blocks 0 to 64; the highest count and the lowest block that has it. The two may be wrong: `refresh` makes them afresh.
 pub struct Wear {
     pub counters: [u32; BLOCKS],
+    pub highest: u32,
+    pub block: u8,
 }
 
 // No block was erased.
@@ -20,6 +22,8 @@ pub fn unworn() -> Wear
 {
     Wear {
         counters: [0; BLOCKS],
+        highest: 0,
+        block: 0,
     }
 }
 
@@ -30,11 +34,43 @@ fn raised(counter: u32) -> u32
     if counter < END { counter + 1 } else { counter }
 }
 
-// One erase of a block more.
+// Whether the count of a block takes the place of the pair that is kept.
+fn replaces(highest: u32, kept: u8, count: u32, block: u8) -> bool
+    ensures { λ r. ⌜ r ≡ replaces highest kept count block ⌝ }
+{
+    (highest < count) | ((count == highest) & (block < kept))
+}
+
+// One erase of a block more. The pair is kept without a look at the other counters.
 pub fn rise(mut wear: Wear, block: usize) -> Wear
     requires { ⌜ block < 65 ⌝ }
     ensures { λ r. ⌜ r ≡ risen block wear ⌝ }
 {
-    wear.counters[block] = raised(wear.counters[block]);
+    let count = raised(wear.counters[block]);
+    wear.counters[block] = count;
+    let named = block as u8;
+    if replaces(wear.highest, wear.block, count, named) {
+        wear.highest = count;
+        wear.block = named;
+    }
+    wear
+}
+
+// The pair made afresh from all counters.
+pub fn refresh(mut wear: Wear) -> Wear
+    ensures { λ r. ⌜ r ≡ refreshed wear ⌝ }
+{
+    let mut highest = 0u32;
+    let mut lowest = 0u8;
+    for block in 0..BLOCKS {
+        let count = wear.counters[block];
+        let named = block as u8;
+        if replaces(highest, lowest, count, named) {
+            highest = count;
+            lowest = named;
+        }
+    }
+    wear.highest = highest;
+    wear.block = lowest;
     wear
 }

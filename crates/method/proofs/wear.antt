@@ -4,3 +4,4 @@ pub mod EachCounter
 pub mod CallsWear
 pub mod WornOut
 pub mod WearCounts
+pub mod HighestKept

@@ -9,7 +9,7 @@ use Rattle.flash.specs.Lists.{range}
 use Rattle.flash.specs.declared.sizes.Sizes.{Sizes}
 use Rattle.flash.specs.Chip.{Chip}
 use Rattle.flash.specs.declared.wear.Wear.{Wear}
-use Rattle.flash.specs.Wear.{counterEnd, counterCount, unworn}
+use Rattle.flash.specs.Wear.{counterEnd, counterCount, refreshed, unworn}
 use Rattle.split.specs.OneToOne.{isOneToOne}
 use Rattle.split.specs.Request.{Request, requestOf, unpinned}
 use Rattle.split.specs.Answer.{splitAnswer}
@@ -80,9 +80,12 @@ junk length = replicate length 7
 abbrev pub counts : (steps writes erases bytes : ℕ) → Tally
 counts steps writes erases bytes = record { steps = steps; writes = writes; erases = erases; bytes = bytes }
 
--- the counters of the blocks from 0 on, and of all others 0
+-- the counters of the blocks from 0 on, and of all others 0; the pair as it is given, or a correct one
+abbrev pub worn : (counters : List ℕ) → (highest block : ℕ) → Wear
+worn counters highest block = record { counters = counters ++ replicate (counterCount - length counters) 0; highest = highest; block = block }
+
 abbrev pub wears : (counters : List ℕ) → Wear
-wears counters = record { counters = counters ++ replicate (counterCount - length counters) 0 }
+wears counters = refreshed (worn counters 0 0)
 
 -- with a module whose blocks were never erased, and the highest limit
 abbrev pub runs : Request → Chip → (work : List ℕ) → (place budget : ℕ) → RunAnswer

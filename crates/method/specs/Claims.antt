@@ -28,6 +28,7 @@ use Rattle.method.specs.Runs.{RunsAddUp, StatesReached}
 use Rattle.method.specs.Counts.{RunsCount}
 use Rattle.method.specs.Demand3.{Demand3}
 use Rattle.method.specs.WearCounts.{WearCounts}
+use Rattle.method.specs.HighestCounter.{HighestCounter}
 use Rattle.method.specs.PinsStay.{PinsStay}
 use Rattle.method.specs.NoDrops.{NoDrops}
 use Rattle.method.specs.Example.{ExampleHolds, BoundsMet}
@@ -161,6 +162,7 @@ pub record Claims : Type 0 where
   pub first : FirstReturned
   pub demand-3 : Demand3
   pub wear : WearCounts
+  pub highest : HighestCounter
   pub pins : PinsStay
   pub no-drops : NoDrops
   pub bounds : BoundsMet

@@ -19,6 +19,7 @@ pub mod NoDrops
 pub mod Cases
 pub mod DropCases
 pub mod WearCases
+pub mod HighestCounter
 pub mod Example
 pub mod TwoPages
 pub mod Claims

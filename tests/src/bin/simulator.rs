@@ -1,7 +1,7 @@
 //! The simulator's own checks.
 
 use mover_tests::checks::tally::Tally;
-use mover_tests::checks::{call_lists, drop_cases, hand_cases, hex_cases, papers};
+use mover_tests::checks::{call_lists, drop_cases, hand_cases, hex_cases, pair_cases, papers};
 use mover_tests::checks::{recovery_lines, refusing, small_moves, step_inputs, torn, wear_cases};
 use mover_tests::random::{seed_from_environment, Random};
 use std::process::ExitCode;
@@ -20,6 +20,7 @@ fn main() -> ExitCode {
     step_inputs::check(&mut tally);
     hex_cases::check(&mut tally);
     small_moves::check(&mut tally, &mut random);
+    pair_cases::check(&mut tally, &mut random);
     torn::check(&mut tally, &mut random);
     call_lists::check(&mut tally, &mut random);
     tally.finish()

@@ -5,7 +5,7 @@ use crate::scene::Scene;
 use crate::simulator::calls::answer;
 use crate::simulator::cuts::tear;
 use crate::simulator::flash::Flash;
-use crate::simulator::request::{Call, Numbers, CALLS};
+use crate::simulator::request::{Call, Numbers, SIZED_CALLS};
 use crate::simulator::sizes::Sizes;
 
 type Outcome = Result<(), String>;
@@ -105,7 +105,7 @@ fn data_blocks_give(n: u32, due: u32) -> Outcome {
     scene.pins = vec![0; count];
     scene.sets = vec![0; count];
     scene.flash = Flash::at_rest(scene.sizes, &vec![0; count]);
-    for call in CALLS {
+    for call in SIZED_CALLS {
         let given = answer(&scene.request(call)).numbers.returned;
         same(&format!("the number of {call:?}"), given, due)?;
     }

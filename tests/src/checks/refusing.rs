@@ -4,7 +4,7 @@ use super::tally::{same, Tally};
 use crate::scene::Scene;
 use crate::simulator::calls::answer;
 use crate::simulator::flash::Flash;
-use crate::simulator::request::{Call, Numbers, Part, Request, ALL_PARTS, CALLS};
+use crate::simulator::request::{Call, Numbers, Part, Request, ALL_PARTS, CALLS, SIZED_CALLS};
 use crate::simulator::sizes::Sizes;
 
 type Outcome = Result<(), String>;
@@ -43,13 +43,13 @@ fn place_in_order(number: u32) -> Option<usize> {
 /// Written for the scene below: n = 2, m = 2, P = 2, s = 1, place 1, pages 0
 /// and 3 pinned.
 const CASES: &[Case] = &[
-    case!(1, &CALLS, "n = 0", |r| r.sizes.n = 0),
-    case!(1, &CALLS, "n = 65", |r| r.sizes.n = 65),
-    case!(1, &CALLS, "m = 0", |r| r.sizes.m = 0),
-    case!(1, &CALLS, "m = 65", |r| r.sizes.m = 65),
-    case!(1, &CALLS, "P = 0", |r| r.sizes.page_bytes = 0),
-    case!(1, &CALLS, "P = 4097", |r| r.sizes.page_bytes = 4097),
-    case!(1, &CALLS, "s = 3", |r| r.sizes.s = 3),
+    case!(1, &SIZED_CALLS, "n = 0", |r| r.sizes.n = 0),
+    case!(1, &SIZED_CALLS, "n = 65", |r| r.sizes.n = 65),
+    case!(1, &SIZED_CALLS, "m = 0", |r| r.sizes.m = 0),
+    case!(1, &SIZED_CALLS, "m = 65", |r| r.sizes.m = 65),
+    case!(1, &SIZED_CALLS, "P = 0", |r| r.sizes.page_bytes = 0),
+    case!(1, &SIZED_CALLS, "P = 4097", |r| r.sizes.page_bytes = 4097),
+    case!(1, &SIZED_CALLS, "s = 3", |r| r.sizes.s = 3),
     case!(3, LIST_CALLS, "an entry twice", |r| r.parts.list[2] = 0),
     case!(3, LIST_CALLS, "an entry of n x m", |r| r.parts.list[0] = 4),
     case!(3, LIST_CALLS, "an entry of 65534", |r| r.parts.list[..2]

@@ -14,7 +14,7 @@ type Outcome = Result<(), String>;
 
 pub fn check(tally: &mut Tally) {
     tally.check("the erases of each block", erases_by_block());
-    tally.check("a record of 260 bytes", bytes_of_record());
+    tally.check("a record of 265 bytes", bytes_of_record());
     tally.check("counters of a whole move", whole_move());
     tally.check("counters step by step", step_by_step());
     tally.check("counters at their end", full_counters());
@@ -67,7 +67,7 @@ fn erases_by_block() -> Outcome {
 
 fn bytes_of_record() -> Outcome {
     let mut scene = with_counters(&[], u32::MAX);
-    same("bytes", scene.wear.len(), 260)?;
+    same("bytes", scene.wear.len(), 265)?;
     scene.wear[4..8].copy_from_slice(&[255, 1, 0, 0]);
     scene.run(0, 2);
     same(
@@ -106,8 +106,9 @@ fn full_counters() -> Outcome {
     const END: u32 = u32::MAX;
     let mut scene = program_case();
     scene.run(0, 1);
-    scene.wear = record::<Correct>(&[END - 1, END, END - 1, END - 2, END]);
-    scene.wear.resize(260, 0);
+    let mut counters = vec![0; COUNTERS];
+    counters[..5].copy_from_slice(&[END - 1, END, END - 1, END - 2, END]);
+    scene.wear = record::<Correct>(&counters);
     let rest = scene.run(1, END).numbers;
     same("erases", rest.erases, 6)?;
     same(
@@ -168,7 +169,7 @@ fn places() -> Outcome {
     for place in 0..=12 {
         let mut worn = scene.clone();
         worn.wear_limit = 0;
-        worn.wear = vec![255; 260];
+        worn.wear = vec![255; 265];
         let due = if place == 0 { 12 } else { 0 };
         for budget in [0, 1] {
             let request = worn.run_request(place, budget);
@@ -201,7 +202,7 @@ fn order() -> Outcome {
     let worn = with_counters(&[9; 5], 0).run_request(0, 1);
     let flaws: [(u32, fn(&mut Request)); 6] = [
         (1, |r| r.sizes.n = 65),
-        (2, |r| r.parts.wear.truncate(259)),
+        (2, |r| r.parts.wear.truncate(264)),
         (3, |r| r.parts.list[0] = 3),
         (11, |r| r.parts.pins[0] = 1),
         (4, |r| r.parts.sets[0] = 1),

@@ -38,6 +38,7 @@ pub fn calls<R: Rules, M: Manners>() -> Calls {
         run: run::<R, M>,
         mend: mend::<R, M>,
         read: read::<R, M>,
+        refresh: refresh::<R, M>,
     }
 }
 
@@ -258,4 +259,13 @@ unsafe extern "C" fn read<R: Rules, M: Manners>(
     ];
     set::<M>(numbers.returned, &outs);
     numbers.returned
+}
+
+unsafe extern "C" fn refresh<R: Rules, M: Manners>(wear: *mut u8, wear_len: u64) -> u32 {
+    let mut loan = [NOT_LENT; 7];
+    loan[Part::Wear as usize] = raw(wear, wear_len);
+    let request = request_of(Call::Refresh, [0; 4], &loan);
+    serve::<R, M>(request, &loan, &[Part::Wear])
+        .numbers
+        .returned
 }

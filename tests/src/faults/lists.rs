@@ -23,7 +23,7 @@ pub fn faults() -> Vec<Fault> {
 
 /// Faults that the checks of demand 3 report by themselves, without the
 /// simulator's answers, with words of the report.
-pub const BREAKING_DEMAND_3: [(&str, &str); 19] = [
+pub const BREAKING_DEMAND_3: [(&str, &str); 21] = [
     ("the lowest block is the top", "original"),
     ("a coded page lacks D(pred)", "original"),
     ("a dropped page is added as zeros", "original"),
@@ -66,6 +66,8 @@ pub const BREAKING_DEMAND_3: [(&str, &str); 19] = [
     ("a full counter begins anew", "the counter of block"),
     ("the block below gets the erase", "the counter of block"),
     ("mend does not count its erase", "the counter of block"),
+    ("a higher count replaces the count alone", "the pair is"),
+    ("recovery leaves the pair", "the pair is"),
     (
         "a refused call clears the record",
         "a refusal changes the record",

@@ -7,6 +7,7 @@ pub mod hex;
 pub mod lists;
 mod manners;
 pub mod operations;
+mod pairing;
 mod pinning;
 pub mod programs;
 mod reading;
@@ -42,6 +43,7 @@ pub fn all_faults() -> Vec<Fault> {
         pinning::faults(),
         dropping::faults(),
         wearing::faults(),
+        pairing::faults(),
         manners::faults(),
     ];
     topics.into_iter().flatten().collect()

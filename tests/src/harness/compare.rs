@@ -10,6 +10,8 @@ use crate::random::{rounds_from_environment, Random};
 use crate::simulator::calls::answer;
 use crate::simulator::dropping::DROPPED;
 use crate::simulator::request::{Answer, Call, Numbers, Request, ALL_PARTS, CALLS};
+use crate::simulator::rules::Correct;
+use crate::simulator::wear::{counters, fresh_pair, pair};
 use std::fmt;
 
 /// A request on which the mover and the simulator differ.
@@ -38,7 +40,7 @@ impl fmt::Display for Difference {
 /// A mover under comparison, with the number of calls compared of each kind.
 pub struct Comparer<'a> {
     calls: &'a Calls,
-    compared: [u64; 4],
+    compared: [u64; 5],
     /// Runs and reads that counted none, some and all bytes of their pages.
     counted: [u64; 3],
     /// Calls with pinned pages that were carried out, and that were refused for them.
@@ -50,6 +52,8 @@ pub struct Comparer<'a> {
     /// Runs refused for wear, runs from place 0 of which a block just keeps the
     /// limit, and calls that erase a block whose counter is full.
     worn: [u64; 3],
+    /// Calls with a right pair, and with a wrong one, that change it.
+    pairs: [u64; 2],
     /// The events of lists: calls, cut ones among them, and cuts between calls.
     pub events: u64,
     /// Those of lists that drop pages.
@@ -67,12 +71,13 @@ impl<'a> Comparer<'a> {
     pub fn new(calls: &'a Calls) -> Comparer<'a> {
         Comparer {
             calls,
-            compared: [0; 4],
+            compared: [0; 5],
             counted: [0; 3],
             pinned: [0; 2],
             dropping: [0; 3],
             dropped_read: 0,
             worn: [0; 3],
+            pairs: [0; 2],
             events: 0,
             events_dropping: 0,
             cuts: 0,
@@ -130,6 +135,9 @@ impl<'a> Comparer<'a> {
     }
 
     fn note_wear(&mut self, request: &Request, due: &Answer) {
+        if request.parts.wear != due.parts.wear {
+            self.note_pair(&request.parts.wear, &due.parts.wear);
+        }
         if due.numbers.returned == 12 {
             self.worn[0] += 1;
         }
@@ -145,6 +153,14 @@ impl<'a> Comparer<'a> {
         let any_full = (0..=request.sizes.data_blocks()).any(full);
         if any_full && blocks_erased(request, due).into_iter().any(full) {
             self.worn[2] += 1;
+        }
+    }
+
+    fn note_pair(&mut self, before: &[u8], after: &[u8]) {
+        let lent = pair::<Correct>(before);
+        let right = lent == fresh_pair(&counters::<Correct>(before));
+        if lent != pair::<Correct>(after) {
+            self.pairs[!right as usize] += 1;
         }
     }
 
@@ -180,6 +196,8 @@ impl<'a> Comparer<'a> {
         println!("dropped pages read: {}", self.dropped_read);
         let [refused, kept, full] = self.worn;
         println!("wear: {refused} runs refused as 12, {kept} with the limit just kept, {full} erases at full counters");
+        let [right, wrong] = self.pairs;
+        println!("pairs changed: {right} right ones, {wrong} wrong ones");
         println!("rounds: {}", self.rounds);
         println!(
             "events: {}, {} of them cut, {} with drops",
@@ -262,6 +280,7 @@ pub fn check_mover(tally: &mut Tally, name: &str, calls: &Calls, seed: u64) {
     often("one page dropped, some, all", &comparer.dropping);
     often("dropped pages read", &[comparer.dropped_read]);
     often("limits passed and kept, counters full", &comparer.worn);
+    often("pairs changed, right and wrong", &comparer.pairs);
 }
 
 /// The first difference that one of these families finds, with its name.

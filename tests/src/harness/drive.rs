@@ -50,6 +50,8 @@ pub fn drive(calls: &Calls, request: &Request) -> Result<Answer, String> {
         Call::Run => drive_run(calls, request, &mut loan, outs.pointers()),
         Call::Mend => drive_mend(calls, request, &mut loan, outs.pointers()),
         Call::Read => drive_read(calls, request, &mut loan, outs.pointers()),
+        // A live buffer of the length given.
+        Call::Refresh => unsafe { (calls.refresh)(loan.wear.pointer(), loan.wear.length()) },
     };
     collect(request.call, returned, loan, outs)
 }
@@ -61,7 +63,7 @@ fn collect(call: Call, returned: u32, loan: Loan, outs: Outs) -> Result<Answer, 
         ..Numbers::default()
     };
     match call {
-        Call::Split => {}
+        Call::Split | Call::Refresh => {}
         Call::Run => {
             let [place, steps, writes, erases, finished, written_bytes] = outs;
             numbers = Numbers {

@@ -88,6 +88,10 @@ calls! {
         count: *mut u32,
         written_bytes: *mut u32,
     );
+    RefreshCall, mover_wear_refresh(
+        wear: *mut u8,
+        wear_len: u64,
+    );
     OperationCall, mover_operation(
         n: u32,
         m: u32,
@@ -129,6 +133,7 @@ pub struct Calls {
     pub run: RunCall,
     pub mend: MendCall,
     pub read: ReadCall,
+    pub refresh: RefreshCall,
 }
 
 /// The calls that read and write Intel HEX.

@@ -5,7 +5,7 @@ use crate::simulator::flash::Flash;
 use crate::simulator::request::{Answer, Call, Request};
 use crate::simulator::rules::{Correct, Rules};
 use crate::simulator::steps::{all_steps, Step};
-use crate::simulator::wear::counters;
+use crate::simulator::wear::{counters, fresh_pair, pair};
 
 type Outcome = Result<(), String>;
 
@@ -47,7 +47,8 @@ pub fn room_left(request: &Request) -> Option<u32> {
 
 /// Each counter rises by the erases of its block, unless it comes to its end,
 /// and none falls. While none is at its end, they rise by the erases reported,
-/// all together. A refusal leaves the record.
+/// all together. From a right pair comes a right pair. A refusal leaves the
+/// record.
 pub fn right_record(request: &Request, answer: &Answer) -> Outcome {
     if answer.numbers.returned != 0 {
         let stays = answer.parts.wear == request.parts.wear;
@@ -68,6 +69,11 @@ pub fn right_record(request: &Request, answer: &Answer) -> Outcome {
         })?;
         rises.push(u64::from(after - before));
     }
+    let right = pair::<Correct>(&request.parts.wear) == fresh_pair(&before);
+    let left = pair::<Correct>(&answer.parts.wear);
+    ensure(!right || left == fresh_pair(&after), || {
+        format!("the pair is {left:?}, and was right, for {after:?}")
+    })?;
     let at_end = after.contains(&u32::MAX);
     let rise: u64 = rises.iter().sum();
     ensure(at_end || rise == u64::from(answer.numbers.erases), || {

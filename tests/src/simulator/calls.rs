@@ -1,4 +1,4 @@
-//! The four calls: a request in, an answer out.
+//! The calls: a request in, an answer out.
 
 use super::dropping::{completed, sum};
 use super::flash::Flash;
@@ -9,7 +9,7 @@ use super::request::{Answer, Call, Numbers, Parts, Request};
 use super::rules::{Correct, Rules};
 use super::running::take_steps;
 use super::split::split_by_rule;
-use super::wear::count_erases;
+use super::wear::{count_erases, refresh};
 
 /// What a mover must answer.
 pub fn answer(request: &Request) -> Answer {
@@ -29,6 +29,7 @@ pub fn answer_by<R: Rules>(request: &Request) -> Answer {
             Call::Run => run::<R>(request, &mut answer),
             Call::Mend => mend::<R>(request, &mut answer),
             Call::Read => read::<R>(request, &mut answer),
+            Call::Refresh => refresh::<R>(&mut answer.parts.wear),
         },
     }
     R::amend(request, &mut answer);

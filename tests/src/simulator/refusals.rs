@@ -31,6 +31,7 @@ pub fn order(call: Call) -> &'static [Refusal] {
         Call::Run => &[Sizes, Lengths, List, Pinned, Split, Place, Worn],
         Call::Mend => &[Sizes, Lengths, Marks],
         Call::Read => &[Sizes, Lengths, List, Pinned, Split, Marks, Original],
+        Call::Refresh => &[Lengths],
     }
 }
 

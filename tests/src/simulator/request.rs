@@ -11,9 +11,20 @@ pub enum Call {
     Run,
     Mend,
     Read,
+    /// Makes the pair of the record afresh.
+    Refresh,
 }
 
-pub const CALLS: [Call; 4] = [Call::Split, Call::Run, Call::Mend, Call::Read];
+pub const CALLS: [Call; 5] = [
+    Call::Split,
+    Call::Run,
+    Call::Mend,
+    Call::Read,
+    Call::Refresh,
+];
+
+/// The calls that get sizes.
+pub const SIZED_CALLS: [Call; 4] = [Call::Split, Call::Run, Call::Mend, Call::Read];
 
 #[derive(Clone, Copy, Debug, PartialEq, Eq)]
 pub enum Part {
@@ -23,7 +34,7 @@ pub enum Part {
     Store,
     Marks,
     Work,
-    /// The record of erases, one counter a block.
+    /// The record of erases: one counter a block, and the highest.
     Wear,
 }
 
@@ -35,6 +46,7 @@ impl Call {
             Call::Mend => &[Part::Store, Part::Marks, Part::Wear],
             Call::Run => &ALL_PARTS,
             Call::Read => &ALL_PARTS[..Part::Wear as usize],
+            Call::Refresh => &[Part::Wear],
         }
     }
 }

@@ -11,6 +11,7 @@ use super::refusals::{order, Refusal};
 use super::request::{Answer, Call, Part, Request};
 use super::sizes::{Sizes, UNWRITTEN};
 use super::split::Partial;
+use super::wear::{fresh_pair, Pair};
 use std::ops::RangeInclusive;
 
 pub trait Rules {
@@ -176,6 +177,24 @@ pub trait Rules {
     /// A counter after one more erase; at its end it stays.
     fn one_more(count: u32) -> u32 {
         count.saturating_add(1)
+    }
+
+    /// The pair after an erase of this block, whose counter went from one count
+    /// to the other: both are new if the count is higher, and the block is if the
+    /// count is the same and the block lower.
+    fn pair_after((highest, most_worn): Pair, block: u8, _before: u32, count: u32) -> Pair {
+        if count > highest {
+            (count, block)
+        } else if count == highest && block < most_worn {
+            (highest, block)
+        } else {
+            (highest, most_worn)
+        }
+    }
+
+    /// The pair made from the counters.
+    fn refreshed(counters: &[u32]) -> Pair {
+        fresh_pair(counters)
     }
 
     /// Is the record held against the limit?

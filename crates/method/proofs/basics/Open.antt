@@ -3,7 +3,7 @@ use Rattle.flash.specs.Lists.{range, downFrom, iterates, all, any, count, filte
 use Rattle.flash.specs.Tables.{firstFit, numberOr0, refusal}
 use Rattle.flash.specs.Geometry.{isLetter, inRange, letter}
 use Rattle.flash.specs.PageSum.{_⊕_, sum, writtenBytes}
-use Rattle.flash.specs.Wear.{counterAt, raised, risen}
+use Rattle.flash.specs.Wear.{counterAt, raised, replaces, noted, risen, notedUpTo, refreshed}
 use Rattle.flash.specs.Chip.{pageAt, markAt, isBlank, isWhole, isFull, isUnfinished, eraseBlock, writePage}
 use Rattle.split.specs.OneToOne.{metTwice, isOneToOne, keptEntries, badList}
 use Rattle.split.specs.Drops.{isDropped, freePlaces, paired, completed}
@@ -22,5 +22,5 @@ use Rattle.method.specs.Mend.{fullFrom, forwardTorn, backwardTorn, forwa
 use Rattle.method.specs.Answers.{badChip, badParts, marksAnswer, fitsNone, isElsewhere, moveRows, runRows, mendRows, readRows, stepsTaken, runCarriedOut, runRefused, runAnswer, mended, mendAnswer, readAnswer}
 
 unfoldable pub all-open : Unit {0}
-unfolding range downFrom iterates highest all any count filter first concatMap part setPart isSame firstFit numberOr0 refusal isLetter inRange _⊕_ sum writtenBytes pageAt markAt isBlank isWhole isFull isUnfinished eraseBlock writePage metTwice isOneToOne keptEntries badList isDropped freePlaces paired completed sourceBlock destBlock setOf pagesFrom pagesTo isSplit otherEnd swapped blockAt isPageOf isUsed lowestUnused pagesMet exchange giveNext setsGiven splitByRule isPinned movesPinned badRequest splitRows splitAnswer letter D dest pred cycle top isTop coded sentTo markOf writes forwardTurn backwardTurn operations lastPlace operationAt passAt filling filled written above heldAt heldMark marksOf fullOf codedSlot plainSlot finalSlot goBack goOn readSlots fillerPage termPage storedSlots termAt readTerms readPage isAtRest atRest heldOriginals countsAs heldPage stateOf originalsOf writeTerms writtenPage perform step steps isWrite isErase tallied tallyOf operationsFrom fullFrom forwardTorn backwardTorn forwardFull backwardFull lines seen reading counterAt raised risen wornOnce wornBy erasesOf wearsOut isWornOut badChip badParts marksAnswer fitsNone isElsewhere moveRows runRows mendRows readRows stepsTaken runCarriedOut runRefused runAnswer mended mendAnswer readAnswer
+unfolding range downFrom iterates highest all any count filter first concatMap part setPart isSame firstFit numberOr0 refusal isLetter inRange _⊕_ sum writtenBytes pageAt markAt isBlank isWhole isFull isUnfinished eraseBlock writePage metTwice isOneToOne keptEntries badList isDropped freePlaces paired completed sourceBlock destBlock setOf pagesFrom pagesTo isSplit otherEnd swapped blockAt isPageOf isUsed lowestUnused pagesMet exchange giveNext setsGiven splitByRule isPinned movesPinned badRequest splitRows splitAnswer letter D dest pred cycle top isTop coded sentTo markOf writes forwardTurn backwardTurn operations lastPlace operationAt passAt filling filled written above heldAt heldMark marksOf fullOf codedSlot plainSlot finalSlot goBack goOn readSlots fillerPage termPage storedSlots termAt readTerms readPage isAtRest atRest heldOriginals countsAs heldPage stateOf originalsOf writeTerms writtenPage perform step steps isWrite isErase tallied tallyOf operationsFrom fullFrom forwardTorn backwardTorn forwardFull backwardFull lines seen reading counterAt raised replaces noted risen notedUpTo refreshed wornOnce wornBy erasesOf wearsOut isWornOut badChip badParts marksAnswer fitsNone isElsewhere moveRows runRows mendRows readRows stepsTaken runCarriedOut runRefused runAnswer mended mendAnswer readAnswer
 all-open = tt

@@ -1,9 +1,10 @@
 -- What operations add to each counter, and to all together.
 use Rattle.flash.proofs.Kit.{_≡_, sym, ap, _∙_, ⊎-elim, _≢_, List, [], _∷_, _++_, ℕ, zero, suc, _+_, _≤_, _<_, min, arith, length}
-use Rattle.flash.proofs.Kit.{getD, set, length-set, getD-set-same, getD-set-other, not-suc-le-zero, le-of-suc-le-suc, lt-ltb, le-ltb, eq-eqb, ne-eqb}
+use Rattle.flash.proofs.Kit.{getD, set, getD-set-same, getD-set-other, not-suc-le-zero, le-of-suc-le-suc, lt-ltb, le-ltb, eq-eqb, ne-eqb}
 use Rattle.flash.specs.Lists.{count, total}
 use Rattle.flash.specs.declared.wear.Wear.{Wear}
 use Rattle.flash.specs.Wear.{counterEnd, counterCount, counterAt, raised, risen}
+use Rattle.flash.proofs.CounterLaws.{risen-set, risen-length}
 use Rattle.flash.proofs.Comparisons.{eq-cases, lt-cases}
 use Rattle.method.specs.Place.{Operation, write, erase, done}
 use Rattle.method.specs.Step.{isErase, erasesBlock}
@@ -20,17 +21,16 @@ raised-is counter h = ⊎-elim
 
 module _ (wear : Wear) (C : Counters wear) where
   rises : (b : ℕ) → b < counterCount → counterAt (risen b wear) b ≡ min (counterAt wear b + 1) counterEnd
-  unfolding counterAt risen
-  rises b h = getD-set-same (wear .counters) b _ 0 (omega (arith, C .length-is)) ∙ raised-is (counterAt wear b) (C .within b h)
+  unfolding counterAt
+  rises b h = ap (λ (xs : List ℕ). getD xs b 0) (risen-set b wear) ∙ getD-set-same (wear .counters) b _ 0 (omega (arith, C .length-is)) ∙ raised-is (counterAt wear b) (C .within b h)
 
   stays : (b c : ℕ) → c ≢ b → counterAt (risen b wear) c ≡ counterAt wear c
-  unfolding counterAt risen
-  stays b c apart = getD-set-other (wear .counters) b c _ 0 apart
+  unfolding counterAt
+  stays b c apart = ap (λ (xs : List ℕ). getD xs c 0) (risen-set b wear) ∙ getD-set-other (wear .counters) b c _ 0 apart
 
   risen-counters : (b : ℕ) → Counters (risen b wear)
-  unfolding risen
   risen-counters b = record {
-    length-is = length-set (wear .counters) b _ ∙ C .length-is;
+    length-is = risen-length b wear ∙ C .length-is;
     within = λ c h. ⊎-elim
         (λ (e : c ≡ b). rw e (omega (arith, rises b (omega arith))))
         (λ (apart : c ≢ b). omega (arith, stays b c apart, C .within c h))
@@ -78,10 +78,10 @@ total-set (y ∷ xs) (suc i) x h = omega (arith, total-set xs i x (le-of-suc-le-
 
 total-risen : (wear : Wear) → Counters wear → (b : ℕ) → b < counterCount → counterAt wear b < counterEnd
     → total (risen b wear .counters) ≡ total (wear .counters) + 1
-unfolding risen counterAt
+unfolding counterAt
 total-risen wear C b h l =
     let one : raised (counterAt wear b) ≡ counterAt wear b + 1 = omega (arith, raised-is (counterAt wear b) (omega arith)) in
-    omega (arith, one, total-set (wear .counters) b (raised (counterAt wear b)) (omega (arith, C .length-is)))
+    ap total (risen-set b wear) ∙ omega (arith, one, total-set (wear .counters) b (raised (counterAt wear b)) (omega (arith, C .length-is)))
 
 pub total-worn : (operations : List Operation) (wear : Wear) → Counters wear → HaveCounters operations → NoneEnded (wornBy operations wear)
     → total (wornBy operations wear .counters) ≡ total (wear .counters) + count isErase operations

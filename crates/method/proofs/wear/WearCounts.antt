@@ -50,7 +50,7 @@ one-reported event h kept same =
     (λ (q : returns (event .cut) ≡ false). rw q (record { worn = refl; counted = refl; have-counters = tt }))
     (bool-cases (returns (event .cut)))
 
-all-reported : (events : List Event) (h : History) (kept : Wear) → Carried events h kept
+pub all-reported : (events : List Event) (h : History) (kept : Wear) → Carried events h kept
     → Reported kept (wearAtEnd events h kept) (erasesReported events h) (operationsReported events h)
 unfolding Carried wearAtEnd erasesReported operationsReported wornBy count HaveCounters
 all-reported [] h kept C = record { worn = refl; counted = refl; have-counters = tt }

@@ -1,8 +1,9 @@
 -- The counters after operations: of two lists, step by step, and number 12 once the move is under way.
-use Rattle.flash.proofs.Kit.{_≡_, refl, ap, _∙_, ⊎-elim, true, false, _||_, and-false, List, [], _∷_, _++_, Option, none, some, ℕ, zero, suc, _+_, _≤_, _<_, arith, eqb, length, getD, replicate, length-set, ne-eqb, le-ltb}
+use Rattle.flash.proofs.Kit.{_≡_, refl, ap, _∙_, ⊎-elim, true, false, _||_, and-false, List, [], _∷_, _++_, Option, none, some, ℕ, zero, suc, _+_, _≤_, _<_, arith, eqb, length, getD, replicate, ne-eqb, le-ltb}
 use Rattle.flash.specs.Tables.{refusal}
 use Rattle.flash.specs.Chip.{Chip}
 use Rattle.flash.specs.Wear.{counterEnd, counterAt, risen, unworn}
+use Rattle.flash.proofs.CounterLaws.{risen-length}
 use Rattle.flash.proofs.Bools.{bool-cases}
 use Rattle.flash.proofs.Ranges.{none-is}
 use Rattle.split.specs.Request.{Request}
@@ -41,9 +42,9 @@ under-way n wear place limit h = rw (ne-eqb place 0 (λ e. omega arith))
 
 -- ---- the record keeps its length
 worn-once-length : (operation : Operation) (wear : Wear) → length (wornOnce operation wear .counters) ≡ length (wear .counters)
-unfolding wornOnce risen
+unfolding wornOnce
 worn-once-length (write pass block page) wear = refl
-worn-once-length (erase block) wear = length-set (wear .counters) block _
+worn-once-length (erase block) wear = risen-length block wear
 worn-once-length done wear = refl
 
 pub worn-length : (operations : List Operation) (wear : Wear) → length (wornBy operations wear .counters) ≡ length (wear .counters)
@@ -61,7 +62,7 @@ run-wear-length R chip work wear place budget limit = ⊎-elim
     (bool-cases (eqb (refusal (runRows R chip work wear place limit)) 0))
 
 pub mend-wear-length : (Z : Sizes) (chip : Chip) (wear : Wear) → length (mendAnswer Z chip wear .wear .counters) ≡ length (wear .counters)
-unfolding mendAnswer mended risen
+unfolding mendAnswer mended
 mend-wear-length Z chip wear = ⊎-elim
     (λ (q : eqb number 0 ≡ true). go q (reading Z (chip .marks)) refl)
     (λ (q : eqb number 0 ≡ false). rw q refl)
@@ -72,7 +73,7 @@ mend-wear-length Z chip wear = ⊎-elim
 
     found-length : (place : ℕ) (toErase : Option ℕ) → length (mended Z chip wear (record { place = place; toErase = toErase }) .wear .counters) ≡ length (wear .counters)
     found-length place none = refl
-    found-length place (some b) = length-set (wear .counters) b _
+    found-length place (some b) = risen-length b wear
 
     go : eqb number 0 ≡ true → (found : Option Reading) → reading Z (chip .marks) ≡ found → length (mendAnswer Z chip wear .wear .counters) ≡ length (wear .counters)
     go q none e = rw (q, e)

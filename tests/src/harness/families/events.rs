@@ -78,6 +78,7 @@ struct List {
 impl List {
     fn event(&mut self, player: &mut Player, random: &mut Random) -> Outcome {
         match random.below(if self.quiet { 10 } else { 15 }) {
+            0 if random.one_in(4) => self.refresh(player),
             0..=3 => self.run(player, random),
             4..=6 => self.read(player, random),
             7 => self.other_place(player, random),
@@ -160,6 +161,14 @@ impl List {
             _ => random.pick(&[MendCut::NotBegun, MendCut::Erased]).clone(),
         };
         self.story.cut_mend(player, &cut)
+    }
+
+    /// The pair made afresh, which demand 3 does not speak of.
+    fn refresh(&mut self, player: &mut Player) -> Outcome {
+        let request = self.story.scene.request(Call::Refresh);
+        let answer = player.event(&request)?;
+        self.story.scene.wear = answer.parts.wear;
+        Ok(())
     }
 
     fn read(&mut self, player: &mut Player, random: &mut Random) -> Outcome {

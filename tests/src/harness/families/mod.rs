@@ -4,6 +4,7 @@ mod drops;
 mod events;
 mod every_cut;
 mod half_written;
+mod highest;
 mod limits;
 mod nonsense;
 mod other_splits;
@@ -40,7 +41,7 @@ const EVENTS: Family = Family {
 /// The families that look at demand 3 over whole lists.
 pub static LISTS: [Family; 2] = [EVERY_CUT, EVENTS];
 
-pub static FAMILIES: [Family; 17] = [
+pub static FAMILIES: [Family; 18] = [
     Family {
         name: "refusals, one and two at once",
         cases: refusals::cases,
@@ -48,6 +49,10 @@ pub static FAMILIES: [Family; 17] = [
     Family {
         name: "erase counters and their limit",
         cases: wear::cases,
+    },
+    Family {
+        name: "the highest counter kept at hand",
+        cases: highest::cases,
     },
     Family {
         name: "all lists of n x m up to 6",

@@ -76,18 +76,19 @@ fn flawed(comparer: &mut Comparer, request: &Request) -> Outcome {
 pub fn flaws(request: &Request) -> Vec<Flaw> {
     let call = request.call;
     let mut flaws = size_flaws();
-    if call != Call::Mend {
+    let takes = |part| call.parts().contains(&part);
+    if takes(Part::List) {
         flaws.extend(list_flaws(request));
         flaws.extend(pin_flaws(request));
     }
-    if call == Call::Run || call == Call::Read {
+    if takes(Part::Sets) && call != Call::Split {
         flaws.extend(set_flaws());
     }
-    if call != Call::Split {
+    if takes(Part::Marks) {
         flaws.extend(flash_flaws());
     }
     flaws.extend(number_flaws(request));
-    if call == Call::Run || call == Call::Mend {
+    if takes(Part::Wear) {
         flaws.extend(wear_flaws());
     }
     flaws.extend(call.parts().iter().flat_map(|&part| length_flaws(part)));
@@ -201,7 +202,7 @@ fn flash_flaws() -> Vec<Flaw> {
 }
 
 /// Records and limits that refuse a run from place 0 and no other call; the
-/// last counters refuse none, but with 64 blocks.
+/// last counters refuse none, but with 64 blocks, nor do wrong pairs.
 fn wear_flaws() -> Vec<Flaw> {
     let full = |block: fn(&Request) -> usize| -> Flaw {
         Box::new(move |request| {
@@ -214,6 +215,7 @@ fn wear_flaws() -> Vec<Flaw> {
         full(|request| request.sizes.data_blocks()),
         full(|_| 64),
         Box::new(|request| request.parts.wear.fill(255)),
+        Box::new(|request| request.parts.wear[260..].fill(255)),
         Box::new(|request| request.wear_limit = 0),
     ]
 }

@@ -7,7 +7,7 @@ use crate::scene::Scene;
 use crate::simulator::request::Call;
 use crate::simulator::rules::Correct;
 use crate::simulator::sizes::Sizes;
-use crate::simulator::wear::{record, COUNTERS};
+use crate::simulator::wear::{record, record_with, Pair, COUNTERS};
 
 pub fn sizes(n: usize, m: usize, page_bytes: usize, s: usize) -> Sizes {
     let [n, m, page_bytes, s] = [n, m, page_bytes, s].map(|number| number as u32);
@@ -69,11 +69,26 @@ fn worn(mut scene: Scene, random: &mut Random) -> Scene {
             *count = u32::MAX - random.below(2) as u32;
         }
     }
-    scene.wear = record::<Correct>(&counters);
+    scene.wear = any_pair(&counters, random);
     scene
 }
 
-/// Any counters, half of them near their end or at it.
+/// One record in three has a wrong pair: near the counts that it has, or far.
+fn any_pair(counters: &[u32], random: &mut Random) -> Vec<u8> {
+    if !random.one_in(3) {
+        return record::<Correct>(counters);
+    }
+    let near = *random.pick(counters);
+    let pair: Pair = match random.below(4) {
+        0 => (near, random.below(COUNTERS) as u8),
+        1 => (near.saturating_add(1), random.byte()),
+        2 => (near.saturating_sub(1), random.byte()),
+        _ => (random.number() as u32, random.byte()),
+    };
+    record_with::<Correct>(counters, pair)
+}
+
+/// Any counters, half of them near their end or at it, and any pair.
 pub fn any_record(random: &mut Random) -> Vec<u8> {
     let counters: Vec<u32> = (0..COUNTERS)
         .map(|_| match random.below(4) {
@@ -83,7 +98,7 @@ pub fn any_record(random: &mut Random) -> Vec<u8> {
             _ => random.number() as u32,
         })
         .collect();
-    record::<Correct>(&counters)
+    any_pair(&counters, random)
 }
 
 /// Originals with any bytes, with 255s among them, with nothing but 255s or

@@ -118,10 +118,24 @@ fn neighbours(comparer: &mut Comparer, at_rest: &Scene) -> Outcome {
 fn lengths(comparer: &mut Comparer, at_rest: &Scene) -> Outcome {
     let mut scene = at_rest.clone();
     let blocks = scene.sizes.data_blocks() + 1;
-    for length in [0, 4, 4 * blocks, 256, 259, 260, 261, 264, 265, 520] {
+    for length in [
+        0,
+        4,
+        5,
+        4 * blocks,
+        4 * blocks + 5,
+        260,
+        261,
+        264,
+        265,
+        266,
+        269,
+        530,
+    ] {
         scene.wear = vec![0; length];
         comparer.compare(&scene.run_request(0, 1))?;
         comparer.compare(&scene.request(Call::Mend))?;
+        comparer.compare(&scene.request(Call::Refresh))?;
     }
     Ok(())
 }

@@ -10,7 +10,7 @@ returns c =
     mend-other-length (a .sizes) (record { store = a .store .now; marks = a .marks .now }) (a .wear .now) (c .before .before .if1 .taken) _ (c .unworn .result) (c .before .bad-length .ensures)
 
 -- the record has its length
-sized : (c : tie.After-mend) → length (c .before .before .before .before .before .before .before .before .before .args .wear .now) ≡ 260
+sized : (c : tie.After-mend) → length (c .before .before .before .before .before .before .before .before .before .args .wear .now) ≡ 265
 sized c = c .before .before .before .before .before .if1 .left
 
 decode-wear-requires : tie.Need-decode-wear-requires

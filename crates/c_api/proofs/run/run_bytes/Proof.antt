@@ -27,7 +27,7 @@ decode-wear-requires : tie.Need-decode-wear-requires
 decode-wear-requires c κs = c .before .before .before .before .before .before .before .before .if1 .left
 
 -- the record has its length, and what the run returned is that of the entries decoded
-sized : (c : tie.After-run) → length (c .before .before .before .before .before .before .before .before .before .before .before .before .before .before .before .before .before .before .args .wear .now) ≡ 260
+sized : (c : tie.After-run) → length (c .before .before .before .before .before .before .before .before .before .before .before .before .before .before .before .before .before .before .args .wear .now) ≡ 265
 sized c = c .before .before .before .before .before .before .before .before .before .before .if1 .left
 
 encode-wear-requires : tie.Need-encode-wear-requires

@@ -1,4 +1,4 @@
--- `decode_wear` reads a counter a turn.
+-- `decode_wear` reads a counter a turn, and then the pair.
 use Rattle.flash.proofs.Kit.{_≡_, refl, _++_, _-_, _≤_, arith, needs, length, take, drop}
 use Rattle.c_api.specs.Wear.{spelledAt, wearOf}
 use Rattle.c_api.proofs.WearLaws.{read-more, read-all}
@@ -23,7 +23,10 @@ loop-again c =
     (read-more (at .before .before .args .bytes .now) _ (l .counters) (l .b) _ (l .inv .2) (omega arith) (l .inv .0) (c .counter .ensures), omega arith, refl)
 
 returns : tie.Need-returns Inv-loop μ-loop
-returns c = (let l = c .before .loop in read-all (c .before .before .before .args .bytes .now) _ (l .counters) (l .b) (l .inv .2) (omega arith) (l .inv .0))
+unfolding spelledAt
+returns c =
+    let l = c .before .before .before .before .before .before .before in
+    read-all (l .before .before .args .bytes .now) _ (l .loop .counters) (l .loop .b) _ (l .loop .inv .2) (omega arith) (l .loop .inv .0) (c .before .counter2 .ensures)
 
 pub decode-wear-spec : {M : Type 1} → statement M
 decode-wear-spec =
@@ -46,4 +49,13 @@ decode-wear-spec =
     (λ c. search needs)
     (λ c. search needs)
     loop-again
+    (λ c. search needs)
+    (λ c. search needs)
+    (λ c. search needs)
+    (λ c. search needs)
+    (λ c. search needs)
+    (λ c. search needs)
+    (λ c. search needs)
+    (λ c κs. search needs)
+    (λ c. search needs)
     returns)

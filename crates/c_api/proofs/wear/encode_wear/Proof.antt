@@ -1,83 +1,39 @@
--- `encode_wear` writes the bytes of a counter a turn.
-use Rattle.flash.proofs.Kit.{_≡_, refl, ap, _∙_, _++_, _+_, _*_, _-_, _≤_, arith, needs, length, take, drop}
-use Rattle.c_api.specs.Wear.{wearBytes}
-use Rattle.c_api.proofs.WearLaws.{part-length, laid-length, write-more, write-all}
+-- `encode_wear` writes the counters, and the pair behind them.
+use Rattle.flash.proofs.Kit.{sym, ap, _∙_, arith, needs, length, length-take-le}
+use Rattle.c_api.proofs.WearLaws.{record-put, record-length}
 use Rattle.c_api.proofs.wear.encode_wear.Statement.{statement}
 use Rattle.c_api.proofs.wear.encode_wear.Tie as tie
 
-abbrev Inv-loop : tie.InvT-loop
-Inv-loop bytes₀ wear b₀ bytes b =
-    (bytes ≡ take (b * 4) (wearBytes wear) ++ drop (b * 4) bytes₀) × (b ≤ 65) × (length bytes ≡ length bytes₀)
+slice-aggregate-encode-counters : tie.Need-slice-aggregate-encode-counters
+slice-aggregate-encode-counters c = (let s = c .before .before in sym (length-take-le 260 (s .args .bytes .now) (omega (arith, s .pre .0))))
 
-abbrev μ-loop : tie.MeasureT-loop
-μ-loop bytes₀ wear b₀ bytes b = 65 - b
+encode-counters-requires : tie.Need-encode-counters-requires
+encode-counters-requires c κs = (let s = c .before .before in (length-take-le 260 (s .args .bytes .now) (omega (arith, s .pre .0)), s .pre .1))
 
-loop-holds : tie.Need-loop-holds Inv-loop μ-loop
-loop-holds c = (refl, omega arith, refl)
+same-length : tie.Need-same-length
+same-length c =
+    let e = c .before .before .before .before .before .before in
+    let s = e .before .before .before in
+    ap length (record-put (s .args .wear) (s .args .bytes .now) _ _ (s .pre .1) (s .pre .0) (e .encode-counters .ensures) (c .before .before .spell .ensures))
+    ∙ record-length (s .args .wear) (s .pre .1) ∙ sym (s .pre .0)
 
-mul-at : tie.Need-mul-at Inv-loop μ-loop
-mul-at c = search needs
-
-mul-spell : tie.Need-mul-spell Inv-loop μ-loop
-mul-spell c = search needs
-
-element-copy-out-spell : tie.Need-element-copy-out-spell Inv-loop μ-loop
-element-copy-out-spell c = search needs
-
-add-spell : tie.Need-add-spell Inv-loop μ-loop
-add-spell c = search needs
-
-sub-spell : tie.Need-sub-spell Inv-loop μ-loop
-sub-spell c = search needs
-
-part-spell-start : tie.Need-part-spell-start Inv-loop μ-loop
-part-spell-start c = omega arith
-
-part-spell-end : tie.Need-part-spell-end Inv-loop μ-loop
-part-spell-end c = (let l = c .before .before in omega (arith, l .loop .inv .2, l .before .before .pre .0))
-
-spell-requires : tie.Need-spell-requires Inv-loop μ-loop
-spell-requires c κs =
-    let l = c .before .before .before in
-    part-length (l .loop .bytes) (l .loop .b) (l .loop .b * 4 + 4 - l .loop .b * 4) (omega arith) (omega (arith, l .loop .inv .2, l .before .before .pre .0))
-
-add-b : tie.Need-add-b Inv-loop μ-loop
-add-b c = search needs
-
-loop-less : tie.Need-loop-less Inv-loop μ-loop
-loop-less c = search needs
-
-loop-again : tie.Need-loop-again Inv-loop μ-loop
-loop-again c =
-    let at = c .before .before .before .before .before .before in
-    let l = at .loop in
-    let s = at .before .before in
-    let more = write-more _ _ (l .bytes) (l .b) (l .b * 4 + 4 - l .b * 4) (s .pre .1) (s .pre .0) (omega arith) (omega arith) (l .inv .0) _ (c .before .before .spell .ensures) in
-    (more, omega arith, ap length more ∙ laid-length _ _ ((l .b + 1) * 4) (s .pre .1) (s .pre .0) (omega arith))
-
-same-length : tie.Need-same-length Inv-loop μ-loop
-same-length c = c .before .loop .inv .2
-
-returns : tie.Need-returns Inv-loop μ-loop
-returns c = (let l = c .before in write-all _ _ (l .loop .bytes) (l .loop .b) (l .before .before .pre .1) (l .before .before .pre .0) (omega arith) (l .loop .inv .0))
+returns : tie.Need-returns
+returns c =
+    let e = c .before .before .before .before .before .before in
+    let s = e .before .before .before in
+    record-put (s .args .wear) (s .args .bytes .now) _ _ (s .pre .1) (s .pre .0) (e .encode-counters .ensures) (c .before .before .spell .ensures)
 
 pub encode-wear-spec : {M : Type 1} → statement M
 encode-wear-spec =
     tie.close
     (tie.spec
-    Inv-loop
-    μ-loop
-    loop-holds
-    mul-at
-    mul-spell
-    element-copy-out-spell
-    add-spell
-    sub-spell
-    part-spell-start
-    part-spell-end
-    spell-requires
-    add-b
-    loop-less
-    loop-again
+    (λ c. search needs)
+    slice-aggregate-encode-counters
+    encode-counters-requires
+    (λ c. search needs)
+    (λ c. search needs)
+    (λ c. search needs)
+    (λ c κs. search needs)
+    (λ c. search needs)
     same-length
     returns)
