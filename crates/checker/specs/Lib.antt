@@ -3,3 +3,4 @@ pub mod Lines
 pub mod Pages
 pub mod Answer
 pub mod Examples
+pub mod inner

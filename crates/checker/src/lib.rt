@@ -1,4 +1,6 @@
 // Another mover's steps: whether a listing of them would survive a power cut at any line. The definitions are in specs/.
+mod basis;
+
 ghost use Rattle.checker.specs.Examples.{Examples};
 
 // The theorems about the definitions, as the contract of a function that does nothing: the check demands their proofs.

@@ -1,0 +1,2 @@
+-- How the code works inside: elimination over masks, and what is told of a line. Nothing here has to be believed.
+pub mod Elimination
