@@ -6,13 +6,13 @@ use Rattle.split.specs.OneToOne.{metTwice, isOneToOne}
 use Rattle.listing.specs.Numbers.{isDigit, spelled}
 use Rattle.listing.specs.Digits.{digitOf, digits, placesUpTo, decimal}
 use Rattle.listing.specs.Lines.{originalsLine, eraseLine, endLine}
-use Rattle.checker.specs.Lines.{leading, behind, isNumber, isField, fields, behindFields, isRising, formed, readEnd, readErase, readWrite, readStep, readLine}
+use Rattle.checker.specs.Lines.{leading, behind, isNumber, isField, fields, behindFields, isRising, areOriginals, formed, readEnd, readErase, readWrite, readStep, readLine}
 use Rattle.checker.specs.Pages.{maskOf, restingPages, isBadWrite, pageWritten, blockErased, isSum, areDetermined, survives, isRequested}
 use Rattle.checker.specs.Answer.{turn, thenCheck, checkFrom, areSizes, checkRows, checkAnswer}
 use Rattle.checker.specs.Examples.{Examples}
 
 pub examples : Examples
-unfolding range all any concatMap setPart isSame firstFit numberOr0 refusal metTwice isOneToOne isDigit spelled digitOf digits placesUpTo decimal originalsLine eraseLine endLine leading behind isNumber isField fields behindFields isRising formed readEnd readErase readWrite readStep readLine maskOf restingPages isBadWrite pageWritten blockErased isSum areDetermined survives isRequested turn thenCheck checkFrom areSizes checkRows checkAnswer
+unfolding range all any concatMap setPart isSame firstFit numberOr0 refusal metTwice isOneToOne isDigit spelled digitOf digits placesUpTo decimal originalsLine eraseLine endLine leading behind isNumber isField fields behindFields isRising areOriginals formed readEnd readErase readWrite readStep readLine maskOf restingPages isBadWrite pageWritten blockErased isSum areDetermined survives isRequested turn thenCheck checkFrom areSizes checkRows checkAnswer
 examples = record {
   method = refl;
   other-counts = refl;

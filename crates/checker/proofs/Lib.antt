@@ -2,4 +2,10 @@ pub mod SumLaws
 pub mod ReduceLaws
 pub mod BasisLaws
 pub mod RowTurns
+pub mod TextLaws
+pub mod LineLaws
+pub mod StepLaws
+pub mod PageLaws
+pub mod TurnLaws
+pub mod RowsLaws
 pub mod Exampled

@@ -38,6 +38,10 @@ unfoldable pub isRising : (least : ℕ) → List ℕ → Bool
 isRising least [] = true
 isRising least (k ∷ ks) = leb least k && isRising (suc k) ks
 
+-- one or more, below `count`
+unfoldable pub areOriginals : (count : ℕ) → List ℕ → Bool
+areOriginals count ks = leb 1 (length ks) && isRising 0 ks && all (λ k. ltb k count) ks
+
 -- what a line says
 pub data Line : Type 0 where
   write : (block page : ℕ) → (originals : List ℕ) → Line
@@ -75,7 +79,7 @@ unfoldable pub readWrite : (n m : ℕ) → (text : List ℕ) → Read
 readWrite n m text =
     let values = fields (2 + n * m) text in
     let originals = drop 2 values in
-    formed (leb 3 (length values) && leb (getD values 0 0) n && ltb (getD values 1 0) m && isRising 0 originals && all (λ k. ltb k (n * m)) originals)
+    formed (leb (getD values 0 0) n && ltb (getD values 1 0) m && areOriginals (n * m) originals)
     (write (getD values 0 0) (getD values 1 0) originals) (behindFields (2 + n * m) text)
 
 -- the step's own number, and behind it ` W` or ` E`

@@ -1,5 +1,10 @@
 // Another mover's steps: whether a listing of them would survive a power cut at any line. The definitions are in specs/.
 mod basis;
+pub mod check;
+mod line;
+mod number;
+mod pages;
+mod turn;
 
 ghost use Rattle.checker.specs.Examples.{Examples};
 
