@@ -55,7 +55,7 @@
  * must not be NULL. This is all that a caller has to take care of; the rest is tested. The helpers at the end, which take a struct, assert
  * that its parts are apart, unless NDEBUG is defined.
  *
- * After a refusal every number out is 0, and every lent byte is as it was.
+ * After a refusal every number out is 0, and every lent byte is as it was; only mover_check_listing tells a line with 13, 14 and 15.
  */
 #ifndef MOVER_H
 #define MOVER_H
@@ -79,7 +79,11 @@ enum mover_refusal {
     MOVER_BAD_RECORD = 8,    /* a HEX record of another form or type, or with a wrong checksum */
     MOVER_BAD_ADDRESS = 9,   /* a HEX data byte outside the image, or a record that runs over a 64 KiB span */
     MOVER_BAD_TEXT = 10,     /* a HEX data byte given twice, no end record, or anything after it */
-    MOVER_BAD_PINS = 11      /* the list sends a pinned page to another address and does not drop it; this comes between 3 and 4 */
+    MOVER_BAD_PINS = 11,     /* the list sends a pinned page to another address and does not drop it; this comes between 3 and 4 */
+    MOVER_BAD_LINE = 13,     /* a line of a listing of another form, with a wrong step number, no original, a number outside the sizes, or
+                                after the end line */
+    MOVER_BAD_WRITE = 14,    /* a listed write to a page that is not blank, or below one written in its block since the last erase */
+    MOVER_LOST_ORIGINAL = 15 /* after a listed line an original is no longer determined by the pages */
 };
 
 /* The list entry of a page that is thrown away. */
@@ -173,6 +177,21 @@ uint32_t mover_hex_read(uint32_t n, uint32_t m, uint32_t page_bytes, const uint8
  * Returns 0, or 1, 2, or 5 if a mark of blocks 1 to n is not 0, or the spare is not blank. */
 uint32_t mover_hex_write(uint32_t n, uint32_t m, uint32_t page_bytes, const uint8_t *store, uint64_t store_len,
                          const uint8_t *marks, uint64_t marks_len, uint8_t *text, uint64_t text_len);
+
+/* Checks another mover's steps: whether a listing of them would survive a power cut at any line and ends with every page where the list sends
+ * it. The sizes are those of a move whose n * m is at most 64, and nothing is dropped: MOVER_DROPPED is 3 here. `text` is lines, each ended by a
+ * line feed, as the step program writes them with --originals; any length will do, 0 too:
+ *   STEP W BLOCK PAGE ORIGINAL ..   writes a page that stores the sum of these originals, one or more, rising
+ *   STEP E BLOCK                    erases a block
+ *   end WRITES ERASES               the last line, with the counts
+ * Steps are counted from 0. Numbers are decimal without leading zeros, one space stands between fields, and nothing else stands anywhere.
+ * The listing starts from a store at rest. Lines are judged one by one, and the first faulty one decides: 13 before 14 before 15.
+ *   *line      with 13, 14 and 15 the faulty line, counted from 1, or 4294967295 where it is higher; else 0
+ *   *accepted  1 if no line is faulty, the end counts are true, and the last state is the one that the list asks for, with the spare blank; else 0:
+ *              a listing that only ends wrong, or has no end line, is answered with 0 and no refusal
+ * Changes nothing. Returns 0, or 1 (also if n * m is above 64), 2, 3, 13, 14 or 15. */
+uint32_t mover_check_listing(uint32_t n, uint32_t m, const uint8_t *list, uint64_t list_len, const uint8_t *text, uint64_t text_len,
+                             uint32_t *line, uint32_t *accepted);
 
 /* How long the lent parts are, in bytes. */
 static inline uint64_t mover_list_bytes(uint32_t n, uint32_t m)

@@ -1,3 +1,4 @@
 -- Laws of the exports, used by their proofs.
 pub mod BytesLaws
 pub mod ExportLaws
+pub mod CheckLaws

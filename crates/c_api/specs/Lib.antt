@@ -1,3 +1,4 @@
 -- What the C exports promise: each call on the list that its bytes spell.
 pub mod Bytes
 pub mod Exports
+pub mod CheckExport
