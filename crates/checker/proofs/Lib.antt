@@ -8,4 +8,10 @@ pub mod StepLaws
 pub mod PageLaws
 pub mod TurnLaws
 pub mod RowsLaws
+pub mod DecimalLaws
+pub mod PrintedLines
+pub mod SoundLaws
+pub mod HeldLaws
+pub mod PlacesHeld
+pub mod MethodPassed
 pub mod Exampled

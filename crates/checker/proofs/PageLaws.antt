@@ -86,14 +86,14 @@ module _ (m : ℕ) (pages : List ℕ) (block page : ℕ) (inside : page < m) (go
       sum-kept pages (slot m block page) mask (2 ^ k) was-blank (all-in (λ k. isSum pages (2 ^ k)) 0 count d k a h))
 
   -- with that page taken as lost, the pages are what they were
-  lost : (mask : ℕ) → pageWritten m (pageWritten m pages block page mask) block page 0 ≡ pages
+  pub write-back : (mask : ℕ) → pageWritten m (pageWritten m pages block page mask) block page 0 ≡ pages
   unfolding pageWritten
-  lost mask = set-back pages (slot m block page) mask was-blank
+  write-back mask = set-back pages (slot m block page) mask was-blank
 
   pub write-survives : (count mask : ℕ) → areDetermined count pages ≡ true
       → survives count (pageWritten m pages block page mask) (pageWritten m (pageWritten m pages block page mask) block page 0) ≡ true
   unfolding survives
-  write-survives count mask d = rw (written-determined count mask d) (ap (areDetermined count) (lost mask) ∙ d)
+  write-survives count mask d = rw (written-determined count mask d) (ap (areDetermined count) (write-back mask) ∙ d)
 
 -- ---- an erase: with the block taken as lost, nothing more is lost
 pub erased-twice : (m : ℕ) (pages : List ℕ) (block : ℕ) → block * m + m ≤ length pages

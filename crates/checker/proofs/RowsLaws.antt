@@ -1,8 +1,8 @@
 -- The rows of the call: which of them applies, and what all together say.
-use Rattle.flash.proofs.Kit.{_≡_, sym, ap, _∙_, _≢_, true, false, _&&_, not, List, ℕ, _*_, _≤_, mul-le-mul, arith, eqb, leb, length, getD, eqb-true, eq-eqb, ne-eqb, leb-true}
+use Rattle.flash.proofs.Kit.{_≡_, sym, ap, _∙_, _≢_, ⊎-elim, true, false, _&&_, not, List, [], ℕ, _*_, _≤_, mul-le-mul, arith, eqb, leb, length, getD, eqb-true, eq-eqb, ne-eqb, leb-true}
 use Rattle.flash.specs.Lists.{any}
 use Rattle.flash.specs.Tables.{firstFit, numberOr0, refusal}
-use Rattle.flash.proofs.Bools.{and-left, and-right, fails}
+use Rattle.flash.proofs.Bools.{bool-cases, and-left, and-right, fails}
 use Rattle.flash.proofs.Searches.{any-find}
 use Rattle.split.specs.OneToOne.{dropped, badList, isOneToOne}
 use Rattle.split.proofs.OneToOneLaws.{entry-lt}
@@ -65,3 +65,28 @@ module _ (n m : ℕ) (list text : List ℕ) where
           pub accepted-rows : checkFrom n m list (length text) text (start n m list) ≡ checkAnswer n m list text
           unfolding checkAnswer checkRows refusal firstFit numberOr0
           accepted-rows = rw (sizes, eq-eqb (length list) (n * m) size, one-to-one-is ∙ good)
+
+-- no row applies
+pub rows-pass : (n m : ℕ) (list : List ℕ) → refusal (checkRows n m list) ≡ 0 → Checkable n m list
+unfolding checkRows refusal firstFit numberOr0
+rows-pass n m list e = ⊎-elim
+    (λ (sizes : areSizes n m ≡ true). ⊎-elim
+    (λ (size : eqb (length list) (n * m) ≡ true). ⊎-elim
+    (λ (one : isOneToOne (n * m) list ≡ true).
+    let s = sizes-few n m list [] sizes in
+    record { n-low = s .0; n-high = s .1; m-low = s .2; m-high = s .3; few = s .4; size = eqb-true (length list) (n * m) size; one-to-one = one })
+    (λ (one : isOneToOne (n * m) list ≡ false). absurd (omega (arith, sym (row-3 sizes size one) ∙ e)))
+    (bool-cases (isOneToOne (n * m) list)))
+    (λ (size : eqb (length list) (n * m) ≡ false). absurd (omega (arith, sym (row-2 sizes size) ∙ e)))
+    (bool-cases (eqb (length list) (n * m))))
+    (λ (sizes : areSizes n m ≡ false). absurd (omega (arith, sym (row-1 sizes) ∙ e)))
+    (bool-cases (areSizes n m))
+  where
+    row-1 : areSizes n m ≡ false → refusal (checkRows n m list) ≡ 1
+    row-1 f = rw f
+
+    row-2 : areSizes n m ≡ true → eqb (length list) (n * m) ≡ false → refusal (checkRows n m list) ≡ 2
+    row-2 t f = rw (t, f)
+
+    row-3 : areSizes n m ≡ true → eqb (length list) (n * m) ≡ true → isOneToOne (n * m) list ≡ false → refusal (checkRows n m list) ≡ 3
+    row-3 t s f = rw (t, s, f)

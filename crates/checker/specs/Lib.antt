@@ -2,5 +2,7 @@
 pub mod Lines
 pub mod Pages
 pub mod Answer
+pub mod Method
+pub mod Claims
 pub mod Examples
 pub mod inner

@@ -6,9 +6,12 @@ mod number;
 mod pages;
 mod turn;
 
+ghost use Rattle.checker.specs.Claims.{SumsAreChoices, MethodPasses};
 ghost use Rattle.checker.specs.Examples.{Examples};
 
 // The theorems about the definitions, as the contract of a function that does nothing: the check demands their proofs.
 pub fn claims()
+    ensures sums_are_choices { λ _. ⌜ SumsAreChoices ⌝ }
+    ensures method_passes { λ _. ⌜ MethodPasses ⌝ }
     ensures examples { λ _. ⌜ Examples ⌝ }
 {}
