@@ -14,4 +14,6 @@ pub mod SoundLaws
 pub mod HeldLaws
 pub mod PlacesHeld
 pub mod MethodPassed
+pub mod LinesBack
+pub mod AcceptedLaws
 pub mod Exampled

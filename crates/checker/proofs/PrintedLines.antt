@@ -15,7 +15,7 @@ use Rattle.checker.proofs.TextLaws.{three-letters}
 use Rattle.checker.proofs.DecimalLaws.{leading-of, behind-of, leading-digits, leading-behind, decimal-digits, decimal-value, decimal-number, number-back}
 
 -- fields as they are printed
-abbrev spaced : List ℕ → List ℕ
+abbrev pub spaced : List ℕ → List ℕ
 spaced values = concatMap (λ k. 32 ∷ decimal k) values
 
 -- ---- printed, then read
@@ -120,11 +120,11 @@ originals-few most ks g =
     let few = rising-few ks 0 most rises (and-right (leb 1 (length ks) && isRising 0 ks) below g) in
     omega arith
 
-five : (a b c d e f : List ℕ) → (a ++ b ++ c ++ d ++ e) ++ f ≡ a ++ (b ++ (c ++ (d ++ (e ++ f))))
+pub five : (a b c d e f : List ℕ) → (a ++ b ++ c ++ d ++ e) ++ f ≡ a ++ (b ++ (c ++ (d ++ (e ++ f))))
 five a b c d e f =
     append-assoc (a ++ b ++ c ++ d) e f ∙ append-assoc (a ++ b ++ c) d (e ++ f) ∙ append-assoc (a ++ b) c (d ++ (e ++ f)) ∙ append-assoc a b (c ++ (d ++ (e ++ f)))
 
-three : (a b c d : List ℕ) → (a ++ b ++ c) ++ d ≡ a ++ (b ++ (c ++ d))
+pub three : (a b c d : List ℕ) → (a ++ b ++ c) ++ d ≡ a ++ (b ++ (c ++ d))
 three a b c d = append-assoc (a ++ b) c d ∙ append-assoc a b (c ++ d)
 
 pub read-write : (n m step block page : ℕ) (ks rest : List ℕ) → block ≤ n → page < m → areOriginals (n * m) ks ≡ true
