@@ -16,4 +16,5 @@ pub mod PlacesHeld
 pub mod MethodPassed
 pub mod LinesBack
 pub mod AcceptedLaws
+pub mod FirstLaws
 pub mod Exampled

@@ -52,11 +52,11 @@ last-some : (front : List ℕ) → 0 < length (front ++ (10 ∷ []))
 last-some front = omega (arith, length-append front (10 ∷ []))
 
 -- every line has a line feed
-write-some : (step b q : ℕ) (ks : List ℕ) → 0 < length (originalsLine step b q ks)
+pub write-some : (step b q : ℕ) (ks : List ℕ) → 0 < length (originalsLine step b q ks)
 unfolding originalsLine
 write-some step b q ks = last-some (decimal step ++ (32 ∷ 87 ∷ 32 ∷ decimal b) ++ (32 ∷ decimal q) ++ concatMap (λ k. 32 ∷ decimal k) ks)
 
-erase-some : (step b : ℕ) → 0 < length (eraseLine step b)
+pub erase-some : (step b : ℕ) → 0 < length (eraseLine step b)
 unfolding eraseLine
 erase-some step b = last-some (decimal step ++ (32 ∷ 69 ∷ 32 ∷ decimal b))
 
@@ -87,14 +87,14 @@ module _ (n m : ℕ) (list : List ℕ) where
 
   -- ---- one sound line
   -- what is counted after it
-  after : Line → Progress → Progress
+  unfoldable pub after : Line → Progress → Progress
   after line P = record {
     writes = P .writes + cond (isWrite n m list line) 1 0;
     erases = P .erases + cond (isErase n m list line) 1 0;
     pages = pagesAfter n m list line (P .pages);
   }
 
-  sound-read : (line : Line) (pages : List ℕ) (step : ℕ) (rest : List ℕ) → Sound n m list line pages
+  pub sound-read : (line : Line) (pages : List ℕ) (step : ℕ) (rest : List ℕ) → Sound n m list line pages
       → readLine n m step (printed step line ++ rest) ≡ record { line = line; rest = rest }
   unfolding printed
   sound-read (write b q ks) pages step rest S = read-write n m step b q ks rest (S .named .0) (S .named .1) (S .named .2)
@@ -102,7 +102,7 @@ module _ (n m : ℕ) (list : List ℕ) where
   sound-read (end w e) pages step rest S = absurd (S .allowed)
   sound-read other pages step rest S = absurd (S .allowed)
 
-  sound-turn : (line : Line) (P : Progress) (rest : List ℕ) → Sound n m list line (P .pages) → turn n m list line rest P ≡ on (after line P)
+  pub sound-turn : (line : Line) (P : Progress) (rest : List ℕ) → Sound n m list line (P .pages) → turn n m list line rest P ≡ on (after line P)
   unfolding turn pagesAfter pagesLost after isWrite isErase
   sound-turn (write b q ks) P rest S =
       let none : P .erases + 0 ≡ P .erases = omega arith in
@@ -120,7 +120,7 @@ module _ (n m : ℕ) (list : List ℕ) where
   sound-one (end w e) pages S = absurd (S .allowed)
   sound-one other pages S = absurd (S .allowed)
 
-  step-after : (line : Line) (P : Progress) → Sound n m list line (P .pages) → stepOf (after line P) ≡ suc (stepOf P)
+  pub step-after : (line : Line) (P : Progress) → Sound n m list line (P .pages) → stepOf (after line P) ≡ suc (stepOf P)
   unfolding after
   step-after line P S = omega (arith, sound-one line (P .pages) S)
 
@@ -141,14 +141,14 @@ module _ (n m : ℕ) (list : List ℕ) where
       (bool-cases (isErase n m list line))
 
   -- what it takes of the text: something
-  printed-some : (line : Line) (pages : List ℕ) (step : ℕ) → Sound n m list line pages → 0 < length (printed step line)
+  pub printed-some : (line : Line) (pages : List ℕ) (step : ℕ) → Sound n m list line pages → 0 < length (printed step line)
   unfolding printed
   printed-some (write b q ks) pages step S = write-some step b q ks
   printed-some (erase b) pages step S = erase-some step b
   printed-some (end w e) pages step S = absurd (S .allowed)
   printed-some other pages step S = absurd (S .allowed)
 
-  some-text : (front rest : List ℕ) → 0 < length front → eqb (length (front ++ rest)) 0 ≡ false
+  pub some-text : (front rest : List ℕ) → 0 < length front → eqb (length (front ++ rest)) 0 ≡ false
   some-text front rest h = ne-eqb (length (front ++ rest)) 0 (λ z. absurd (omega (arith, length-append front rest)))
 
   -- there are no more lines than bytes

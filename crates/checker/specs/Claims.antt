@@ -134,6 +134,38 @@ pub record AcceptsExactly : Type 0 where
   pub accepts : (n m : ℕ) (list text : List ℕ) → refusal (checkRows n m list) ≡ 0 → Accepted n m list text → checkAnswer n m list text ≡ said true
   pub accepted : (n m : ℕ) (list text : List ℕ) → checkAnswer n m list text ≡ said true → Accepted n m list text
 
+-- ---- the first faulty line
+-- the pages after some lines
+unfoldable pub pagesAfterAll : (n m : ℕ) → (list : List ℕ) → List Line → (pages : List ℕ) → List ℕ
+pagesAfterAll n m list [] pages = pages
+pagesAfterAll n m list (line ∷ lines) pages = pagesAfterAll n m list lines (pagesAfter n m list line pages)
+
+-- Behind lines that are sound, so that none of them decides, the next line does. Lines are counted from 1.
+module _ (n m : ℕ) (list : List ℕ) (lines : List Line) (rest : List ℕ) where
+  abbrev pub reached : List ℕ
+  reached = pagesAfterAll n m list lines (restingPages n m)
+
+  abbrev pub Gives : (number line : ℕ) → Type 0
+  Gives number line = checkAnswer n m list (listed n m list 0 lines ++ rest) ≡ faulty number line
+
+  pub record Decides : Type 0 where
+    -- it is none that is printed
+    pub no-line : 0 < length rest → ((line : Line) (more : List ℕ) → Named n m line → rest ≢ printed (length lines) line ++ more) → Gives 13 (length lines + 1)
+    -- it is the end line, and another follows
+    pub after-end : (writes erases : ℕ) (more : List ℕ) → 0 < length more → rest ≡ endLine writes erases ++ more → Gives 13 (length lines + 2)
+    -- a write to a page that is not blank, or below one that is not
+    pub bad-write : (block page : ℕ) (originals more : List ℕ) → Named n m (write block page originals)
+        → rest ≡ printed (length lines) (write block page originals) ++ more
+        → (Allowed n m list (write block page originals) reached → ⊥) → Gives 14 (length lines + 1)
+    -- an original is no longer determined
+    pub lost : (line : Line) (more : List ℕ) → Named n m line → Allowed n m list line reached → rest ≡ printed (length lines) line ++ more
+        → (Determined n m list (pagesAfter n m list line reached) → Determined n m list (pagesLost n m list line (pagesAfter n m list line reached)) → ⊥)
+        → Gives 15 (length lines + 1)
+
+unfoldable pub FirstDecides : Type 0
+FirstDecides = (n m : ℕ) (list : List ℕ) (lines : List Line) (rest : List ℕ) → refusal (checkRows n m list) ≡ 0
+    → AllSound n m list (λ pages. Unit {0}) lines (restingPages n m) → Decides n m list lines rest
+
 -- ---- the method
 -- for every list that rows 1 to 3 let pass, and every split of it
 unfoldable pub MethodPasses : Type 0

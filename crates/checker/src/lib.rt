@@ -6,7 +6,7 @@ mod number;
 mod pages;
 mod turn;
 
-ghost use Rattle.checker.specs.Claims.{LinesAsPrinted, NeverBlank, SumsAreChoices, AcceptsExactly, MethodPasses};
+ghost use Rattle.checker.specs.Claims.{LinesAsPrinted, NeverBlank, SumsAreChoices, AcceptsExactly, FirstDecides, MethodPasses};
 ghost use Rattle.checker.specs.Examples.{Examples};
 
 // The theorems about the definitions, as the contract of a function that does nothing: the check demands their proofs.
@@ -15,6 +15,7 @@ pub fn claims()
     ensures never_blank { λ _. ⌜ NeverBlank ⌝ }
     ensures sums_are_choices { λ _. ⌜ SumsAreChoices ⌝ }
     ensures accepts_exactly { λ _. ⌜ AcceptsExactly ⌝ }
+    ensures first_decides { λ _. ⌜ FirstDecides ⌝ }
     ensures method_passes { λ _. ⌜ MethodPasses ⌝ }
     ensures examples { λ _. ⌜ Examples ⌝ }
 {}
