@@ -80,8 +80,7 @@ enum mover_refusal {
     MOVER_BAD_ADDRESS = 9,   /* a HEX data byte outside the image, or a record that runs over a 64 KiB span */
     MOVER_BAD_TEXT = 10,     /* a HEX data byte given twice, no end record, or anything after it */
     MOVER_BAD_PINS = 11,     /* the list sends a pinned page to another address and does not drop it; this comes between 3 and 4 */
-    MOVER_BAD_LINE = 13,     /* a line of a listing of another form, with a wrong step number, no original, a number outside the sizes, or
-                                after the end line */
+    MOVER_BAD_LINE = 13,     /* a line of a listing is not as it must be: see mover_check_listing */
     MOVER_BAD_WRITE = 14,    /* a listed write to a page that is not blank, or below one written in its block since the last erase */
     MOVER_LOST_ORIGINAL = 15 /* after a listed line an original is no longer determined by the pages */
 };
@@ -180,15 +179,16 @@ uint32_t mover_hex_write(uint32_t n, uint32_t m, uint32_t page_bytes, const uint
 
 /* Checks another mover's steps: whether a listing of them would survive a power cut at any line and ends with every page where the list sends
  * it. The sizes are those of a move whose n * m is at most 64, and nothing is dropped: MOVER_DROPPED is 3 here. `text` is lines, each ended by a
- * line feed, as the step program writes them with --originals; any length will do, 0 too:
+ * line feed; any length will do, 0 too:
  *   STEP W BLOCK PAGE ORIGINAL ..   writes a page that stores the sum of these originals, one or more, rising
  *   STEP E BLOCK                    erases a block
  *   end WRITES ERASES               the last line, with the counts
- * Steps are counted from 0. Numbers are decimal without leading zeros, one space stands between fields, and nothing else stands anywhere.
+ * Steps are counted from 0. Numbers are decimal without leading zeros, one space stands between fields, and nothing else stands anywhere. Blocks
+ * are 0 to n, pages 0 to m - 1, originals 0 to n * m - 1. Any other line is 13, and any line behind the end line.
  * The listing starts from a store at rest. Lines are judged one by one, and the first faulty one decides: 13 before 14 before 15.
  *   *line      with 13, 14 and 15 the faulty line, counted from 1, or 4294967295 where it is higher; else 0
- *   *accepted  1 if no line is faulty, the end counts are true, and the last state is the one that the list asks for, with the spare blank; else 0:
- *              a listing that only ends wrong, or has no end line, is answered with 0 and no refusal
+ *   *accepted  1 if no line is faulty, the counts of the end line are right, the spare is blank after the last step, and every page is where the
+ *              list sends it; else 0. Where nothing but this is wrong, or the end line is missing, the call returns 0 all the same
  * Changes nothing. Returns 0, or 1 (also if n * m is above 64), 2, 3, 13, 14 or 15. */
 uint32_t mover_check_listing(uint32_t n, uint32_t m, const uint8_t *list, uint64_t list_len, const uint8_t *text, uint64_t text_len,
                              uint32_t *line, uint32_t *accepted);
