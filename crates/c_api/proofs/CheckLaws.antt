@@ -1,7 +1,7 @@
 -- What the export of the check answers is what the call answers for the entries decoded.
 use Rattle.flash.proofs.Kit.{_≡_, ⊎-elim, _≢_, true, false, cond, List, ℕ, _*_, _≤_, mul-le-mul, min, arith, length}
 use Rattle.flash.proofs.Bools.{bool-cases}
-use Rattle.checker.specs.Answer.{CheckAnswer, refused, areSizes, checkRows, checkAnswer}
+use Rattle.checker.specs.Answer.{CheckAnswer, refused, areSizes, checkAnswer}
 use Rattle.checker.proofs.RowsLaws.{sizes-few, refuse-1, refuse-2}
 use Rattle.c_api.specs.Bytes.{entriesWithin}
 use Rattle.c_api.specs.CheckExport.{lastLine, in32Bits, checkOfBytes}

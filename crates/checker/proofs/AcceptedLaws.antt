@@ -13,7 +13,7 @@ use Rattle.listing.specs.Lines.{endLine}
 use Rattle.checker.specs.Lines.{isRising, areOriginals, Line, write, erase, end, other, readLine}
 use Rattle.checker.specs.Pages.{maskOf, restingPages, isBlank, isBadWrite, pageWritten, blockErased, areDetermined, survives, isRequested}
 use Rattle.checker.specs.Answer.{CheckAnswer, said, Progress, stepOf, turn, thenCheck, checkFrom, start, checkRows, checkAnswer}
-use Rattle.checker.specs.Claims.{printed, Named, NeverBlank, MeetsBlank, PagesRise, Determined, pagesAfter, pagesLost, Sound, AllSound, listed, isWrite, isErase, Accepted, AcceptsExactly}
+use Rattle.checker.specs.Claims.{printed, Named, NeverBlank, pagesAfter, pagesLost, AllSound, listed, isWrite, isErase, Accepted, AcceptsExactly}
 use Rattle.checker.proofs.SoundLaws.{end-some, determined-holds, lines-few, accepts-from}
 use Rattle.checker.proofs.LinesBack.{Told, line-back}
 

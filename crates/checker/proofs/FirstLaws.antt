@@ -1,14 +1,13 @@
 -- Sound lines never decide, and the first that is not does.
 use Rattle.flash.proofs.Kit.{_≡_, refl, sym, ap, _∙_, _≢_, inl, inr, _⊎_, ⊎-elim, Bool, true, false, not, List, [], _∷_, _++_, append-assoc, ℕ, zero, suc, _+_, _-_, _*_, _≤_, _<_, arith}
-use Rattle.flash.proofs.Kit.{eqb, length, length-append, eq-eqb, ne-eqb}
+use Rattle.flash.proofs.Kit.{length, length-append, eq-eqb, ne-eqb}
 use Rattle.flash.specs.Geometry.{slot}
 use Rattle.flash.specs.Tables.{refusal}
 use Rattle.flash.proofs.Bools.{bool-cases, and-left, and-right, fails}
 use Rattle.flash.proofs.Ranges.{none-in}
-use Rattle.listing.specs.Lines.{endLine}
-use Rattle.checker.specs.Lines.{Line, write, erase, end, other, Read, readLine}
-use Rattle.checker.specs.Pages.{maskOf, restingPages, isBlank, isBadWrite, pageWritten, blockErased, areDetermined, survives}
-use Rattle.checker.specs.Answer.{CheckAnswer, faulty, Progress, stepOf, on, stop, turn, thenCheck, checkFrom, start, checkRows, checkAnswer}
+use Rattle.checker.specs.Lines.{Line, write, erase, end, other, readLine}
+use Rattle.checker.specs.Pages.{restingPages, isBlank, isBadWrite, areDetermined, survives}
+use Rattle.checker.specs.Answer.{CheckAnswer, faulty, Progress, stepOf, stop, turn, thenCheck, checkFrom, start, checkRows, checkAnswer}
 use Rattle.checker.specs.Claims.{printed, Named, Determined, pagesAfter, pagesLost, pagesAfterAll, Allowed, Sound, AllSound, listed, Decides, FirstDecides}
 use Rattle.checker.proofs.PrintedLines.{read-write, read-erase, read-end}
 use Rattle.checker.proofs.SoundLaws.{allowed-test, lines-few, end-some, write-some, erase-some, determined-holds, after, step-after, some-text, printed-some, sound-read, sound-turn}

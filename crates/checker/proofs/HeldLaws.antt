@@ -1,11 +1,10 @@
 -- The method's own listing: what its pages hold at each place, as masks, and that every original is determined there.
-use Rattle.flash.proofs.Kit.{_≡_, refl, sym, ap, ap₂, _∙_, ⊎-elim, true, false, List, [], _∷_, map, ℕ, zero, suc, _+_, _-_, _*_, _/_, _%_, _^_, _≤_, _<_, div-add-mod', mod-lt, arith}
+use Rattle.flash.proofs.Kit.{_≡_, refl, sym, ap, ap₂, _∙_, ⊎-elim, true, false, List, [], _∷_, map, ℕ, suc, _+_, _-_, _*_, _/_, _%_, _^_, _≤_, _<_, div-add-mod', mod-lt, arith}
 use Rattle.flash.proofs.Kit.{bitXor, xor-comm, xor-zero-r, ltb, length, getD, length-map}
 use Rattle.flash.specs.Lists.{range}
 use Rattle.flash.specs.declared.sizes.Sizes.{Sizes}
-use Rattle.flash.specs.Geometry.{slot, slotOf, blockOf, numberAt, slotCount, originalCount, letter}
+use Rattle.flash.specs.Geometry.{slot, blockOf, numberAt, slotCount}
 use Rattle.flash.specs.PageSum.{_⊕_, sum}
-use Rattle.flash.specs.Chip.{markAt}
 use Rattle.flash.proofs.Bools.{bool-cases}
 use Rattle.flash.proofs.Ranges.{length-range, all-is}
 use Rattle.flash.proofs.Sums.{⊕-at}

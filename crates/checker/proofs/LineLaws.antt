@@ -8,7 +8,7 @@ use Rattle.checker.specs.declared.number.Number.{Number}
 use Rattle.checker.specs.declared.line.Originals.{Originals}
 use Rattle.checker.specs.Lines.{fields, behindFields, isRising, areOriginals, formed, readEnd, readErase, readWrite}
 use Rattle.checker.specs.Pages.{maskOf}
-use Rattle.checker.specs.inner.Told.{cap, fieldAt, Gathering, gathering, Gathered, wrote, erased, ended, unread, said, saidOf}
+use Rattle.checker.specs.inner.Told.{cap, fieldAt, gathering, Gathered, wrote, erased, ended, unread, said, saidOf}
 use Rattle.checker.proofs.TextLaws.{first-at, field-value, field-next, fields-more, behind-more, fields-none, behind-none}
 
 -- a field that was read at a position

@@ -1,8 +1,8 @@
 -- What is read as a line was printed as one.
-use Rattle.flash.proofs.Kit.{_≡_, refl, sym, ap, ap₂, _∙_, subst, _⊎_, inl, inr, ⊎-elim, Bool, true, false, false≢true, _&&_, List, [], _∷_, _++_, append-assoc, ℕ, zero, suc, _+_, _*_, _≤_, _<_, arith}
+use Rattle.flash.proofs.Kit.{_≡_, refl, sym, ap, ap₂, _∙_, subst, _⊎_, inl, inr, ⊎-elim, Bool, true, false, false≢true, _&&_, List, [], _∷_, _++_, append-assoc, ℕ, zero, suc, _+_, _*_, arith}
 use Rattle.flash.proofs.Kit.{eqb, leb, ltb, length, getD, take, drop, take-append-drop, eqb-true, leb-true, ltb-true}
 use Rattle.flash.specs.Lists.{concatMap, isSame}
-use Rattle.flash.proofs.Bools.{bool-cases, and-left, and-right, never-both}
+use Rattle.flash.proofs.Bools.{bool-cases, and-left, and-right}
 use Rattle.flash.proofs.Same.{same-eq}
 use Rattle.listing.specs.Numbers.{spelled}
 use Rattle.listing.specs.Digits.{decimal}

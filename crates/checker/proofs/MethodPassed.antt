@@ -1,27 +1,24 @@
 -- The paper's method passes: its lines are sound from rest to the finish.
-use Rattle.flash.proofs.Kit.{_≡_, refl, sym, ap, ap₂, _∙_, subst, true, false, ⊎-elim, List, [], _∷_, _++_, map, ℕ, zero, suc, _+_, _*_, _≤_, _<_, arith, eqb, length, drop, getD}
-use Rattle.flash.proofs.Kit.{drop-cons, drop-of-length-le, length-map, length-append, eq-eqb, eqb-true, not-true}
+use Rattle.flash.proofs.Kit.{_≡_, refl, sym, ap, ap₂, _∙_, subst, true, false, List, [], _∷_, _++_, map, ℕ, zero, suc, _+_, _*_, _≤_, _<_, arith, length, drop, getD}
+use Rattle.flash.proofs.Kit.{drop-cons, drop-of-length-le, length-append, eq-eqb}
 use Rattle.flash.specs.Lists.{count}
 use Rattle.flash.specs.declared.sizes.Sizes.{Sizes}
-use Rattle.flash.specs.Tables.{firstFit, numberOr0, refusal}
-use Rattle.flash.proofs.Bools.{bool-cases}
-use Rattle.split.specs.OneToOne.{isOneToOne}
-use Rattle.split.specs.Split.{isSplit}
+use Rattle.flash.specs.Tables.{refusal}
 use Rattle.method.specs.Move.{Move, AcceptedMove}
 use Rattle.method.specs.Place as method
-use Rattle.method.specs.Place.{Pass, Operation, done, operations, operationAt, heldAt, blank, lastPlace, passAt, filling, filled}
+use Rattle.method.specs.Place.{Operation, done, operations, operationAt, lastPlace, passAt, filling, filled}
 use Rattle.method.specs.Step as method-step
 use Rattle.method.specs.Step.{originalsOf}
 use Rattle.method.proofs.places.PagesHeld.{held-blank, Writes, Erases, Change, by-write, by-erase, change}
 use Rattle.method.proofs.places.StepsAtPlaces.{nextBlock, after-erase}
 use Rattle.method.proofs.places.StepsCounted.{steps-counted}
 use Rattle.method.specs.Claims.{StepsCounted}
-use Rattle.listing.specs.Lines.{originalsLine, eraseLine, endLine}
-use Rattle.checker.specs.Lines.{Line, write, erase, end, other}
+use Rattle.listing.specs.Lines.{endLine}
+use Rattle.checker.specs.Lines.{Line, write, erase, other}
 use Rattle.checker.specs.Pages.{maskOf, restingPages, isBlank, isBadWrite, blockErased, areDetermined, isRequested}
-use Rattle.checker.specs.Answer.{said, start, areSizes, checkFrom, checkRows, checkAnswer}
+use Rattle.checker.specs.Answer.{said, start, checkFrom, checkRows, checkAnswer}
 use Rattle.checker.specs.Method.{ascending, stepText, stepsText, moveBy, methodText}
-use Rattle.checker.specs.Claims.{printed, Determined, pagesAfter, pagesLost, Sound, AllSound, listed, isWrite, isErase, MethodPasses}
+use Rattle.checker.specs.Claims.{printed, pagesAfter, pagesLost, Sound, AllSound, listed, isWrite, isErase, MethodPasses}
 use Rattle.checker.proofs.PageLaws.{write-back, written-determined, erased-twice, resting-determined}
 use Rattle.checker.proofs.RowsLaws.{rows-pass}
 use Rattle.checker.proofs.SoundLaws.{end-some, determined-holds, allowed-test, lines-few, accepts-from}

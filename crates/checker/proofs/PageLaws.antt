@@ -2,7 +2,7 @@
 use Rattle.flash.proofs.Kit.{_≡_, refl, sym, ap, ap₂, _∙_, _≢_, ⊎-elim, Bool, true, false, cond, not, _&&_, List, [], _∷_, _++_, map, ℕ, zero, suc, _+_, _-_, _*_, _^_, _≤_, _<_}
 use Rattle.flash.proofs.Kit.{div-add-mod', add-mul, arith, ltb, length, getD, set, take, drop, replicate, length-append, length-map, length-replicate, getD-replicate}
 use Rattle.flash.proofs.Kit.{List·getD-append, getD-append-add, lt-ltb, le-ltb, eqb, eqb-true, eq-eqb, ne-eqb, bitXor, xor-zero-r, take-at, drop-at, drop-drop, length-take-le}
-use Rattle.flash.specs.Lists.{range, all, setPart}
+use Rattle.flash.specs.Lists.{range, setPart}
 use Rattle.flash.specs.Geometry.{slot, slotOf}
 use Rattle.flash.proofs.Bools.{or-cases}
 use Rattle.flash.proofs.Comparisons.{lt-cases}

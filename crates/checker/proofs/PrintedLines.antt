@@ -1,18 +1,16 @@
 -- Lines that are printed are read as themselves, and what is read as a line was printed so.
-use Rattle.flash.proofs.Kit.{_≡_, refl, sym, ap, ap₂, _∙_, _⊎_, inl, inr, ⊎-elim, _≢_, Bool, true, false, false≢true, true≢false, _&&_, cond, List, [], _∷_, _++_, append-assoc, ℕ, zero, suc, _+_, _-_, _*_, _≤_, _<_, arith}
-use Rattle.flash.proofs.Kit.{eqb, leb, ltb, length, getD, take, drop, List·getD-append, eqb-true, eq-eqb, ne-eqb, le-leb, lt-ltb, leb-true, ltb-true}
+use Rattle.flash.proofs.Kit.{_≡_, refl, sym, ap, _∙_, Bool, true, false, _&&_, cond, List, [], _∷_, _++_, append-assoc, ℕ, zero, suc, _+_, _-_, _*_, _≤_, _<_, arith}
+use Rattle.flash.proofs.Kit.{leb, ltb, length, getD, take, List·getD-append, eq-eqb, ne-eqb, le-leb, lt-ltb, leb-true, ltb-true}
 use Rattle.flash.specs.Lists.{all, concatMap, isSame}
-use Rattle.flash.proofs.Bools.{bool-cases, and-left, and-right, never-both}
-use Rattle.flash.proofs.Same.{same-eq}
-use Rattle.listing.specs.Numbers.{isDigit, spelled}
+use Rattle.flash.proofs.Bools.{and-left, and-right}
+use Rattle.listing.specs.Numbers.{isDigit}
 use Rattle.listing.specs.Digits.{decimal}
 use Rattle.listing.specs.Lines.{originalsLine, eraseLine, endLine}
 use Rattle.listing.proofs.NumberLaws.{digit-high}
-use Rattle.checker.specs.Lines.{leading, behind, isNumber, isField, fields, behindFields, isRising, areOriginals, Line, write, erase, end, other, Read, unformed, formed}
+use Rattle.checker.specs.Lines.{leading, behind, isNumber, isField, fields, behindFields, isRising, areOriginals, write, erase, end, unformed, formed}
 use Rattle.checker.specs.Lines.{readEnd, readErase, readWrite, readStep, readLine}
-use Rattle.checker.specs.Claims.{printed, Named, LinesAsPrinted}
 use Rattle.checker.proofs.TextLaws.{three-letters}
-use Rattle.checker.proofs.DecimalLaws.{leading-of, behind-of, leading-digits, leading-behind, decimal-digits, decimal-value, decimal-number, number-back}
+use Rattle.checker.proofs.DecimalLaws.{leading-of, behind-of, decimal-digits, decimal-value, decimal-number}
 
 -- fields as they are printed
 abbrev pub spaced : List ℕ → List ℕ

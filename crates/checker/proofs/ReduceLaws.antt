@@ -1,6 +1,6 @@
 -- Reduction is linear, whatever the rows are: so if each page reduces to nothing, so does each sum of pages.
-use Rattle.flash.proofs.Kit.{_≡_, refl, sym, ap, _∙_, ⊎-elim, Bool, true, false, cond, List, [], _∷_, ℕ, zero, suc, _+_, _/_, _%_, _^_, _<_, arith, length, getD, eqb}
-use Rattle.flash.proofs.Kit.{bitXor, xor-self, xor-shr, xor-add-and, xor-zero-r, eqb-true, eqb-false, eq-eqb, ne-eqb}
+use Rattle.flash.proofs.Kit.{_≡_, refl, sym, ap, _∙_, ⊎-elim, true, false, List, [], _∷_, ℕ, suc, _+_, _/_, _%_, _^_, _<_, arith, length, getD}
+use Rattle.flash.proofs.Kit.{bitXor, xor-self, xor-shr, xor-add-and, xor-zero-r, eqb-true, eqb-false}
 use Rattle.flash.proofs.Bools.{bool-cases, or-cases}
 use Rattle.flash.proofs.Xor.{xor-assoc}
 use Rattle.checker.specs.Pages.{isSum}

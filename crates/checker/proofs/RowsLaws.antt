@@ -1,5 +1,5 @@
 -- The rows of the call: which of them applies, and what all together say.
-use Rattle.flash.proofs.Kit.{_≡_, sym, ap, _∙_, _≢_, ⊎-elim, true, false, _&&_, not, List, [], ℕ, _*_, _≤_, mul-le-mul, arith, eqb, leb, length, getD, eqb-true, eq-eqb, ne-eqb, leb-true}
+use Rattle.flash.proofs.Kit.{_≡_, sym, ap, _∙_, _≢_, ⊎-elim, true, false, _&&_, not, List, [], ℕ, _*_, _≤_, arith, eqb, leb, length, getD, eqb-true, eq-eqb, ne-eqb, leb-true}
 use Rattle.flash.specs.Lists.{any}
 use Rattle.flash.specs.Tables.{firstFit, numberOr0, refusal}
 use Rattle.flash.proofs.Bools.{bool-cases, and-left, and-right, fails}

@@ -12,7 +12,7 @@ use Rattle.listing.specs.Lines.{originalsLine, eraseLine, endLine}
 use Rattle.checker.specs.Lines.{Line, write, erase, end, other, readLine}
 use Rattle.checker.specs.Pages.{isBlank, isBadWrite, isSum, areDetermined, survives, isRequested}
 use Rattle.checker.specs.Answer.{said, Progress, stepOf, on, turn, thenCheck, checkFrom}
-use Rattle.checker.specs.Claims.{printed, sumOf, Chosen, SumsAreChoices, MeetsBlank, PagesRise, Determined, pagesAfter, pagesLost, Allowed, Sound, AllSound, listed, isWrite, isErase}
+use Rattle.checker.specs.Claims.{printed, sumOf, Chosen, SumsAreChoices, MeetsBlank, PagesRise, Determined, pagesAfter, pagesLost, Sound, AllSound, listed, isWrite, isErase}
 use Rattle.checker.proofs.SumLaws.{sum-without, sum-with}
 use Rattle.checker.proofs.PrintedLines.{read-write, read-erase, read-end}
 

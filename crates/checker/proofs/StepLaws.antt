@@ -1,5 +1,5 @@
 -- Which of the three lines stands at a position.
-use Rattle.flash.proofs.Kit.{_≡_, sym, ap, _∙_, _≢_, true, false, and-false, List, [], _∷_, ℕ, suc, _+_, _≤_, _<_, min, arith, eqb, length, getD, take, drop, drop-drop, eqb-true, eq-eqb, ne-eqb}
+use Rattle.flash.proofs.Kit.{_≡_, sym, ap, _∙_, _≢_, true, false, and-false, List, [], _∷_, ℕ, _+_, _≤_, _<_, min, arith, eqb, length, getD, take, drop, drop-drop, eq-eqb, ne-eqb}
 use Rattle.flash.specs.Lists.{isSame}
 use Rattle.flash.proofs.Bools.{and-right}
 use Rattle.listing.specs.Numbers.{spelled}

@@ -1,5 +1,5 @@
 -- The masks that pages sum to: nothing, each page, and the sum of two such masks.
-use Rattle.flash.proofs.Kit.{_≡_, refl, sym, _∙_, ⊎-elim, true, false, _||_, or-true, List, [], _∷_, ℕ, zero, suc, _<_, arith, length, getD, bitXor, xor-comm, xor-self}
+use Rattle.flash.proofs.Kit.{_≡_, refl, sym, _∙_, ⊎-elim, true, or-true, List, [], _∷_, ℕ, zero, suc, _<_, arith, length, getD, bitXor, xor-comm, xor-self}
 use Rattle.flash.proofs.Kit.{eqb-true}
 use Rattle.flash.proofs.Bools.{or-cases}
 use Rattle.flash.proofs.Xor.{xor-assoc, xor-cancel}

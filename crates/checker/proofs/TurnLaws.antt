@@ -1,11 +1,11 @@
 -- What a line that was told leads to, and how the check goes on from line to line.
-use Rattle.flash.proofs.Kit.{_≡_, refl, sym, ap, _∙_, Bool, true, false, cond, _&&_, List, [], _∷_, ℕ, zero, suc, _+_, _-_, _*_, _≤_, _<_, min, arith, eqb, length, drop}
+use Rattle.flash.proofs.Kit.{_≡_, refl, sym, ap, _∙_, Bool, true, false, cond, _&&_, List, [], ℕ, zero, suc, _+_, _-_, _*_, _≤_, _<_, min, arith, eqb, length, drop}
 use Rattle.flash.proofs.Kit.{length-drop, length-set, length-replicate, replicate, drop-of-length-le, eqb-true, eq-eqb, ne-eqb}
 use Rattle.flash.proofs.Bools.{bool-eq}
 use Rattle.flash.specs.Geometry.{slot}
 use Rattle.flash.proofs.Parts.{part-fits, length-setPart}
-use Rattle.checker.specs.Lines.{Line, write, erase, end, other, Read, readLine}
-use Rattle.checker.specs.Pages.{maskOf, isBadWrite, pageWritten, blockErased, areDetermined, isRequested}
+use Rattle.checker.specs.Lines.{Line, write, erase, end, other, readLine}
+use Rattle.checker.specs.Pages.{maskOf, isBadWrite, pageWritten, blockErased, areDetermined}
 use Rattle.checker.specs.Answer.{CheckAnswer, faulty, Progress, stepOf, Turn, on, stop, turn, thenCheck, checkFrom}
 use Rattle.checker.specs.inner.Told.{cap, Said, wrote, erased, ended, unread, said}
 use Rattle.checker.specs.declared.turn.Turn as code

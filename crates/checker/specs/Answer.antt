@@ -6,7 +6,7 @@ use lib.Dec.{eqb, leb}
 use lib.ListN.{length}
 use Rattle.flash.specs.Tables.{Row, refusal}
 use Rattle.split.specs.OneToOne.{isOneToOne}
-use Rattle.checker.specs.Lines.{Line, write, erase, end, other, Read, readLine}
+use Rattle.checker.specs.Lines.{Line, write, erase, end, other, readLine}
 use Rattle.checker.specs.Pages.{maskOf, restingPages, isBadWrite, pageWritten, blockErased, survives, isRequested}
 
 -- what the call returns

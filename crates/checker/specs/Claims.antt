@@ -12,7 +12,7 @@ use Rattle.flash.specs.Tables.{refusal}
 use Rattle.flash.specs.Geometry.{slot}
 use Rattle.split.specs.Split.{isSplit}
 use Rattle.listing.specs.Lines.{originalsLine, eraseLine, endLine}
-use Rattle.checker.specs.Lines.{areOriginals, Line, write, erase, end, other, Read, readLine}
+use Rattle.checker.specs.Lines.{areOriginals, Line, write, erase, end, other, readLine}
 use Rattle.checker.specs.Pages.{maskOf, isBlank, restingPages, pageWritten, blockErased, isSum, isRequested}
 use Rattle.checker.specs.Answer.{faulty, said, checkRows, checkAnswer}
 use Rattle.checker.specs.Method.{methodText}
@@ -80,7 +80,7 @@ module _ (n m : ℕ) (list : List ℕ) where
   pagesAfter (end writes erases) pages = pages
   pagesAfter other pages = pages
 
-  -- and with that line's page or block taken as lost
+  -- and without the page or the block that the line touched
   unfoldable pub pagesLost : Line → (pages : List ℕ) → List ℕ
   pagesLost (write block page originals) pages = pageWritten m pages block page 0
   pagesLost (erase block) pages = blockErased m pages block
@@ -126,7 +126,7 @@ module _ (n m : ℕ) (list : List ℕ) where
     pub lines : List Line
     -- the end counts are true, and nothing stands behind the end line
     pub text-is : text ≡ listed 0 lines ++ endLine (count isWrite lines) (count isErase lines)
-    -- the last state is the requested one with a blank spare
+    -- the pages end as the list asks
     pub sound : AllSound (λ pages. isRequested m list pages ≡ true) lines (restingPages n m)
 
 -- the checker accepts exactly if every clause holds
@@ -150,7 +150,8 @@ module _ (n m : ℕ) (list : List ℕ) (lines : List Line) (rest : List ℕ) whe
 
   pub record Decides : Type 0 where
     -- it is none that is printed
-    pub no-line : 0 < length rest → ((line : Line) (more : List ℕ) → Named n m line → rest ≢ printed (length lines) line ++ more) → Gives 13 (length lines + 1)
+    pub no-line : 0 < length rest → ((line : Line) (more : List ℕ) → Named n m line → rest ≢ printed (length lines) line ++ more)
+        → Gives 13 (length lines + 1)
     -- it is the end line, and another follows
     pub after-end : (writes erases : ℕ) (more : List ℕ) → 0 < length more → rest ≡ endLine writes erases ++ more → Gives 13 (length lines + 2)
     -- a write to a page that is not blank, or below one that is not
@@ -159,7 +160,8 @@ module _ (n m : ℕ) (list : List ℕ) (lines : List Line) (rest : List ℕ) whe
         → (Allowed n m list (write block page originals) reached → ⊥) → Gives 14 (length lines + 1)
     -- an original is no longer determined
     pub lost : (line : Line) (more : List ℕ) → Named n m line → Allowed n m list line reached → rest ≡ printed (length lines) line ++ more
-        → (Determined n m list (pagesAfter n m list line reached) → Determined n m list (pagesLost n m list line (pagesAfter n m list line reached)) → ⊥)
+        → (Determined n m list (pagesAfter n m list line reached)
+        → Determined n m list (pagesLost n m list line (pagesAfter n m list line reached)) → ⊥)
         → Gives 15 (length lines + 1)
 
 unfoldable pub FirstDecides : Type 0

@@ -35,7 +35,8 @@ fn are_sizes(n: usize, m: usize) -> bool
 // Judges line by line, from pages at rest.
 fn check_lines(n: usize, m: usize, list: &[u16], text: &[u8], pages: &mut [u64]) -> Checked
     requires { ⌜ Checkable n m (now list) × (now pages ≡ restingPages n m) ⌝ }
-    ensures { λ r. ⌜ checkedAs r ≡ checkFrom n m (now (list .entry)) (length (now (text .entry))) (now (text .entry)) (start n m (now (list .entry))) ⌝ }
+    ensures { λ r. ⌜ checkedAs r
+        ≡ checkFrom n m (now (list .entry)) (length (now (text .entry))) (now (text .entry)) (start n m (now (list .entry))) ⌝ }
 {
     let mut writes = 0;
     let mut erases = 0;
@@ -73,7 +74,8 @@ fn check_lines(n: usize, m: usize, list: &[u16], text: &[u8], pages: &mut [u64])
 
 fn check_from_rest(n: usize, m: usize, list: &[u16], text: &[u8], pages: &mut [u64]) -> Checked
     requires { ⌜ Checkable n m (now list) × (length (now pages) ≡ (n + 1) * m) ⌝ }
-    ensures { λ r. ⌜ checkedAs r ≡ checkFrom n m (now (list .entry)) (length (now (text .entry))) (now (text .entry)) (start n m (now (list .entry))) ⌝ }
+    ensures { λ r. ⌜ checkedAs r
+        ≡ checkFrom n m (now (list .entry)) (length (now (text .entry))) (now (text .entry)) (start n m (now (list .entry))) ⌝ }
 {
     put_rest(pages, n, m);
     check_lines(n, m, list, text, pages)

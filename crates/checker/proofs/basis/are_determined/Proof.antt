@@ -1,5 +1,5 @@
 -- `are_determined` decides whether all originals are sums of the pages.
-use Rattle.flash.proofs.Kit.{_≡_, sym, _∙_, true, _+_, _-_, _≤_, _<_, _^_, arith, length, eqb, eqb-true, eqb-false, eq-eqb, not-true, not-false, below-more, needs, ℕ}
+use Rattle.flash.proofs.Kit.{_≡_, sym, _∙_, true, _-_, _≤_, _<_, _^_, arith, length, eqb-true, eq-eqb, not-true, not-false, below-more, needs, ℕ}
 use Rattle.flash.proofs.Bools.{fails, never-both}
 use Rattle.flash.proofs.Ranges.{all-is, all-not}
 use Rattle.checker.specs.Pages.{isSum, areDetermined}

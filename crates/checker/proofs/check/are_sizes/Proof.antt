@@ -1,5 +1,5 @@
 -- `are_sizes` multiplies only sizes in their ranges.
-use Rattle.flash.proofs.Kit.{mul-le-mul, arith, leb, _&&_, leb-true, needs}
+use Rattle.flash.proofs.Kit.{mul-le-mul, arith, leb, _&&_, leb-true}
 use Rattle.flash.proofs.Bools.{and-left, and-right}
 use Rattle.checker.specs.Answer.{areSizes}
 use Rattle.checker.proofs.check.are_sizes.Statement.{statement}

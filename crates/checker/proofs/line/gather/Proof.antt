@@ -1,9 +1,9 @@
 -- `gather` reads originals up to the first byte that is none of a field.
-use Rattle.flash.proofs.Kit.{_≡_, refl, sym, ap, _∙_, ⊎-elim, Bool, ℕ, true, false, false≢true, [], _||_, suc, _+_, _-_, _≤_, _<_, arith, one-mul, eqb, leb, ltb, length, drop, shl-exact}
+use Rattle.flash.proofs.Kit.{_≡_, refl, sym, ap, _∙_, ⊎-elim, ℕ, true, false, false≢true, [], suc, _-_, _≤_, _<_, arith, one-mul, leb, ltb, length, drop, shl-exact}
 use Rattle.flash.proofs.Kit.{ltb-false, leb-false, not-true, not-false, needs}
 use Rattle.flash.proofs.Bools.{or-false-left, or-false-right}
 use Rattle.checker.specs.Lines.{fields, behindFields}
-use Rattle.checker.specs.inner.Told.{Gathering, gathering, Gathered}
+use Rattle.checker.specs.inner.Told.{Gathering, gathering}
 use Rattle.checker.proofs.LineLaws.{Taken, taken, missed, gather-bad, gather-more, gather-end}
 use Rattle.checker.proofs.line.gather.Statement.{statement}
 use Rattle.checker.proofs.line.gather.Tie as tie

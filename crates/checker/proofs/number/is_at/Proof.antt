@@ -1,5 +1,5 @@
 -- `is_at` looks at one byte.
-use Rattle.flash.proofs.Kit.{sym, arith, needs}
+use Rattle.flash.proofs.Kit.{sym, needs}
 use Rattle.checker.proofs.TextLaws.{none-beyond}
 use Rattle.checker.proofs.number.is_at.Statement.{statement}
 use Rattle.checker.proofs.number.is_at.Tie as tie

@@ -1,5 +1,5 @@
 -- `is_bad_write` looks at the page and those above it.
-use Rattle.flash.proofs.Kit.{_≡_, sym, ℕ, false, not, _*_, _+_, _-_, _≤_, _<_, arith, getD, eqb, eq-eqb, ne-eqb, needs}
+use Rattle.flash.proofs.Kit.{_≡_, sym, ℕ, false, not, _*_, _+_, _-_, _≤_, _<_, arith, getD, eq-eqb, ne-eqb, needs}
 use Rattle.flash.specs.Geometry.{slot}
 use Rattle.flash.proofs.Ranges.{any-is, none-is}
 use Rattle.checker.specs.Pages.{isBlank, isBadWrite}

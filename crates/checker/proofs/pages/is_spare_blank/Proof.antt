@@ -1,5 +1,5 @@
 -- `is_spare_blank` looks at the spare's pages.
-use Rattle.flash.proofs.Kit.{_≡_, sym, ℕ, true, _-_, _≤_, _<_, arith, getD, eqb, eq-eqb, ne-eqb, below-more, needs}
+use Rattle.flash.proofs.Kit.{_≡_, sym, ℕ, true, _-_, _≤_, _<_, arith, getD, eq-eqb, ne-eqb, below-more, needs}
 use Rattle.flash.proofs.Ranges.{all-is, all-not}
 use Rattle.checker.specs.Pages.{isBlank}
 use Rattle.checker.proofs.pages.is_spare_blank.Statement.{statement}

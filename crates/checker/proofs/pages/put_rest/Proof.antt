@@ -1,5 +1,5 @@
 -- `put_rest` writes each slot as it is at rest.
-use Rattle.flash.proofs.Kit.{_≡_, refl, sym, _∙_, _++_, _*_, _+_, _-_, _≤_, add-mul, arith, length, take, drop, length-set, needs}
+use Rattle.flash.proofs.Kit.{_≡_, refl, sym, _∙_, _++_, _+_, _-_, _≤_, add-mul, arith, length, take, drop, length-set, needs}
 use Rattle.flash.proofs.Loops.{front-more, front-all}
 use Rattle.checker.specs.Pages.{restingPages}
 use Rattle.checker.proofs.PageLaws.{length-resting, resting-at}

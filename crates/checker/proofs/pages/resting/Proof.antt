@@ -1,5 +1,5 @@
 -- `resting` is what a slot holds at rest.
-use Rattle.flash.proofs.Kit.{_-_, one-mul, arith, shl-exact, lt-ltb, le-ltb, needs}
+use Rattle.flash.proofs.Kit.{_-_, one-mul, arith, shl-exact, lt-ltb, le-ltb}
 use Rattle.checker.proofs.pages.resting.Statement.{statement}
 use Rattle.checker.proofs.pages.resting.Tie as tie
 

@@ -1,5 +1,5 @@
 -- `is_finished` asks for true counts and for the pages.
-use Rattle.flash.proofs.Kit.{sym, _∙_, add-mul, arith, not-true, not-false, needs}
+use Rattle.flash.proofs.Kit.{sym, _∙_, add-mul, arith, not-true, not-false}
 use Rattle.split.proofs.OneToOneLaws.{entry-lt}
 use Rattle.checker.specs.inner.Turns.{finished}
 use Rattle.checker.proofs.turn.is_finished.Statement.{statement}

@@ -1,9 +1,9 @@
 -- `take_turn` does what the line at a position says.
-use Rattle.flash.proofs.Kit.{_≡_, sym, ap, _∙_, ℕ, List, _+_, _<_, arith, length, drop, length-drop, not-true, not-false, needs}
+use Rattle.flash.proofs.Kit.{_≡_, sym, ap, _∙_, ℕ, List, _+_, arith, length, drop, length-drop, not-true, not-false, needs}
 use Rattle.checker.specs.declared.line.Told.{Told}
 use Rattle.checker.specs.Lines.{readLine}
-use Rattle.checker.specs.Answer.{Turn, on, Progress}
-use Rattle.checker.specs.inner.Told.{Said, saidOf, toldAs, Ahead}
+use Rattle.checker.specs.Answer.{on, Progress}
+use Rattle.checker.specs.inner.Told.{saidOf, toldAs, Ahead}
 use Rattle.checker.proofs.TurnLaws.{said-write, said-erase, block-fits, turn-bad, turn-write, turn-lost, turn-erase, turn-after-end, turn-end, turn-other}
 use Rattle.checker.proofs.TurnLaws.{pages-written, stands-written, stands-erased}
 use Rattle.checker.proofs.turn.take_turn.Statement.{statement}

@@ -1,5 +1,5 @@
 -- `write_page` writes where it may.
-use Rattle.flash.proofs.Kit.{sym, _∙_, arith, length-set, needs}
+use Rattle.flash.proofs.Kit.{sym, _∙_, arith, needs}
 use Rattle.checker.specs.Pages.{pageWritten}
 use Rattle.checker.proofs.turn.write_page.Statement.{statement}
 use Rattle.checker.proofs.turn.write_page.Tie as tie
