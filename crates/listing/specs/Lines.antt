@@ -15,7 +15,7 @@ writeLine step block page bytes =
 unfoldable pub eraseLine : (step block : ℕ) → List ℕ
 eraseLine step block = decimal step ++ (32 ∷ 69 ∷ 32 ∷ decimal block) ++ (10 ∷ [])
 
--- Rule 12.2: a write in the form that names, in place of bytes, the originals that the page is the sum of.
+-- Rule 13.2: a write in the form that names, in place of bytes, the originals that the page is the sum of.
 unfoldable pub originalsLine : (step block page : ℕ) → (originals : List ℕ) → List ℕ
 originalsLine step block page originals =
     decimal step ++ (32 ∷ 87 ∷ 32 ∷ decimal block) ++ (32 ∷ decimal page) ++ concatMap (λ k. 32 ∷ decimal k) originals ++ (10 ∷ [])
