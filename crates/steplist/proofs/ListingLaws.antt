@@ -3,6 +3,7 @@ use Rattle.flash.proofs.Kit.{_≡_, refl, sym, ap, _∙_, subst, List, _++_, ap
 use Rattle.flash.proofs.Kit.{add-zero, arith, take, take-length}
 use Rattle.flash.specs.Lists.{count}
 use Rattle.flash.proofs.Searches.{count-append}
+use Rattle.flash.specs.Wear.{counterEnd, unworn}
 use Rattle.split.specs.Request.{Request}
 use Rattle.method.specs.Move.{Plan, plan}
 use Rattle.method.specs.Place.{operations, operationAt, lastPlace}
@@ -13,6 +14,7 @@ use Rattle.method.proofs.states.StepsAddUp.{steps-add}
 use Rattle.method.proofs.places.Tallies.{operationsFrom-split, writes-and-erases}
 use Rattle.method.proofs.basics.AcceptedCalls.{run-taken, taken-run}
 use Rattle.method.proofs.states.RunsAddUp.{still-taken}
+use Rattle.method.proofs.wear.WornLaws.{unworn-passes}
 use Rattle.listing.specs.Area.{Written}
 use Rattle.listing.specs.Lines.{Printed, endLine}
 use Rattle.listing.proofs.PrintLaws.{over-printed}
@@ -43,12 +45,18 @@ lines-add X (suc a) b place run =
 pub listable-at : (R : Request) (start : Running) (place : ℕ) (run : Running) → Listable R start 0 → place ≤ lastPlace (R .sizes) → run ≡ steps (plan R) place 0 start
     → Listable R run place
 listable-at R start place run L h e =
-    let T = still-taken R (start .chip) (start .work) 0 place (omega arith) (run-taken R (start .chip) (start .work) 0 (L .taken)) in
+    let T = still-taken R (start .chip) (start .work) unworn 0 place counterEnd (omega arith) (run-taken R (start .chip) (start .work) unworn 0 counterEnd (L .taken)) in
     record {
       few-blocks = L .few-blocks;
       few-pages = L .few-pages;
       short-pages = L .short-pages;
-      taken = rw e (taken-run R _ _ place (rw (zero-add place) at T));
+      taken = rw e (taken-run R _ _ unworn place counterEnd (record {
+        accepted = T .accepted;
+        lent = T .lent;
+        stands = rw (zero-add place) at (T .stands);
+        fits = T .fits;
+        lasts = unworn-passes (R .sizes .n) place;
+      }));
     }
 
 module _ (X : Plan) (start : Running) where

@@ -11,6 +11,7 @@ use Rattle.flash.proofs.Ranges.{all-is}
 use Rattle.flash.proofs.Parts.{part-fits, part-replicate}
 use Rattle.flash.proofs.Blocks.{full-of}
 use Rattle.flash.proofs.Chips.{blank-of}
+use Rattle.flash.specs.Wear.{counterEnd, unworn}
 use Rattle.split.specs.Drops.{completed}
 use Rattle.split.proofs.RuleLaws.{rule-split, rule-length}
 use Rattle.split.specs.Request.{Request, unpinned}
@@ -19,6 +20,7 @@ use Rattle.split.proofs.DropLaws.{completed-length}
 use Rattle.method.specs.Move.{move, plan, AcceptedMove}
 use Rattle.method.specs.State.{isAtRest, atRest}
 use Rattle.method.specs.Step.{Running, runningOf}
+use Rattle.method.proofs.wear.WornLaws.{unworn-passes}
 use Rattle.method.proofs.basics.AcceptedCalls.{ListFits, fits-one-to-one, taken-run}
 use Rattle.method.proofs.states.AtRest.{rest-stands}
 use Rattle.listing.specs.Area.{Written}
@@ -133,11 +135,12 @@ module _ (Z : Sizes) (list sets bytes : List ℕ) where
           few-blocks = l .few-blocks;
           few-pages = l .few-pages;
           short-pages = l .short-pages;
-          taken = taken-run R (atRest Z bytes) (replicate P 0) 0 (record {
+          taken = taken-run R (atRest Z bytes) (replicate P 0) unworn 0 counterEnd (record {
             accepted = accepted;
             lent = record { store-length = store-is; marks-length = marks-size Z bytes; work-length = length-replicate {A = ℕ} P 0 };
             stands = rest-stands (move R) accepted (atRest Z bytes) store-is (marks-size Z bytes) (is-at-rest Z bytes);
             fits = fits;
+            lasts = unworn-passes (R .sizes .n) 0;
           });
         })
 

@@ -1,15 +1,17 @@
 -- The counters after operations: of two lists, step by step, and number 12 once the move is under way.
-use Rattle.flash.proofs.Kit.{_≡_, refl, ap, _∙_, ⊎-elim, true, false, List, [], _∷_, _++_, Option, none, some, ℕ, _+_, _≤_, _<_, arith, eqb, length, ne-eqb}
+use Rattle.flash.proofs.Kit.{_≡_, refl, ap, _∙_, ⊎-elim, true, false, _||_, and-false, List, [], _∷_, _++_, Option, none, some, ℕ, zero, suc, _+_, _≤_, _<_, arith, eqb, length, getD, replicate, ne-eqb, le-ltb}
 use Rattle.flash.specs.Tables.{refusal}
 use Rattle.flash.specs.Chip.{Chip}
+use Rattle.flash.specs.Wear.{counterEnd, counterAt, unworn}
 use Rattle.flash.proofs.CounterLaws.{risen-length}
 use Rattle.flash.proofs.Bools.{bool-cases}
+use Rattle.flash.proofs.Ranges.{none-is}
 use Rattle.split.specs.Request.{Request}
 use Rattle.flash.specs.declared.sizes.Sizes.{Sizes}
 use Rattle.flash.specs.declared.wear.Wear.{Wear}
 use Rattle.method.specs.Place.{Operation, write, erase, done, operationAt, lastPlace}
 use Rattle.method.specs.Step.{operationsFrom}
-use Rattle.method.specs.Worn.{wornOnce, wornBy, isWornOut}
+use Rattle.method.specs.Worn.{wornOnce, wornBy, erasesOf, wearsOut, isWornOut}
 use Rattle.method.specs.Mend.{Reading, reading}
 use Rattle.method.specs.Answers.{runRows, runCarriedOut, runRefused, runAnswer, stepsTaken, mendRows, mended, mendAnswer}
 use Rattle.method.proofs.places.Tallies.{operationsFrom-split, operationsFrom-suc}
@@ -76,3 +78,24 @@ mend-wear-length Z chip wear = ⊎-elim
     go : eqb number 0 ≡ true → (found : Option Reading) → reading Z (chip .marks) ≡ found → length (mendAnswer Z chip wear .wear .counters) ≡ length (wear .counters)
     go q none e = rw (q, e)
     go q (some found) e = rw (q, e) (found-length (found .place) (found .toErase))
+
+-- ---- a module that was never erased passes the highest limit
+zeros-at : (count b : ℕ) → _≡_ {A = ℕ} (getD (replicate count 0) b 0) 0
+zeros-at zero b = refl
+zeros-at (suc count) zero = refl
+zeros-at (suc count) (suc b) = zeros-at count b
+
+few-erases : (n b : ℕ) → erasesOf n b ≤ 2
+unfolding erasesOf
+few-erases n b = ⊎-elim
+    (λ (e : (eqb b 0 || eqb b n) ≡ true). rw e (omega arith))
+    (λ (e : (eqb b 0 || eqb b n) ≡ false). rw e (omega arith))
+    (bool-cases (eqb b 0 || eqb b n))
+
+pub unworn-lasts : (n : ℕ) → wearsOut n unworn counterEnd ≡ false
+unfolding wearsOut counterAt
+unworn-lasts n = none-is _ 0 (n + 1) (λ b low high. le-ltb counterEnd (getD (replicate 65 0) b 0 + erasesOf n b) (omega (arith, zeros-at 65 b, few-erases n b)))
+
+pub unworn-passes : (n place : ℕ) → isWornOut n unworn place counterEnd ≡ false
+unfolding isWornOut
+unworn-passes n place = rw (unworn-lasts n, and-false)

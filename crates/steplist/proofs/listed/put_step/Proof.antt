@@ -21,14 +21,14 @@ run-unpinned-requires : tie.Need-run-unpinned-requires
 run-unpinned-requires c κs =
     let start = c .before .before .before .before .before .before .before .before .before in
     let a = start .args in
-    let fits = run-taken (unpinned (a .sizes) (a .list .now) (a .sets .now)) _ _ (a .place) (start .pre .0 .taken) .fits in
+    let fits = run-taken (unpinned (a .sizes) (a .list .now) (a .sets .now)) _ _ _ (a .place) _ (start .pre .0 .taken) .fits in
     (start .pre .0 .few-blocks, start .pre .0 .few-pages, fits .list-length)
 
 put-line-requires : tie.Need-put-line-requires
 put-line-requires c κs =
     let start = c .before .before .before .before .before .before .before .before .before .before .before .before .before .before .before .before .before .before in
     let a = start .args in
-    let given = run-taken (unpinned (a .sizes) (a .list .now) (a .sets .now)) _ _ (a .place) (start .pre .0 .taken) .accepted .ranges in
+    let given = run-taken (unpinned (a .sizes) (a .list .now) (a .sets .now)) _ _ _ (a .place) _ (start .pre .0 .taken) .accepted .ranges in
     ((given, omega arith), omega (arith, told (c .before .before .before .before .before .before .before .before) .short))
 
 word-requires : tie.Need-word-requires

@@ -46,10 +46,10 @@ slice-aggregate-run-2 c = let count = c .before .before .before .before .before 
 returns : tie.Need-returns
 returns c =
     let done = c .before .before .before .before .before .before .before in
-    let d = done .before .before .before .before .before .before .before in
+    let d = done .before .before .before .before .before .before .before .before in
     let count = d .before .before in
     let a = count .before .before .before .before .before .before .args in
-    done .run .ensures .0
+    rw (done .before .unworn .ensures) at (done .run .ensures .0)
     ∙ ap₂ (λ (list pins : List ℕ). runAnswer (requestOf (a .sizes) list pins (a .sets .now)) (record { store = a .store .now; marks = a .marks .now })
     (a .work .now) unworn (a .place) (a .budget) counterEnd)
     (front-again (count .original-count .result) 64 (d .copy-list .last .0) (copied d) ∙ d .copy-list .ensures)
@@ -59,4 +59,4 @@ pub run-unpinned-spec : {M : Type 1} → statement M
 run-unpinned-spec =
     tie.close
     (tie.spec (λ c. search needs) few slice-aggregate-copy-list copy-list-requires array-borrow-prefix-own-2 slice-aggregate-run array-share-prefix-pins slice-aggregate-run-2
-    (λ c. search needs) (λ c. search needs) (λ c. search needs) (λ c. search needs) returns)
+    (λ c. search needs) (λ c. search needs) (λ c. search needs) (λ c. search needs) (λ c. search needs) returns)
