@@ -34,11 +34,18 @@ returns-3 c =
     let a = z .before .before .before .before .args in
     rw (c .refused3 .ensures) (refuse-drop (a .n) (a .m) (a .list .now) (a .text .now) (sized z) (y .if2 .left) (sym (h .has-drop .ensures) ∙ c .before .if3 .taken))
 
-mul-check : tie.Need-mul-check
-mul-check c =
+mul-is-good : tie.Need-mul-is-good
+mul-is-good c =
     let z = c .before .before .before in
     let a = z .before .before .before .before .args in
     omega (arith, sizes-few (a .n) (a .m) (a .list .now) (a .text .now) (sized z))
+
+is-good-requires : tie.Need-is-good-requires
+is-good-requires c κs =
+    let y = c .before .before in
+    let z = y .before in
+    let a = z .before .before .before .before .args in
+    (y .if2 .left, sizes-few (a .n) (a .m) (a .list .now) (a .text .now) (sized z) .4)
 
 returns-4 : tie.Need-returns-4
 returns-4 c =
@@ -48,7 +55,7 @@ returns-4 c =
     let z = y .before in
     let a = z .before .before .before .before .args in
     rw (c .refused4 .ensures) (refuse-list (a .n) (a .m) (a .list .now) (a .text .now) (sized z) (y .if2 .left) (sym (x .before .has-drop .ensures) ∙ x .if3 .left)
-    (sym (k .check .ensures) ∙ not-true _ (c .before .if4 .taken)))
+    (sym (k .is-good .ensures) ∙ not-true _ (c .before .if4 .taken)))
 
 -- as many slots as fit
 slots : (c : tie.Else4) → (let a = c .before .before .before .before .before .before .before .before .before .args in
@@ -77,7 +84,7 @@ check-from-rest-requires c κs =
     let y = x .before .before in
     let z = y .before in
     let a = z .before .before .before .before .args in (
-      checkable (a .n) (a .m) (a .list .now) (a .text .now) (sized z) (y .if2 .left) (sym (x .before .has-drop .ensures) ∙ x .if3 .left) (sym (k .check .ensures) ∙ not-false _ (u .if4 .left)),
+      checkable (a .n) (a .m) (a .list .now) (a .text .now) (sized z) (y .if2 .left) (sym (x .before .has-drop .ensures) ∙ x .if3 .left) (sym (k .is-good .ensures) ∙ not-false _ (u .if4 .left)),
       front u,
     )
 
@@ -91,9 +98,9 @@ returns-5 c =
     let z = y .before in
     let a = z .before .before .before .before .args in
     d .check-from-rest .ensures
-    ∙ accepted-rows (a .n) (a .m) (a .list .now) (a .text .now) (sized z) (y .if2 .left) (sym (x .before .has-drop .ensures) ∙ x .if3 .left) (sym (k .check .ensures) ∙ not-false _ (u .if4 .left))
+    ∙ accepted-rows (a .n) (a .m) (a .list .now) (a .text .now) (sized z) (y .if2 .left) (sym (x .before .has-drop .ensures) ∙ x .if3 .left) (sym (k .is-good .ensures) ∙ not-false _ (u .if4 .left))
 
 pub check-spec : {M : Type 1} → statement M
 check-spec = tie.close (tie.spec (λ c κs. search needs) (λ c κs. search needs) returns mul-if2 (λ c κs. search needs) returns-2 (λ c κs. search needs) (λ c κs. search needs)
-    returns-3 mul-check (λ c κs. search needs) (λ c κs. search needs) returns-4 (λ c. omega (arith, slots c)) (λ c. omega (arith, slots c)) (λ c. omega (arith, slots c))
+    returns-3 mul-is-good is-good-requires (λ c κs. search needs) returns-4 (λ c. omega (arith, slots c)) (λ c. omega (arith, slots c)) (λ c. omega (arith, slots c))
     slice-aggregate-check-from-rest check-from-rest-requires returns-5)
