@@ -37,7 +37,7 @@
  *   wear         MOVER_WEAR_BYTES: a counter of erases for each of blocks 0 to 64, however many there are, four bytes each, low byte first; then
  *                the highest count, four bytes in the same order, and the lowest block that has it, one byte. It belongs to the chip and not
  *                to the move: keep it as long as the chip
- *   text         an Intel HEX file; mover_hex_write fills exactly mover_hex_bytes, mover_hex_read takes any length
+ *   text         an Intel HEX file; mover_hex_write fills exactly mover_hex_bytes, mover_hex_read takes any length; or a step listing of any length
  *
  * A DROPPED PAGE, whose entry is MOVER_DROPPED, is 255s throughout from the first call that takes the list: read gives them at once, while
  * its old bytes may still lie in the store, and they cannot be had back. At the end the first dropped page, by number, has left its 255s at the
@@ -65,7 +65,7 @@
  * must not be NULL. This is all that a caller has to take care of; the rest is tested. The helpers at the end, which take a struct, assert
  * that its parts are apart, unless NDEBUG is defined.
  *
- * After a refusal every number out is 0, and every lent byte is as it was.
+ * After a refusal every number out is 0, but for the line of 13, 14 and 15, and every lent byte is as it was.
  */
 #ifndef MOVER_H
 #define MOVER_H
@@ -90,7 +90,10 @@ enum mover_refusal {
     MOVER_BAD_ADDRESS = 9,   /* a HEX data byte outside the image, or a record that runs over a 64 KiB span */
     MOVER_BAD_TEXT = 10,     /* a HEX data byte given twice, no end record, or anything after it */
     MOVER_BAD_PINS = 11,     /* the list sends a pinned page to another address and does not drop it; this comes between 3 and 4 */
-    MOVER_BAD_WEAR = 12      /* a move from place 0 would wear a block past the limit; this comes after 5 */
+    MOVER_BAD_WEAR = 12,     /* a move from place 0 would wear a block past the limit; this comes after 5 */
+    MOVER_BAD_LINE = 13,     /* a line of a listing of another form, with a wrong number, or after the end line */
+    MOVER_BAD_WRITE = 14,    /* a line that writes where the page is not blank, or where a higher one has been written after the last erase */
+    MOVER_LOST_ORIGINAL = 15 /* a line after which an original could no longer be had */
 };
 
 /* The list entry of a page that is thrown away. */
@@ -196,6 +199,21 @@ uint32_t mover_hex_read(uint32_t n, uint32_t m, uint32_t page_bytes, const uint8
  * Returns 0, or 1, 2, or 5 if a mark of blocks 1 to n is not 0, or the spare is not blank. */
 uint32_t mover_hex_write(uint32_t n, uint32_t m, uint32_t page_bytes, const uint8_t *store, uint64_t store_len,
                          const uint8_t *marks, uint64_t marks_len, uint8_t *text, uint64_t text_len);
+
+/* Checks the step listing of any mover, with any method: would its move, from rest, have kept every original through a power cut at any moment?
+ * Each line ends with a line feed, has single spaces and decimal numbers without leading zeros, and steps are numbered from 0:
+ *   STEP W BLOCK PAGE ORIGINAL..   writes the sum of these originals, one or more in rising order, to a blank page above those written in its
+ *                                  block since the last erase
+ *   STEP E BLOCK                   erases a block
+ *   end WRITES ERASES              the last line
+ * n * m is at most 64, and no page is dropped: an entry of MOVER_DROPPED is 3. The first faulty line decides, 13 before 14 before 15 on one line.
+ *   *line      the number of the faulty line, from 1, with 13, 14 and 15
+ *   *accepted  1 if no line is faulty, the end line is there and its counts are true, the spare is blank at the end, and every original lies, by
+ *              itself, where the list sends it; else 0
+ * Changes nothing.
+ * Returns 0, or 1, 2, 3, 13, 14 or 15. */
+uint32_t mover_check_listing(uint32_t n, uint32_t m, const uint8_t *list, uint64_t list_len, const uint8_t *text, uint64_t text_len,
+                             uint32_t *line, uint32_t *accepted);
 
 /* How long the lent parts are, in bytes. */
 static inline uint64_t mover_list_bytes(uint32_t n, uint32_t m)

@@ -344,6 +344,7 @@ int main(void)
     bytes_checked();
     most_bytes_checked();
     tells_checked();
+    listing_checked();
     hex_checked();
     printf("%u passed, %u failed\n", passed, failed);
     return failed != 0 || passed == 0;

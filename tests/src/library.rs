@@ -1,8 +1,8 @@
 //! The proved library, through its C interface.
 
 use crate::harness::interface::{
-    mover_hex_read, mover_hex_write, mover_mend, mover_operation, mover_read, mover_run,
-    mover_split, mover_wear_refresh, Calls, HexCalls, OperationCall,
+    mover_check_listing, mover_hex_read, mover_hex_write, mover_mend, mover_operation, mover_read,
+    mover_run, mover_split, mover_wear_refresh, Calls, HexCalls, ListingCall, OperationCall,
 };
 
 pub fn calls() -> Calls {
@@ -17,6 +17,10 @@ pub fn calls() -> Calls {
 
 pub fn operation() -> OperationCall {
     mover_operation
+}
+
+pub fn listing_call() -> ListingCall {
+    mover_check_listing
 }
 
 pub fn hex_calls() -> HexCalls {

@@ -86,11 +86,13 @@ count-fits room bytes r count = rw count (entries-fit room bytes)
 pub front-is : (entries rest after : List ℕ) (r : ℕ) → r ≡ length entries → after ≡ entries ++ rest → take r after ≡ entries
 front-is entries rest after r count whole = rw whole (take-at entries rest r (sym count))
 
--- A call that refuses every list of another length alike answers for the entries decoded what it answers for the bytes.
-pub on-bytes : {A : Type 0} (Z : Sizes) (refused : ℕ → A) (answer : List ℕ → A)
-    → ((list : List ℕ) → (inRange Z ≡ true → length list ≢ originalCount Z) → answer list ≡ refused (cond (inRange Z) 2 1))
-    → (bytes entries : List ℕ) (r : A) → entries ≡ entriesWithin 4096 bytes → r ≡ answer entries → r ≡ onBytes Z refused answer bytes
-on-bytes Z refused answer refuses bytes entries r e f =
+-- A call that refuses every list of another length alike answers for the entries decoded what it answers for the bytes. `sized` tells that the sizes are
+-- in their ranges.
+pub on-list : {A : Type 0} (sized : Bool) (originals : ℕ) → (sized ≡ true → (1 ≤ originals) × (originals ≤ 4096)) → (refused : ℕ → A) (answer : List ℕ → A)
+    → ((list : List ℕ) → (sized ≡ true → length list ≢ originals) → answer list ≡ refused (cond sized 2 1))
+    → (bytes entries : List ℕ) (r : A) → entries ≡ entriesWithin 4096 bytes → r ≡ answer entries
+    → r ≡ cond (isOdd bytes) (refused (cond sized 2 1)) (answer (entriesOf bytes))
+on-list sized originals bounds refused answer refuses bytes entries r e f =
     f ∙ ap answer e ∙ ⊎-elim
     (λ (none : no-list 4096 bytes ≡ true).
     ⊎-elim
@@ -101,15 +103,22 @@ on-bytes Z refused answer refuses bytes entries r e f =
     rw (entries-within 4096 bytes fits, or-false-left (isOdd bytes) (ltb 4096 (length bytes / 2)) fits))
     (bool-cases (no-list 4096 bytes))
   where
-    nothing : no-list 4096 bytes ≡ true → answer (entriesWithin 4096 bytes) ≡ refused (cond (inRange Z) 2 1)
+    nothing : no-list 4096 bytes ≡ true → answer (entriesWithin 4096 bytes) ≡ refused (cond sized 2 1)
     nothing none = refuses (entriesWithin 4096 bytes) (λ ranged e.
-        let B = in-range Z ranged in
-        let some : 1 * 1 ≤ originalCount Z = mul-le-mul (B .n-low) (B .m-low) in
+        let some = bounds ranged in
         let z = rw (no-entries 4096 bytes none) at e in
-        absurd (omega arith))
+        absurd (omega (arith, some .0)))
 
-    too-long : isOdd bytes ≡ false → ltb 4096 (length bytes / 2) ≡ true → answer (entriesOf bytes) ≡ refused (cond (inRange Z) 2 1)
+    too-long : isOdd bytes ≡ false → ltb 4096 (length bytes / 2) ≡ true → answer (entriesOf bytes) ≡ refused (cond sized 2 1)
     too-long even long = refuses (entriesOf bytes) (λ ranged e.
         let over = ltb-true 4096 (length bytes / 2) long in
         let count = entries-length (length bytes / 2) bytes (even-bytes bytes even) in
-        absurd (omega (arith, small Z ranged)))
+        absurd (omega (arith, bounds ranged .1)))
+
+pub on-bytes : {A : Type 0} (Z : Sizes) (refused : ℕ → A) (answer : List ℕ → A)
+    → ((list : List ℕ) → (inRange Z ≡ true → length list ≢ originalCount Z) → answer list ≡ refused (cond (inRange Z) 2 1))
+    → (bytes entries : List ℕ) (r : A) → entries ≡ entriesWithin 4096 bytes → r ≡ answer entries → r ≡ onBytes Z refused answer bytes
+on-bytes Z = on-list (inRange Z) (originalCount Z) (λ ranged.
+    let B = in-range Z ranged in
+    let some : 1 * 1 ≤ originalCount Z = mul-le-mul (B .n-low) (B .m-low) in
+    (omega arith, omega (arith, small Z ranged)))

@@ -2,3 +2,4 @@
 pub mod BytesLaws
 pub mod WearLaws
 pub mod ExportLaws
+pub mod CheckLaws

@@ -2,3 +2,4 @@
 pub mod Bytes
 pub mod Wear
 pub mod Exports
+pub mod CheckExport

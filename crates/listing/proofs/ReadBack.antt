@@ -10,7 +10,7 @@ use Rattle.listing.specs.Examples.{PrintedIsRead}
 use Rattle.listing.proofs.DigitLaws.{length-digits, one-place}
 use Rattle.listing.proofs.WordLaws.{spelled-more, number-of}
 
-digit-of : (d : ℕ) → d < 10 → digitOf small d ≡ 48 + d
+pub digit-of : (d : ℕ) → d < 10 → digitOf small d ≡ 48 + d
 unfolding digitOf
 digit-of d h = rw (lt-ltb d 10 h)
 
@@ -19,14 +19,14 @@ unfolding isDigit
 digit-is d h = rw (le-leb 48 (48 + d) (omega arith), le-leb (48 + d) 57 (omega arith))
 
 -- the last k digits of a number that has no more
-all-digits : (k n : ℕ) → all isDigit (digits small 10 k n) ≡ true
+pub all-digits : (k n : ℕ) → all isDigit (digits small 10 k n) ≡ true
 unfolding digits all
 all-digits zero n = refl
 all-digits (suc k) n =
     let low : n % 10 < 10 = omega arith in
     rw (all-append isDigit (digits small 10 k (n / 10)) (digitOf small (n % 10) ∷ []), all-digits k (n / 10), digit-of (n % 10) low, digit-is (n % 10) low)
 
-spelled-digits : (k n : ℕ) → n < 10 ^ k → spelled 0 (digits small 10 k n) ≡ n
+pub spelled-digits : (k n : ℕ) → n < 10 ^ k → spelled 0 (digits small 10 k n) ≡ n
 unfolding digits spelled
 spelled-digits zero n h = omega arith
 spelled-digits (suc k) n h =
@@ -36,7 +36,7 @@ spelled-digits (suc k) n h =
     spelled-more 0 (digits small 10 k (n / 10)) (digitOf small (n % 10)) ∙ rw (spelled-digits k (n / 10) rest, digit-of (n % 10) low) (omega arith)
 
 -- the digits counted hold the number, and they are no more than would do
-places-hold : (most n : ℕ) → n ≤ most → n < 10 ^ placesUpTo most n
+pub places-hold : (most n : ℕ) → n ≤ most → n < 10 ^ placesUpTo most n
 unfolding placesUpTo
 places-hold zero n h = omega arith
 places-hold (suc most) n h =
@@ -60,7 +60,7 @@ places-few (suc k) (suc most) n h =
     rw e (omega (arith, places-few k most (n / 10) (omega arith))))
     (bool-cases (ltb n 10))
 
-places-some : (most n : ℕ) → 1 ≤ placesUpTo most n
+pub places-some : (most n : ℕ) → 1 ≤ placesUpTo most n
 unfolding placesUpTo
 places-some zero n = omega arith
 places-some (suc most) n =

@@ -15,6 +15,11 @@ writeLine step block page bytes =
 unfoldable pub eraseLine : (step block : ℕ) → List ℕ
 eraseLine step block = decimal step ++ (32 ∷ 69 ∷ 32 ∷ decimal block) ++ (10 ∷ [])
 
+-- Rule 13.2: a write in the form that names, in place of bytes, the originals that the page is the sum of.
+unfoldable pub originalsLine : (step block page : ℕ) → (originals : List ℕ) → List ℕ
+originalsLine step block page originals =
+    decimal step ++ (32 ∷ 87 ∷ 32 ∷ decimal block) ++ (32 ∷ decimal page) ++ concatMap (λ k. 32 ∷ decimal k) originals ++ (10 ∷ [])
+
 -- the last line: `end `, the writes and the erases
 unfoldable pub endLine : (writes erases : ℕ) → List ℕ
 endLine writes erases = (101 ∷ 110 ∷ 100 ∷ 32 ∷ decimal writes) ++ (32 ∷ decimal erases) ++ (10 ∷ [])

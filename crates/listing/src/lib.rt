@@ -4,7 +4,7 @@ pub mod digits;
 pub mod fit;
 pub mod input;
 pub mod lines;
-mod number;
+pub mod number;
 
 ghost use Rattle.listing.specs.Examples.{PrintedIsRead, Examples};
 

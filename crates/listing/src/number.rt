@@ -24,13 +24,13 @@ fn is_separator(byte: u8) -> bool
     (byte == 32) | (byte == 10)
 }
 
-fn is_digit(byte: u8) -> bool
+pub fn is_digit(byte: u8) -> bool
     ensures { λ r. ⌜ r ≡ isDigit byte ⌝ }
 {
     (48 <= byte) & (byte <= 57)
 }
 
-fn digit_value(byte: u8) -> u32
+pub fn digit_value(byte: u8) -> u32
     requires { ⌜ 48 ≤ byte ⌝ }
     ensures { λ r. ⌜ r ≡ byte - 48 ⌝ }
 {

@@ -3,6 +3,7 @@
 use mover_tests::checks::tally::Tally;
 use mover_tests::harness::compare::check_mover;
 use mover_tests::harness::hex::compare::check_hex;
+use mover_tests::harness::listing::compare::check_listings;
 use mover_tests::harness::operations::{compare_operations, told_by};
 use mover_tests::library;
 use mover_tests::random::seed_from_environment;
@@ -18,5 +19,6 @@ fn main() -> ExitCode {
         compare_operations(told_by(library::operation())),
     );
     check_hex(&mut tally, "the library", &library::hex_calls(), seed);
+    check_listings(&mut tally, "the library", library::listing_call(), seed);
     tally.finish()
 }

@@ -6,6 +6,8 @@ use mover_tests::faults::all_faults;
 use mover_tests::faults::exports::{calls, Clean};
 use mover_tests::faults::hex::exports::{hex_calls, HexClean};
 use mover_tests::faults::hex::hex_faults;
+use mover_tests::faults::listing::exports::{listing_call, ListingClean};
+use mover_tests::faults::listing::listing_faults;
 use mover_tests::faults::lists;
 use mover_tests::faults::operations::faulty_tellings;
 use mover_tests::faults::programs::faulty_programs;
@@ -13,6 +15,7 @@ use mover_tests::harness::compare::{
     check_mover, first_broken_demand, first_difference, first_in_lists,
 };
 use mover_tests::harness::hex::compare::{check_hex, first_hex_difference};
+use mover_tests::harness::listing::compare::{check_listings, first_listing_difference};
 use mover_tests::harness::operations::compare_operations;
 use mover_tests::harness::programs::compare_program;
 use mover_tests::random::seed_from_environment;
@@ -39,6 +42,8 @@ fn main() -> ExitCode {
     );
     let itself = hex_calls::<Correct, HexClean>();
     check_hex(&mut tally, "the simulator itself", &itself, seed);
+    let itself = listing_call::<Correct, ListingClean>();
+    check_listings(&mut tally, "the simulator itself", itself, seed);
     faults_reported(&mut tally, seed);
     demand_3_reported(&mut tally, seed);
     tally.finish()
@@ -59,6 +64,10 @@ fn faults_reported(tally: &mut Tally, seed: u64) {
     }
     for fault in hex_faults() {
         let found = first_hex_difference(&fault.calls, seed);
+        reported(tally, fault.name, found);
+    }
+    for fault in listing_faults() {
+        let found = first_listing_difference(fault.call, seed);
         reported(tally, fault.name, found);
     }
     for fault in faulty_programs() {

@@ -1,7 +1,9 @@
 //! The simulator's own checks.
 
 use mover_tests::checks::tally::Tally;
-use mover_tests::checks::{call_lists, drop_cases, hand_cases, hex_cases, pair_cases, papers};
+use mover_tests::checks::{
+    call_lists, drop_cases, hand_cases, hex_cases, listing_cases, pair_cases, papers,
+};
 use mover_tests::checks::{recovery_lines, refusing, small_moves, step_inputs, torn, wear_cases};
 use mover_tests::random::{seed_from_environment, Random};
 use std::process::ExitCode;
@@ -19,6 +21,7 @@ fn main() -> ExitCode {
     papers::check(&mut tally);
     step_inputs::check(&mut tally);
     hex_cases::check(&mut tally);
+    listing_cases::check(&mut tally, &mut random);
     small_moves::check(&mut tally, &mut random);
     pair_cases::check(&mut tally, &mut random);
     torn::check(&mut tally, &mut random);

@@ -4,6 +4,7 @@ pub mod call_lists;
 pub mod drop_cases;
 pub mod hand_cases;
 pub mod hex_cases;
+pub mod listing_cases;
 pub mod pair_cases;
 pub mod papers;
 pub mod recovery_lines;

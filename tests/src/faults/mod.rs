@@ -4,6 +4,7 @@ mod counting;
 mod dropping;
 pub mod exports;
 pub mod hex;
+pub mod listing;
 pub mod lists;
 mod manners;
 pub mod operations;

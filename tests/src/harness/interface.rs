@@ -102,6 +102,16 @@ calls! {
         page: *mut u32,
         mark: *mut u32,
     );
+    ListingCall, mover_check_listing(
+        n: u32,
+        m: u32,
+        list: *const u8,
+        list_len: u64,
+        text: *const u8,
+        text_len: u64,
+        line: *mut u32,
+        accepted: *mut u32,
+    );
     HexReadCall, mover_hex_read(
         n: u32,
         m: u32,

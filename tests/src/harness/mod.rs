@@ -8,6 +8,7 @@ pub mod families;
 pub mod hex;
 pub mod interface;
 pub mod lent;
+pub mod listing;
 pub mod operations;
 mod player;
 pub mod programs;

@@ -5,6 +5,7 @@ pub mod cuts;
 pub mod dropping;
 pub mod flash;
 pub mod hex;
+pub mod listing;
 pub mod permutation;
 pub mod reading;
 pub mod recovery;

@@ -19,15 +19,18 @@ pub fn cases(comparer: &mut Comparer, random: &mut Random) -> Outcome {
     moves(comparer, random)
 }
 
-/// Before each erase of a move, and before a recovery, every pair around the
+/// Before each erase of a move, of long ones the first and the last of each
+/// pass, and before a recovery, every pair around the
 /// count that the block will have: below it, equal, above it; its block below,
 /// the same, above, and none that there is.
 fn every_pair(comparer: &mut Comparer, at_rest: &Scene, random: &mut Random) -> Outcome {
     let pages = at_rest.sizes.pages();
     let mut scene = at_rest.clone();
     scene.wear_limit = u32::MAX;
-    let steps = scene.sizes.steps();
-    for place in (pages..steps).step_by(pages + 1).take(20) {
+    let n = scene.sizes.data_blocks();
+    let few = |turn: &usize| n <= 5 || [0, n - 1, n, 2 * n - 1].contains(turn);
+    for turn in (0..2 * n).filter(few) {
+        let place = turn * (pages + 1) + pages;
         let mut before = at_rest.clone();
         before.wear_limit = u32::MAX;
         before.wear = vec![0; before.wear.len()];
@@ -40,7 +43,8 @@ fn every_pair(comparer: &mut Comparer, at_rest: &Scene, random: &mut Random) -> 
                 let other = random.byte();
                 for block in [0, 1, 2, 3, 4, 63, 64, 65, 255, other] {
                     scene.wear = record_with::<Correct>(&counters, (highest, block));
-                    let budget = *random.pick(&[1, 2, u32::MAX]);
+                    let most = if n > 5 { 4 } else { u32::MAX };
+                    let budget = *random.pick(&[1, 2, most]);
                     comparer.compare(&scene.run_request(place as u32, budget))?;
                     comparer.compare(&scene.request(Call::Mend))?;
                     let mut torn = scene.clone();

@@ -1,0 +1,41 @@
+-- What the loop over the lines keeps, and what the code tells of one line.
+use mathlib.Core.Path.{_≡_}
+use mathlib.Core.Bool.{Bool, true, cond, _&&_}
+use mathlib.Core.List.{List}
+use Prim.Native.Nat.{ℕ, _+_, _*_, _≤_}
+use lib.ListN.{length, drop}
+use Rattle.split.specs.OneToOne.{isOneToOne}
+use Rattle.checker.specs.declared.turn.Turn as code
+use Rattle.checker.specs.declared.turn.Turn.the-variants.{On, Stop}
+use Rattle.checker.specs.Pages.{areDetermined, isRequested}
+use Rattle.checker.specs.Answer.{Turn, on, stop}
+
+-- sizes and a list that rows 1 to 3 let pass
+pub record Checkable (n m : ℕ) (list : List ℕ) : Type 0 where
+  pub n-low : 1 ≤ n
+  pub n-high : n ≤ 64
+  pub m-low : 1 ≤ m
+  pub m-high : m ≤ 64
+  pub few : n * m ≤ 64
+  pub size : length list ≡ n * m
+  pub one-to-one : isOneToOne (n * m) list ≡ true
+
+-- between two lines: every original is determined, and there were no more lines than bytes
+pub record Standing (n m : ℕ) (pages text : List ℕ) (writes erases at : ℕ) : Type 0 where
+  pub size : length pages ≡ (n + 1) * m
+  pub determined : areDetermined (n * m) pages ≡ true
+  pub few : writes + erases ≤ at
+  pub within : at ≤ length text
+
+unfoldable pub finished : (m : ℕ) → (list pages : List ℕ) → (counted : Bool) → ℕ
+finished m list pages counted = cond (counted && isRequested m list pages) 1 0
+
+abbrev pub turnAs : code.Turn → (pages : List ℕ) → Turn
+turnAs (On writes erases next) pages = on (record { writes = writes; erases = erases; pages = pages })
+turnAs (Stop number line accepted) pages = stop (record { number = number; line = line; accepted = accepted })
+
+-- where the listing goes on, one step further
+abbrev pub GoesOn : (n m : ℕ) → (pages text : List ℕ) → (step : ℕ) → (rest : List ℕ) → code.Turn → Type 0
+GoesOn n m pages text step rest (On writes erases next) =
+    Standing n m pages text writes erases next × (drop next text ≡ rest) × (writes + erases ≡ step + 1)
+GoesOn n m pages text step rest (Stop number line accepted) = Unit {0}
