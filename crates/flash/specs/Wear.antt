@@ -21,7 +21,7 @@ counterAt wear block = getD (wear .counters) block 0
 unfoldable pub raised : ℕ → ℕ
 raised counter = cond (ltb counter counterEnd) (counter + 1) counter
 
--- ---- the pair: the highest count, and the lowest block that has it
+-- ---- the pair: the count of the most worn block, and the lowest such block
 -- a higher count takes its place, and so does an equal one at a lower block
 unfoldable pub replaces : (highest kept count block : ℕ) → Bool
 replaces highest kept count block = ltb highest count || (eqb count highest && ltb block kept)

@@ -9,7 +9,7 @@ pub const BLOCKS: usize = 65;
 // The largest number of 32 bits.
 const END: u32 = 4294967295;
 
-// A counter for each of blocks 0 to 64; the highest count and the lowest block that has it. The two may be wrong: `refresh` makes them afresh.
+// A counter for each of blocks 0 to 64; the count of the most worn block and the lowest such block. The two may be wrong: `refresh` makes them afresh.
 pub struct Wear {
     pub counters: [u32; BLOCKS],
     pub highest: u32,

@@ -1,4 +1,4 @@
--- What is claimed of the pair in the record, the highest count and the lowest block that has it.
+-- What is claimed of the pair in the record, the count of the most worn block and the lowest such block.
 use mathlib.Core.Path.{_≡_}
 use mathlib.Core.List.{List, [], _∷_, _++_}
 use Prim.Native.Nat.{ℕ, _≤_, _<_}
