@@ -46,9 +46,12 @@
  *
  * WEAR. mover_run and mover_mend add one to the counter of a block for each erase that they finish; a counter at UINT32_MAX stays there. A
  * call that is cut returns nothing, and its erases are in no record: with one step a call a cut loses one erase at most. mover_run looks at the
- * limit where a move begins, at place 0, and nowhere else: what has begun is never refused for wear. Each erase also brings the highest count
- * and its block up to date: a higher count replaces both, an equal one at a lower block replaces the block. If they are right before a call, so are
- * they after it; a new chip's record, all zeros, is right, and mover_wear_refresh makes any record right. No call looks whether they are.
+ * limit where a move begins, at place 0, and nowhere else. A cut in the first block makes mover_mend lead back there and count its erase, so a
+ * limit that was just kept may then refuse the move; every page can still be read, and a higher limit takes the move on.
+ *
+ * Each erase also brings the highest count and its block up to date: a higher count replaces both, an equal one at a lower block replaces the
+ * block. If they are right before a call, so are they after it; a new chip's record, all zeros, is right, and mover_wear_refresh makes any
+ * record right. No call looks whether they are.
  *
  * Before a move the pages of blocks 1 to n have mark s, and those of block 0 have mark 255 and bytes 255 throughout.
  *
