@@ -60,6 +60,10 @@ pub record WearCasesHold : Type 0 where
   -- mend counts its erase, and none where it erases nothing
   pub mended : (mendAnswer (three .sizes) (threeTorn 0) (wears (5 ∷ 6 ∷ 7 ∷ [])) ≡ recovered 4 1 (threeTorn 255) (5 ∷ 6 ∷ 8 ∷ []))
       × (mendAnswer (three .sizes) threeBeforeErase (wears (5 ∷ 6 ∷ 7 ∷ [])) ≡ recovered 3 0 threeBeforeErase (5 ∷ 6 ∷ 7 ∷ []))
+  -- a limit that was just kept refuses the move where a cut first write led recovery back to place 0, and the next higher one takes it on
+  pub again : Lasts (1 ∷ []) 2 (2 ∷ 2 ∷ 2 ∷ 1 ∷ [])
+      × (mendAnswer (three .sizes) (chip (9 ∷ 1 ∷ 2 ∷ 4 ∷ []) (254 ∷ 0 ∷ 0 ∷ 0 ∷ [])) (wears (1 ∷ [])) ≡ recovered 0 1 threeAtRest (2 ∷ []))
+      × WearsOut (2 ∷ []) 2 × Lasts (2 ∷ []) 3 (3 ∷ 2 ∷ 2 ∷ 1 ∷ [])
   -- refused calls leave the counters
   pub left : Refused 5 threeFinished (5 ∷ 6 ∷ 7 ∷ []) 11 9 99
       × (mendAnswer (three .sizes) (resting 2) (wears (5 ∷ []))

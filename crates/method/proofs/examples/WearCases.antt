@@ -16,6 +16,7 @@ wear-cases-hold = record {
   begins = (refl, refl, refl);
   ended = refl;
   mended = (refl, refl);
+  again = (refl, refl, refl, refl);
   left = (refl, refl);
   cut = ((refl, (refl, (refl, tt))), refl, refl);
 }
