@@ -221,7 +221,7 @@ static void pins_checked(void)
     static const uint8_t stays_sets[] = {0, 1, 0, 1}, odd_marks[] = {3, 255, 0, 0, 0, 0};
     static const struct chip rest = {{255, 255, 1, 2, 4, 8}, {255, 255, 0, 0, 0, 0}, {77}};
     static const struct chip end = {{255, 255, 1, 4, 2, 8}, {255, 255, 2, 2, 2, 2}, {4}};
-    static const struct due refused_2 = {2, 0, 0, 0, 0, 0, 0}, refused_3 = {3, 0, 0, 0, 0, 0, 0}, refused_11 = {11, 0, 0, 0, 0, 0, 0};
+    static const struct due refused_2 = {.number = 2}, refused_3 = {.number = 3}, refused_11 = {.number = 11};
 
     splits_with("pinned pages that stay", 2, 2, 1, 0, p1, 8, keeping, 4, 4, MOVER_DONE, sets);
     splits_with("all pinned, and all stay", 2, 2, 1, 0, stays, 8, all, 4, 4, MOVER_DONE, stays_sets);
