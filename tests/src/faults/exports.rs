@@ -160,6 +160,7 @@ unsafe extern "C" fn run<R: Rules, M: Manners>(
     erases: *mut u32,
     finished: *mut u32,
     written_bytes: *mut u32,
+    _pages_read: *mut u32,
 ) -> u32 {
     let loan = [
         raw(list, list_len),

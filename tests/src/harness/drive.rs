@@ -104,6 +104,8 @@ fn drive_split(calls: &Calls, request: &Request, loan: &mut Loan) -> u32 {
 
 fn drive_run(calls: &Calls, request: &Request, loan: &mut Loan, outs: [*mut u32; 6]) -> u32 {
     let sizes = &request.sizes;
+    // The simulator does not count the pages read yet: they are not compared.
+    let mut pages_read = 0;
     // All parts are live buffers of the lengths given.
     unsafe {
         (calls.run)(
@@ -134,6 +136,7 @@ fn drive_run(calls: &Calls, request: &Request, loan: &mut Loan, outs: [*mut u32;
             outs[3],
             outs[4],
             outs[5],
+            &mut pages_read,
         )
     }
 }
