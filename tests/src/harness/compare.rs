@@ -219,6 +219,9 @@ pub fn difference(given: Result<Answer, String>, due: &Answer) -> Option<String>
         ));
     }
     for part in ALL_PARTS {
+        if given.parts.get(part) == due.parts.get(part) {
+            continue;
+        }
         let mut bytes = given.parts.get(part).iter().zip(due.parts.get(part));
         if let Some(at) = bytes.position(|(given, due)| given != due) {
             let (given, due) = (given.parts.get(part)[at], due.parts.get(part)[at]);

@@ -2,7 +2,7 @@
 
 use super::interface::Calls;
 use super::lent::{Lent, Outs};
-use crate::simulator::request::{Answer, Call, Numbers, Parts, Request};
+use crate::simulator::request::{Answer, Call, Numbers, Part, Parts, Request};
 
 /// The lent parts of one call.
 struct Loan {
@@ -16,15 +16,20 @@ struct Loan {
 }
 
 impl Loan {
-    fn new(parts: &Parts) -> Loan {
+    /// The parts that the call takes.
+    fn new(request: &Request) -> Loan {
+        let lend = |part| match request.call.parts().contains(&part) {
+            true => Lent::new(request.parts.get(part)),
+            false => Lent::none(),
+        };
         Loan {
-            list: Lent::new(&parts.list),
-            pins: Lent::new(&parts.pins),
-            sets: Lent::new(&parts.sets),
-            store: Lent::new(&parts.store),
-            marks: Lent::new(&parts.marks),
-            work: Lent::new(&parts.work),
-            wear: Lent::new(&parts.wear),
+            list: lend(Part::List),
+            pins: lend(Part::Pins),
+            sets: lend(Part::Sets),
+            store: lend(Part::Store),
+            marks: lend(Part::Marks),
+            work: lend(Part::Work),
+            wear: lend(Part::Wear),
         }
     }
 
@@ -43,7 +48,7 @@ impl Loan {
 
 /// The mover's answer, or what it damaged.
 pub fn drive(calls: &Calls, request: &Request) -> Result<Answer, String> {
-    let mut loan = Loan::new(&request.parts);
+    let mut loan = Loan::new(request);
     let mut outs = Outs::junk();
     let returned = match request.call {
         Call::Split => drive_split(calls, request, &mut loan),
