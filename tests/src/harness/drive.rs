@@ -70,7 +70,7 @@ fn collect(call: Call, returned: u32, loan: Loan, outs: Outs) -> Result<Answer, 
     match call {
         Call::Split | Call::Refresh => {}
         Call::Run => {
-            let [place, steps, writes, erases, finished, written_bytes] = outs;
+            let [place, steps, writes, erases, finished, written_bytes, pages_read] = outs;
             numbers = Numbers {
                 place,
                 steps,
@@ -78,6 +78,7 @@ fn collect(call: Call, returned: u32, loan: Loan, outs: Outs) -> Result<Answer, 
                 erases,
                 finished,
                 written_bytes,
+                pages_read,
                 ..numbers
             };
         }
@@ -107,10 +108,8 @@ fn drive_split(calls: &Calls, request: &Request, loan: &mut Loan) -> u32 {
     }
 }
 
-fn drive_run(calls: &Calls, request: &Request, loan: &mut Loan, outs: [*mut u32; 6]) -> u32 {
+fn drive_run(calls: &Calls, request: &Request, loan: &mut Loan, outs: [*mut u32; 7]) -> u32 {
     let sizes = &request.sizes;
-    // The simulator does not count the pages read yet: they are not compared.
-    let mut pages_read = 0;
     // All parts are live buffers of the lengths given.
     unsafe {
         (calls.run)(
@@ -141,12 +140,12 @@ fn drive_run(calls: &Calls, request: &Request, loan: &mut Loan, outs: [*mut u32;
             outs[3],
             outs[4],
             outs[5],
-            &mut pages_read,
+            outs[6],
         )
     }
 }
 
-fn drive_mend(calls: &Calls, request: &Request, loan: &mut Loan, outs: [*mut u32; 6]) -> u32 {
+fn drive_mend(calls: &Calls, request: &Request, loan: &mut Loan, outs: [*mut u32; 7]) -> u32 {
     let sizes = &request.sizes;
     // All parts are live buffers of the lengths given.
     unsafe {
@@ -167,7 +166,7 @@ fn drive_mend(calls: &Calls, request: &Request, loan: &mut Loan, outs: [*mut u32
     }
 }
 
-fn drive_read(calls: &Calls, request: &Request, loan: &mut Loan, outs: [*mut u32; 6]) -> u32 {
+fn drive_read(calls: &Calls, request: &Request, loan: &mut Loan, outs: [*mut u32; 7]) -> u32 {
     let sizes = &request.sizes;
     // All parts are live buffers of the lengths given.
     unsafe {

@@ -64,26 +64,26 @@ const JUNK: u32 = 0xdead_beef;
 
 /// Returned numbers, junk at first, with junk between them as guards.
 pub struct Outs {
-    numbers: [u32; 13],
+    numbers: [u32; 15],
 }
 
 impl Outs {
     pub fn junk() -> Outs {
         Outs {
-            numbers: [JUNK; 13],
+            numbers: [JUNK; 15],
         }
     }
 
-    pub fn pointers(&mut self) -> [*mut u32; 6] {
+    pub fn pointers(&mut self) -> [*mut u32; 7] {
         let start = self.numbers.as_mut_ptr();
-        [1, 3, 5, 7, 9, 11].map(|index| start.wrapping_add(index))
+        [1, 3, 5, 7, 9, 11, 13].map(|index| start.wrapping_add(index))
     }
 
-    pub fn take(self) -> Result<[u32; 6], String> {
+    pub fn take(self) -> Result<[u32; 7], String> {
         let guards = self.numbers.iter().step_by(2);
         if guards.into_iter().any(|&number| number != JUNK) {
             return Err("memory beside a returned number was written".into());
         }
-        Ok([1, 3, 5, 7, 9, 11].map(|index| self.numbers[index]))
+        Ok([1, 3, 5, 7, 9, 11, 13].map(|index| self.numbers[index]))
     }
 }
