@@ -67,7 +67,8 @@ pub record DropCasesHold : Type 0 where
   pub read-dropped : (readAnswer thrown threeAtRest (junk 1) 2 ≡ record { number = 0; count = 0; bytes = 0; work = 255 ∷ [] })
       × (readAnswer thrown thrownHalf (junk 1) 2 ≡ record { number = 0; count = 0; bytes = 0; work = 255 ∷ [] })
   -- c(2) is the sum of two dropped pages, which is zeros
-  pub zeros : runs thrownTwo threeAtRest (junk 1) 0 3 ≡ ran 3 (counts 3 2 1 2 1) 0 (chip (251 ∷ 0 ∷ 2 ∷ 4 ∷ []) (1 ∷ 1 ∷ 0 ∷ 0 ∷ [])) (0 ∷ []) (0 ∷ 1 ∷ [])
+  pub zeros : runs thrownTwo threeAtRest (junk 1) 0 3
+      ≡ ran 3 (counts 3 2 1 2 1) 0 (chip (251 ∷ 0 ∷ 2 ∷ 4 ∷ []) (1 ∷ 1 ∷ 0 ∷ 0 ∷ [])) (0 ∷ []) (0 ∷ 1 ∷ [])
   -- number 3: what is kept still names two pages alike, or none
   pub number-3 : ListRefused 3 3 (65535 ∷ 1 ∷ 1 ∷ []) × ListRefused 3 3 (65535 ∷ 65534 ∷ 1 ∷ [])
   -- number 11 is not given for a pinned page that is dropped

@@ -12,7 +12,8 @@ use Rattle.method.specs.Cases.{threeTorn}
 
 -- from rest, with these counters and this limit, the whole move is made and leaves these
 abbrev Lasts : (counters : List ℕ) → (limit : ℕ) → (left : List ℕ) → Type 0
-Lasts counters limit left = runAnswer three threeAtRest (junk 1) (wears counters) 0 99 limit ≡ ran 12 (counts 12 6 6 6 13) 1 threeFinished (4 ∷ []) left
+Lasts counters limit left =
+    runAnswer three threeAtRest (junk 1) (wears counters) 0 99 limit ≡ ran 12 (counts 12 6 6 6 13) 1 threeFinished (4 ∷ []) left
 
 -- a run is refused with this number, and leaves the counters
 abbrev Refused : (number : ℕ) → Chip → (counters : List ℕ) → (place budget limit : ℕ) → Type 0
