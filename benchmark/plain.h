@@ -13,7 +13,7 @@ uint32_t plain_run(uint32_t n, uint32_t m, uint32_t page_bytes, uint32_t s,
                    uint8_t *store, uint64_t store_len, uint8_t *marks, uint64_t marks_len, uint8_t *work, uint64_t work_len,
                    uint8_t *wear, uint64_t wear_len, uint32_t place, uint32_t budget, uint32_t wear_limit,
                    uint32_t *place_reached, uint32_t *steps, uint32_t *writes, uint32_t *erases, uint32_t *finished,
-                   uint32_t *written_bytes);
+                   uint32_t *written_bytes, uint32_t *pages_read);
 
 uint32_t plain_mend(uint32_t n, uint32_t m, uint32_t page_bytes, uint32_t s,
                     uint8_t *store, uint64_t store_len, uint8_t *marks, uint64_t marks_len, uint8_t *wear, uint64_t wear_len,

@@ -10,6 +10,7 @@ struct running {
     int all_rows;                          /* whether all rows are made; if not, each write makes its own */
     const uint8_t *last;                   /* the page written last */
     uint32_t bytes;                        /* of all pages written, those that are not 255 */
+    uint32_t reads;                        /* the pages summed for them */
     int turned;                            /* whether the page to be written has 255s in its sum */
     struct list list;
     uint8_t set_of[ORIGINALS];
@@ -111,6 +112,7 @@ static void write_pages(struct running *r, uint32_t stop)
         r->turned = 0;
         count = forward ? coded_pages(r, block, r->filled, pages) : final_pages(r, block - 1, r->set_of[at - r->z.m], pages);
         r->bytes += plain_sum(slot(r, at), pages, count, r->turned, r->z.p);
+        r->reads += count;
         r->marks[at] = mark;
         r->last = slot(r, at);
     }
@@ -140,11 +142,11 @@ uint32_t plain_run(uint32_t n, uint32_t m, uint32_t page_bytes, uint32_t s,
                    uint8_t *store, uint64_t store_len, uint8_t *marks, uint64_t marks_len, uint8_t *work, uint64_t work_len,
                    uint8_t *wear, uint64_t wear_len, uint32_t place, uint32_t budget, uint32_t wear_limit,
                    uint32_t *place_reached, uint32_t *steps, uint32_t *writes, uint32_t *erases, uint32_t *finished,
-                   uint32_t *written_bytes)
+                   uint32_t *written_bytes, uint32_t *pages_read)
 {
     struct running r;
     uint32_t end, taken, number;
-    *place_reached = *steps = *writes = *erases = *finished = *written_bytes = 0;
+    *place_reached = *steps = *writes = *erases = *finished = *written_bytes = *pages_read = 0;
     r.z = (struct sizes){n, m, page_bytes, s};
     number = plain_refusal(&r.z, list, list_len, pins, pins_len, sets, sets_len, store_len, marks_len, work_len, wear_len, &r.list,
                            r.set_of);
@@ -158,7 +160,7 @@ uint32_t plain_run(uint32_t n, uint32_t m, uint32_t page_bytes, uint32_t s,
     r.marks = marks;
     r.wear = wear;
     r.last = NULL;
-    r.bytes = 0;
+    r.bytes = r.reads = 0;
     r.turn = place / (m + 1);
     r.filled = place % (m + 1);
     if (!stands(&r))
@@ -177,5 +179,6 @@ uint32_t plain_run(uint32_t n, uint32_t m, uint32_t page_bytes, uint32_t s,
     *writes = taken - *erases;
     *finished = place + taken == end;
     *written_bytes = r.bytes;
+    *pages_read = r.reads;
     return 0;
 }

@@ -19,7 +19,7 @@ struct answer call_run(const struct mover *mover, struct scene *z, uint32_t plac
     struct answer a;
     a.number = mover->run(z->n, z->m, z->page_bytes, z->s, z->list, z->list_len, z->pins, z->pins_len, z->sets, z->sets_len,
                           z->store, z->store_len, z->marks, z->marks_len, z->work, z->work_len, z->wear, z->wear_len, place, budget,
-                          z->wear_limit, &a.out[0], &a.out[1], &a.out[2], &a.out[3], &a.out[4], &a.out[5]);
+                          z->wear_limit, &a.out[0], &a.out[1], &a.out[2], &a.out[3], &a.out[4], &a.out[5], &a.out[6]);
     return a;
 }
 

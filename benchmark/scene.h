@@ -19,7 +19,7 @@ struct mover {
     uint32_t (*split)(uint32_t, uint32_t, uint32_t, uint32_t, const uint8_t *, uint64_t, const uint8_t *, uint64_t, uint8_t *, uint64_t);
     uint32_t (*run)(uint32_t, uint32_t, uint32_t, uint32_t, const uint8_t *, uint64_t, const uint8_t *, uint64_t, const uint8_t *,
                     uint64_t, uint8_t *, uint64_t, uint8_t *, uint64_t, uint8_t *, uint64_t, uint8_t *, uint64_t, uint32_t, uint32_t, uint32_t,
-                    uint32_t *, uint32_t *, uint32_t *, uint32_t *, uint32_t *, uint32_t *);
+                    uint32_t *, uint32_t *, uint32_t *, uint32_t *, uint32_t *, uint32_t *, uint32_t *);
     uint32_t (*mend)(uint32_t, uint32_t, uint32_t, uint32_t, uint8_t *, uint64_t, uint8_t *, uint64_t, uint8_t *, uint64_t, uint32_t *,
                      uint32_t *);
     uint32_t (*refresh)(uint8_t *, uint64_t);
@@ -32,7 +32,7 @@ struct mover {
 
 /* All that a call returns: the refusal number, then the numbers out. */
 struct answer {
-    uint32_t number, out[6];
+    uint32_t number, out[7];
 };
 
 struct answer call_split(const struct mover *mover, struct scene *scene);

@@ -130,6 +130,8 @@ uint32_t mover_split(uint32_t n, uint32_t m, uint32_t page_bytes, uint32_t s,
  *   *finished       1 if the place reached is 2 * n * (m + 1), else 0
  *   *written_bytes  how many bytes of the pages written, all together, are not 255: the load of programming them. 0 to *writes * page_bytes,
  *                   and never above 2 * n * m * page_bytes, which is at most 33554432
+ *   *pages_read     how many stored pages were summed for the pages written, all together: never above n for one of them, nor above
+ *                   2 * n * n * m for a whole move, which is at most 524288. A dropped page of which 255s are taken adds none
  * Changes `store`, `marks`, `work` and `wear`; `work` is left with the last page written, or as it was if none was. A pinned page travels
  * like any other and lies at its old address again only from when it is written there in the second pass. A dropped page adds 255s
  * to the pages that are written, whatever bytes it has left.
@@ -141,7 +143,7 @@ uint32_t mover_run(uint32_t n, uint32_t m, uint32_t page_bytes, uint32_t s,
                    uint8_t *store, uint64_t store_len, uint8_t *marks, uint64_t marks_len, uint8_t *work, uint64_t work_len,
                    uint8_t *wear, uint64_t wear_len, uint32_t place, uint32_t budget, uint32_t wear_limit,
                    uint32_t *place_reached, uint32_t *steps, uint32_t *writes, uint32_t *erases, uint32_t *finished,
-                   uint32_t *written_bytes);
+                   uint32_t *written_bytes, uint32_t *pages_read);
 
 /* Recovery, to be called after every power cut before the next run. Reads the marks and erases the block that is unfinished, if
  * there is one; it may itself be cut, and called again.
@@ -313,7 +315,7 @@ struct mover_move {
 
 /* How a call left the move: the place reached, and what it took. */
 struct mover_state {
-    uint32_t place, steps, writes, erases, finished, written_bytes;
+    uint32_t place, steps, writes, erases, finished, written_bytes, pages_read;
 };
 
 /* The step at a place. */
@@ -360,10 +362,10 @@ static inline uint32_t mover_run_move(const struct mover_move *move, uint32_t pl
                      mover_pins_bytes(move->n, move->m), move->sets, mover_sets_bytes(move->n, move->m), move->store,
                      mover_store_bytes(move->n, move->m, move->page_bytes), move->marks, mover_marks_bytes(move->n, move->m),
                      move->work, move->page_bytes, move->wear, MOVER_WEAR_BYTES, place, budget, wear_limit, &state->place,
-                     &state->steps, &state->writes, &state->erases, &state->finished, &state->written_bytes);
+                     &state->steps, &state->writes, &state->erases, &state->finished, &state->written_bytes, &state->pages_read);
 }
 
-/* As mover_mend: sets place and erases, an erase being a step, and finished if the place is the last; it writes no page. */
+/* As mover_mend: sets place and erases, an erase being a step, and finished if the place is the last; it writes no page and reads none. */
 static inline uint32_t mover_mend_move(const struct mover_move *move, struct mover_state *state)
 {
     uint32_t number;
@@ -372,7 +374,7 @@ static inline uint32_t mover_mend_move(const struct mover_move *move, struct mov
                         mover_store_bytes(move->n, move->m, move->page_bytes), move->marks, mover_marks_bytes(move->n, move->m),
                         move->wear, MOVER_WEAR_BYTES, &state->place, &state->erases);
     state->steps = state->erases;
-    state->writes = state->written_bytes = 0;
+    state->writes = state->written_bytes = state->pages_read = 0;
     state->finished = number == MOVER_DONE && state->place == mover_last_place(move->n, move->m) ? 1 : 0;
     return number;
 }

@@ -45,6 +45,9 @@ static enum outcome take_step(struct demo *demo)
     if (number != MOVER_DONE || mover_step_of(&demo->move, demo->place, &step) != MOVER_DONE)
         return wrong(demo, "a step was refused");
     demo->written_bytes += state.written_bytes;
+    demo->built += state.writes;
+    demo->stored_read += state.pages_read;
+    demo->dear += state.pages_read > demo->options.blocks;
     if (step.kind == MOVER_WRITE)
         outcome = outcome_of(demo, chip_program(&demo->chip, step.block, step.page, demo->move.work, step.mark));
     else

@@ -19,6 +19,8 @@ struct demo {
     uint32_t moves_wrong;                   /* those that stopped, lost a page or read one wrong */
     uint32_t cuts, recoveries, cut_recoveries;
     uint64_t written_bytes;                 /* as run counts them: those of its pages that are not 255 */
+    uint64_t built, stored_read;            /* the pages that run wrote, and those that it read for them */
+    uint32_t dear;                          /* steps that read more than n */
     uint32_t pages_read, reads_wrong, most_summed;
     uint32_t pages_lost, moves_with_loss;   /* of moves that ended */
     uint32_t pinned, pinned_astray;         /* of these too: the pages that must stay, and those of them that did not */

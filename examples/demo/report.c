@@ -134,6 +134,8 @@ static void print_work(const struct demo *demo)
     uint32_t writes = demo->chip.cells.writes, erases = erases_begun(demo), data_blocks = o->blocks * o->moves;
     printf("  written     %" PRIu32 " page%s; without a cut it is %" PRIu32 "\n", writes, s(writes), 2 * data_blocks * o->pages);
     printf("  load        %" PRIu64 " bytes that are not 255, as run counts those of the pages it writes\n", demo->written_bytes);
+    printf("  reads       %" PRIu64 " stored pages for the %" PRIu64 " that run made; proved: at most %" PRIu32 " for one, %" PRIu64 " in all\n",
+           demo->stored_read, demo->built, o->blocks, demo->built * o->blocks);
     printf("  erased      %" PRIu32 " block%s", erases, s(erases));
     if (keeps_promises(demo))
         printf("; proved: at most 2 x %" PRIu32 " + %" PRIu32 " recover%s = %" PRIu32, data_blocks, demo->recoveries,
@@ -168,6 +170,10 @@ static int print_verdict(const struct demo *demo)
     }
     if (keeps_promises(demo) && erases_begun(demo) > erases_allowed(demo)) {
         printf("\nThere were more erases than there may be: something is WRONG.\n");
+        return 0;
+    }
+    if (demo->dear != 0) {
+        printf("\nMore stored pages were read for a page than there are data blocks: something is WRONG.\n");
         return 0;
     }
     if (!counted_well(demo)) {

@@ -68,7 +68,7 @@ struct chip {
 };
 
 struct due {
-    uint32_t number, place, steps, writes, erases, finished, written_bytes;
+    uint32_t number, place, steps, writes, erases, finished, written_bytes, pages_read;
 };
 
 /* The call turns `before` into `after` and returns the numbers due. */
@@ -77,13 +77,13 @@ static void runs_with(const char *what, uint32_t n, uint32_t m, const uint8_t *l
                       const struct chip *after)
 {
     struct chip chip = *before;
-    struct due got = {77, 77, 77, 77, 77, 77, 77};
+    struct due got = {77, 77, 77, 77, 77, 77, 77, 77};
     uint64_t slots = ((uint64_t)n + 1) * m;
     uint8_t wear[MOVER_WEAR_BYTES] = {0};
     uint32_t block, counted = 0;
     got.number = mover_run(n, m, 1, 0, list, 2 * (uint64_t)n * m, pins, pins_len, sets, (uint64_t)n * m, chip.store, slots, chip.marks,
                            slots, chip.work, 1, wear, MOVER_WEAR_BYTES, place, budget, UINT32_MAX, &got.place, &got.steps, &got.writes,
-                           &got.erases, &got.finished, &got.written_bytes);
+                           &got.erases, &got.finished, &got.written_bytes, &got.pages_read);
     for (block = 0; block < MOVER_COUNTERS; block++)
         counted += mover_counter(wear, block);
     check(what, memcmp(&got, &due, sizeof got) == 0 && memcmp(&chip, after, sizeof chip) == 0 && counted == due.erases);
@@ -106,16 +106,16 @@ static void runs_checked(void)
     static const struct chip one = {{255, 9}, {255, 0}, {77}}, one_end = {{255, 9}, {255, 2}, {9}};
     static const struct chip soiled = {{255, 254, 1, 2, 4, 8}, {255, 255, 0, 0, 0, 0}, {77}};
     static const struct chip half = {{255, 255, 1, 2, 4, 8}, {255, 100, 0, 0, 0, 0}, {77}};
-    static const struct due refused_3 = {3, 0, 0, 0, 0, 0, 0}, refused_4 = {4, 0, 0, 0, 0, 0, 0}, refused_5 = {5, 0, 0, 0, 0, 0, 0};
+    static const struct due refused_3 = {.number = 3}, refused_4 = {.number = 4}, refused_5 = {.number = 5};
 
-    runs("P3: block 0", 2, 2, p1, sets, 0, 2, &rest, (struct due){0, 2, 2, 2, 0, 0, 2}, &coded_1);
-    runs("P3: block 1", 2, 2, p1, sets, 2, 3, &coded_1, (struct due){0, 5, 3, 2, 1, 0, 2}, &coded_2);
-    runs("P3: the end", 2, 2, p1, sets, 5, UINT32_MAX, &coded_2, (struct due){0, 12, 7, 4, 3, 1, 4}, &end);
-    runs("P3: at once", 2, 2, p1, sets, 0, 12, &rest, (struct due){0, 12, 12, 8, 4, 1, 8}, &end);
-    runs("P4", 1, 1, stays, only, 0, 4, &one, (struct due){0, 4, 4, 2, 2, 1, 2}, &one_end);
-    runs("P8: at the end", 2, 2, p1, sets, 12, 9, &end, (struct due){0, 12, 0, 0, 0, 1, 0}, &end);
+    runs("P3: block 0", 2, 2, p1, sets, 0, 2, &rest, (struct due){0, 2, 2, 2, 0, 0, 2, 3}, &coded_1);
+    runs("P3: block 1", 2, 2, p1, sets, 2, 3, &coded_1, (struct due){0, 5, 3, 2, 1, 0, 2, 2}, &coded_2);
+    runs("P3: the end", 2, 2, p1, sets, 5, UINT32_MAX, &coded_2, (struct due){0, 12, 7, 4, 3, 1, 4, 6}, &end);
+    runs("P3: at once", 2, 2, p1, sets, 0, 12, &rest, (struct due){0, 12, 12, 8, 4, 1, 8, 11}, &end);
+    runs("P4", 1, 1, stays, only, 0, 4, &one, (struct due){0, 4, 4, 2, 2, 1, 2, 2}, &one_end);
+    runs("P8: at the end", 2, 2, p1, sets, 12, 9, &end, (struct due){0, 12, 0, 0, 0, 1, 0, 0}, &end);
     runs("P8: past the end", 2, 2, p1, sets, 13, 9, &end, refused_5, &end);
-    runs("P11: budget 0", 2, 2, p1, sets, 0, 0, &rest, (struct due){0, 0, 0, 0, 0, 0, 0}, &rest);
+    runs("P11: budget 0", 2, 2, p1, sets, 0, 0, &rest, (struct due){0, 0, 0, 0, 0, 0, 0, 0}, &rest);
     runs("an entry met twice", 2, 2, twice, sets, 0, 9, &rest, refused_3, &rest);
     runs("no split", 2, 2, p1, no_split, 0, 9, &rest, refused_4, &rest);
     runs("a set of m", 2, 2, p1, set_2, 0, 9, &rest, refused_4, &rest);
@@ -221,7 +221,7 @@ static void pins_checked(void)
     static const uint8_t stays_sets[] = {0, 1, 0, 1}, odd_marks[] = {3, 255, 0, 0, 0, 0};
     static const struct chip rest = {{255, 255, 1, 2, 4, 8}, {255, 255, 0, 0, 0, 0}, {77}};
     static const struct chip end = {{255, 255, 1, 4, 2, 8}, {255, 255, 2, 2, 2, 2}, {4}};
-    static const struct due refused_2 = {2, 0, 0, 0, 0, 0, 0}, refused_3 = {3, 0, 0, 0, 0, 0, 0}, refused_11 = {11, 0, 0, 0, 0, 0, 0};
+    static const struct due refused_2 = {.number = 2}, refused_3 = {.number = 3}, refused_11 = {.number = 11};
 
     splits_with("pinned pages that stay", 2, 2, 1, 0, p1, 8, keeping, 4, 4, MOVER_DONE, sets);
     splits_with("all pinned, and all stay", 2, 2, 1, 0, stays, 8, all, 4, 4, MOVER_DONE, stays_sets);
@@ -232,7 +232,7 @@ static void pins_checked(void)
     splits_with("pins too short", 2, 2, 1, 0, p1, 8, keeping, 3, 4, MOVER_BAD_LENGTH, NULL);
     splits_with("no pins at all", 2, 2, 1, 0, p1, 8, NULL, 0, 4, MOVER_BAD_LENGTH, NULL);
     splits_with("pins too long", 2, 1, 1, 0, twice, 4, keeping, 3, 2, MOVER_BAD_LENGTH, NULL);
-    runs_with("run with pins", 2, 2, p1, keeping, 4, sets, 0, 12, &rest, (struct due){0, 12, 12, 8, 4, 1, 8}, &end);
+    runs_with("run with pins", 2, 2, p1, keeping, 4, sets, 0, 12, &rest, (struct due){0, 12, 12, 8, 4, 1, 8, 11}, &end);
     runs_with("run, 11", 2, 2, p1, moving, 4, sets, 0, 12, &rest, refused_11, &rest);
     runs_with("run, 11 before 4", 2, 2, p1, moving, 4, bad_sets, 0, 12, &rest, refused_11, &rest);
     runs_with("run, 11 before 5", 2, 2, p1, moving, 4, sets, 13, 12, &rest, refused_11, &rest);
@@ -254,7 +254,7 @@ static void pins_travel_checked(void)
     uint8_t sets[4], store[] = {255, 255, 1, 2, 4, 8}, marks[] = {255, 255, 0, 0, 0, 0}, work[1];
     uint8_t wear[MOVER_WEAR_BYTES] = {0};
     struct mover_move move = {2, 2, 1, 0, list, pins, sets, store, marks, work, wear};
-    struct mover_state at = {77, 77, 77, 77, 77, 77};
+    struct mover_state at = {77, 77, 77, 77, 77, 77, 77};
     uint32_t count, bytes;
     check("the list keeps them", mover_split_move(&move) == MOVER_DONE);
     check("half of the move", mover_run_move(&move, 0, 5, 2, &at) == MOVER_DONE && store[2] != 1 && store[5] == 8);
@@ -272,7 +272,7 @@ static void bytes_checked(void)
     uint8_t sets[] = {0, 0}, store[] = {255, 255, 255, 3, 255, 255}, marks[] = {255, 0, 0}, work[2], rest[6], rest_marks[3];
     uint8_t wear[MOVER_WEAR_BYTES] = {0};
     struct mover_move move = {2, 1, 2, 0, list, no_pins, sets, store, marks, work, wear};
-    struct mover_state at = {77, 77, 77, 77, 77, 77};
+    struct mover_state at = {77, 77, 77, 77, 77, 77, 77};
     uint32_t count = 77, bytes = 77, place;
     memcpy(rest, store, sizeof rest);
     memcpy(rest_marks, marks, sizeof rest_marks);
@@ -341,6 +341,7 @@ int main(void)
     drops_checked();
     wear_checked();
     highest_checked();
+    pages_read_checked();
     bytes_checked();
     most_bytes_checked();
     tells_checked();

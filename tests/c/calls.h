@@ -14,6 +14,9 @@ void wear_checked(void);
 /* The highest counter kept at hand. */
 void highest_checked(void);
 
+/* The stored pages that a run reads. */
+void pages_read_checked(void);
+
 /* Step listings of other movers. */
 void listing_checked(void);
 

@@ -29,17 +29,19 @@ uint32_t __real_mover_run(uint32_t n, uint32_t m, uint32_t page_bytes, uint32_t 
                           const uint8_t *pins, uint64_t pins_len, const uint8_t *sets, uint64_t sets_len, uint8_t *store,
                           uint64_t store_len, uint8_t *marks, uint64_t marks_len, uint8_t *work, uint64_t work_len, uint8_t *wear,
                           uint64_t wear_len, uint32_t place, uint32_t budget, uint32_t wear_limit, uint32_t *place_reached,
-                          uint32_t *steps, uint32_t *writes, uint32_t *erases, uint32_t *finished, uint32_t *written_bytes);
+                          uint32_t *steps, uint32_t *writes, uint32_t *erases, uint32_t *finished, uint32_t *written_bytes,
+                          uint32_t *pages_read);
 
 uint32_t __wrap_mover_run(uint32_t n, uint32_t m, uint32_t page_bytes, uint32_t s, const uint8_t *list, uint64_t list_len,
                           const uint8_t *pins, uint64_t pins_len, const uint8_t *sets, uint64_t sets_len, uint8_t *store,
                           uint64_t store_len, uint8_t *marks, uint64_t marks_len, uint8_t *work, uint64_t work_len, uint8_t *wear,
                           uint64_t wear_len, uint32_t place, uint32_t budget, uint32_t wear_limit, uint32_t *place_reached,
-                          uint32_t *steps, uint32_t *writes, uint32_t *erases, uint32_t *finished, uint32_t *written_bytes)
+                          uint32_t *steps, uint32_t *writes, uint32_t *erases, uint32_t *finished, uint32_t *written_bytes,
+                          uint32_t *pages_read)
 {
     uint32_t number = __real_mover_run(n, m, page_bytes, s, list, list_len, pins, pins_len, sets, sets_len, store, store_len, marks,
                                        marks_len, work, work_len, wear, wear_len, place, budget, wear_limit, place_reached, steps,
-                                       writes, erases, finished, written_bytes);
+                                       writes, erases, finished, written_bytes, pages_read);
     if (number == MOVER_DONE && *writes == 1 && *written_bytes == 0)
         work[page_bytes - 1] = 0;
     return number;

@@ -100,7 +100,7 @@ static void limit_gives(const char *what, uint32_t limit, uint32_t number, uint3
     uint32_t i;
     for (i = 0; i < 3; i++) {
         struct worn worn, before;
-        struct mover_state at = {77, 77, 77, 77, 77, 77};
+        struct mover_state at = {77, 77, 77, 77, 77, 77, 77};
         uint32_t got;
         begin(&worn, counters);
         memcpy(&before, &worn, sizeof worn);
@@ -145,7 +145,7 @@ static uint32_t run_with(struct worn *worn, uint64_t wear_len, uint32_t place)
     const struct mover_move *move = &worn->move;
     struct mover_state at;
     return mover_run(3, 1, 1, 0, move->list, 6, move->pins, 3, move->sets, 3, move->store, 4, move->marks, 4, move->work, 1, move->wear,
-                     wear_len, place, 1, 0, &at.place, &at.steps, &at.writes, &at.erases, &at.finished, &at.written_bytes);
+                     wear_len, place, 1, 0, &at.place, &at.steps, &at.writes, &at.erases, &at.finished, &at.written_bytes, &at.pages_read);
 }
 
 static void order_checked(void)

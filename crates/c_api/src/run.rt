@@ -79,11 +79,18 @@ pub extern "C" fn mover_run(
     erases: &mut u32,
     finished: &mut u32,
     bytes: &mut u32,
+    reads: &mut u32,
 ) -> u32
     ensures { λ r. ⌜ record {
       number = r;
       place = now (reached .exit);
-      tally = record { steps = now (steps .exit); writes = now (writes .exit); erases = now (erases .exit); bytes = now (bytes .exit) };
+      tally = record {
+        steps = now (steps .exit);
+        writes = now (writes .exit);
+        erases = now (erases .exit);
+        bytes = now (bytes .exit);
+        reads = now (reads .exit);
+      };
       finished = now (finished .exit);
       chip = record { store = now (store .exit); marks = now (marks .exit) };
       work = now (work .exit);
@@ -110,5 +117,6 @@ pub extern "C" fn mover_run(
     *erases = ran.tally.erases;
     *finished = ran.finished;
     *bytes = ran.tally.bytes;
+    *reads = ran.tally.reads;
     ran.number
 }

@@ -7,5 +7,6 @@ pub mod Moments
 pub mod MarksFade
 pub mod OldCuts
 pub mod MendFinds
+pub mod ReadAnswers
 pub mod MendAnswers
 pub mod CutsLeave

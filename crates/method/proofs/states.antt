@@ -9,3 +9,4 @@ pub mod AtRest
 pub mod StepsAddUp
 pub mod RunsAddUp
 pub mod RunsCount
+pub mod ReadsCounted

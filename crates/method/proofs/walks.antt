@@ -6,3 +6,4 @@ pub mod Terms
 pub mod CodedWalks
 pub mod ReadsOriginals
 pub mod WalksEnd
+pub mod ReadCosts

@@ -77,8 +77,8 @@ chip store marks = record { store = store; marks = marks }
 abbrev pub junk : ℕ → List ℕ
 junk length = replicate length 7
 
-abbrev pub counts : (steps writes erases bytes : ℕ) → Tally
-counts steps writes erases bytes = record { steps = steps; writes = writes; erases = erases; bytes = bytes }
+abbrev pub counts : (steps writes erases bytes reads : ℕ) → Tally
+counts steps writes erases bytes reads = record { steps = steps; writes = writes; erases = erases; bytes = bytes; reads = reads }
 
 -- the counters of the blocks from 0 on, and of all others 0; the pair as it is given, or a correct one
 abbrev pub worn : (counters : List ℕ) → (highest block : ℕ) → Wear
@@ -90,6 +90,10 @@ wears counters = refreshed (worn counters 0 0)
 -- with a module whose blocks were never erased, and the highest limit
 abbrev pub runs : Request → Chip → (work : List ℕ) → (place budget : ℕ) → RunAnswer
 runs R chip work place budget = runAnswer R chip work unworn place budget counterEnd
+
+-- what the step at a place reads, in a move from rest
+abbrev pub readsAt : Request → (originals : List ℕ) → (place : ℕ) → ℕ
+readsAt R originals place = runs R (stateOf (plan R) originals place) (junk (R .sizes .p)) place 1 .tally .reads
 
 abbrev pub mends : Sizes → Chip → MendAnswer
 mends Z chip = mendAnswer Z chip unworn
@@ -104,7 +108,7 @@ recovered place erases chip counters = record { number = 0; place = place; erase
 -- what a refusal gives: zeros, and all that was lent as it was
 abbrev pub refusedRun : (number : ℕ) → Chip → (work : List ℕ) → RunAnswer
 refusedRun number lent work =
-    record { number = number; place = 0; tally = counts 0 0 0 0; finished = 0; chip = lent; work = work; wear = unworn }
+    record { number = number; place = 0; tally = counts 0 0 0 0 0; finished = 0; chip = lent; work = work; wear = unworn }
 
 abbrev pub refusedMend : (number : ℕ) → Chip → MendAnswer
 refusedMend number lent = record { number = number; place = 0; erases = 0; chip = lent; wear = unworn }
@@ -213,29 +217,29 @@ pub record CasesHold (byte : ℕ) : Type 0 where
   pub p1 : splitAnswer (unpinned (sizes 2 2) (0 ∷ 2 ∷ 1 ∷ 3 ∷ []) (junk 4)) ≡ record { number = 0; sets = 1 ∷ 0 ∷ 0 ∷ 1 ∷ [] }
   pub p2 : splitAnswer (unpinned (sizes 2 2) (0 ∷ 3 ∷ 2 ∷ 1 ∷ []) (junk 4)) ≡ record { number = 0; sets = 0 ∷ 1 ∷ 0 ∷ 1 ∷ [] }
   -- the forward pass, then the backward pass
-  pub p3 : (runs two twoAtRest (junk 1) 0 6 ≡ ran 6 (counts 6 4 2 4) 0 twoHalfway (8 ∷ []) (0 ∷ 1 ∷ 1 ∷ []))
-      × (runs two twoHalfway (junk 1) 6 6 ≡ ran 12 (counts 6 4 2 4) 1 twoFinished (4 ∷ []) (1 ∷ 1 ∷ []))
-  pub p4 : runs (small 1 (0 ∷ [])) (resting 1) (junk 1) 0 9 ≡ ran 4 (counts 4 2 2 2) 1 (chip (255 ∷ 1 ∷ []) (255 ∷ 2 ∷ [])) (1 ∷ []) (1 ∷ 1 ∷ [])
+  pub p3 : (runs two twoAtRest (junk 1) 0 6 ≡ ran 6 (counts 6 4 2 4 5) 0 twoHalfway (8 ∷ []) (0 ∷ 1 ∷ 1 ∷ []))
+      × (runs two twoHalfway (junk 1) 6 6 ≡ ran 12 (counts 6 4 2 4 6) 1 twoFinished (4 ∷ []) (1 ∷ 1 ∷ []))
+  pub p4 : runs (small 1 (0 ∷ [])) (resting 1) (junk 1) 0 9 ≡ ran 4 (counts 4 2 2 2 2) 1 (chip (255 ∷ 1 ∷ []) (255 ∷ 2 ∷ [])) (1 ∷ []) (1 ∷ 1 ∷ [])
   pub p5 : (isOneToOne 2 (0 ∷ 0 ∷ []) ≡ false) × ListRefused 3 2 (0 ∷ 0 ∷ [])
   pub p6 : ListRefused 1 0 [] × MendRefused 1 0
   pub p7 : ListRefused 1 65 (range 0 65) × MendRefused 1 65
       × (isOneToOne 64 (range 0 64) ≡ true)
       × (splitAnswer (unpinned (sizes 64 1) (range 0 64) (junk 64)) ≡ record { number = 0; sets = replicate 64 0 })
-      × (runs (small 64 (range 0 64)) (resting 64) (junk 1) 0 0 ≡ ran 0 (counts 0 0 0 0) 0 (resting 64) (junk 1) [])
+      × (runs (small 64 (range 0 64)) (resting 64) (junk 1) 0 0 ≡ ran 0 (counts 0 0 0 0 0) 0 (resting 64) (junk 1) [])
       × (mends (sizes 64 1) (resting 64) ≡ recovered 0 1 (resting 64) (1 ∷ []))
       × (readAnswer (small 64 (range 0 64)) (resting 64) (junk 1) 63 ≡ record { number = 0; count = 1; bytes = 1; work = 64 ∷ [] })
-  pub p8 : (runs three threeFinished (junk 1) 12 5 ≡ ran 12 (counts 0 0 0 0) 1 threeFinished (junk 1) [])
+  pub p8 : (runs three threeFinished (junk 1) 12 5 ≡ ran 12 (counts 0 0 0 0 0) 1 threeFinished (junk 1) [])
       × (runs three threeFinished (junk 1) 13 5 ≡ refusedRun 5 threeFinished (junk 1))
-  pub p9 : (runs three threeAtRest (junk 1) 0 3 ≡ ran 3 (counts 3 2 1 2) 0 threeBeforeErase (3 ∷ []) (0 ∷ 1 ∷ []))
+  pub p9 : (runs three threeAtRest (junk 1) 0 3 ≡ ran 3 (counts 3 2 1 2 5) 0 threeBeforeErase (3 ∷ []) (0 ∷ 1 ∷ []))
       × CutInside (three .sizes) (operationAt (three .sizes) 3) threeBeforeErase (threeTorn byte)
       × (readAnswer three (threeTorn byte) (junk 1) 1 ≡ record { number = 0; count = 3; bytes = 1; work = 2 ∷ [] })
       × (mends (three .sizes) (threeTorn byte) ≡ recovered 4 1 (threeTorn 255) (0 ∷ 0 ∷ 1 ∷ []))
   -- a run at that place is refused while the page marked 255 is not blank, and goes on once it is
   pub p9-on : (runs three (threeTorn 0) (junk 1) 4 1 ≡ refusedRun 5 (threeTorn 0) (junk 1))
-      × (runs three (threeTorn 255) (junk 1) 4 1 ≡ ran 5 (counts 1 1 0 1) 0 (chip (5 ∷ 3 ∷ 4 ∷ 4 ∷ []) (1 ∷ 1 ∷ 1 ∷ 0 ∷ [])) (4 ∷ []) [])
+      × (runs three (threeTorn 255) (junk 1) 4 1 ≡ ran 5 (counts 1 1 0 1 1) 0 (chip (5 ∷ 3 ∷ 4 ∷ 4 ∷ []) (1 ∷ 1 ∷ 1 ∷ 0 ∷ [])) (4 ∷ []) [])
   pub half-written : HalfWritten 3 byte × HalfWritten 254 byte
   pub p10 : mends (three .sizes) threeFinished ≡ recovered 12 1 threeFinished (1 ∷ [])
-  pub p11 : runs three threeAtRest (junk 1) 0 0 ≡ ran 0 (counts 0 0 0 0) 0 threeAtRest (junk 1) []
+  pub p11 : runs three threeAtRest (junk 1) 0 0 ≡ ran 0 (counts 0 0 0 0 0) 0 threeAtRest (junk 1) []
   -- the numbers that no P gives: a part one byte short
   pub number-2 : (splitAnswer (unpinned (sizes 2 1) (0 ∷ 1 ∷ []) (junk 1)) ≡ record { number = 2; sets = junk 1 })
       × (runs three threeAtRest [] 0 9 ≡ refusedRun 2 threeAtRest [])
@@ -250,9 +254,9 @@ pub record CasesHold (byte : ℕ) : Type 0 where
   pub number-7 : readAnswer three threeAtRest (junk 1) 3 ≡ record { number = 7; count = 0; bytes = 0; work = junk 1 }
   -- of the four pages written the first, the sum of both, programs two bytes, and of the others one and none
   pub bytes : (runs half halfAtRest (junk 2) 0 1
-      ≡ ran 1 (counts 1 1 0 2) 0 (chip (0 ∷ 252 ∷ 255 ∷ 3 ∷ 255 ∷ 255 ∷ []) (1 ∷ 0 ∷ 0 ∷ [])) (0 ∷ 252 ∷ []) [])
+      ≡ ran 1 (counts 1 1 0 2 2) 0 (chip (0 ∷ 252 ∷ 255 ∷ 3 ∷ 255 ∷ 255 ∷ []) (1 ∷ 0 ∷ 0 ∷ [])) (0 ∷ 252 ∷ []) [])
       × (runs half halfAtRest (junk 2) 0 99
-      ≡ ran 8 (counts 8 4 4 3) 1 (chip (255 ∷ 255 ∷ 255 ∷ 255 ∷ 255 ∷ 3 ∷ []) (255 ∷ 2 ∷ 2 ∷ [])) (255 ∷ 255 ∷ []) (1 ∷ 2 ∷ 1 ∷ []))
+      ≡ ran 8 (counts 8 4 4 3 7) 1 (chip (255 ∷ 255 ∷ 255 ∷ 255 ∷ 255 ∷ 3 ∷ []) (255 ∷ 2 ∷ 2 ∷ [])) (255 ∷ 255 ∷ []) (1 ∷ 2 ∷ 1 ∷ []))
       × (readAnswer half halfAtRest (junk 2) 0 ≡ record { number = 0; count = 1; bytes = 1; work = 255 ∷ 3 ∷ [] })
       × (readAnswer half halfAtRest (junk 2) 1 ≡ record { number = 0; count = 1; bytes = 0; work = 255 ∷ 255 ∷ [] })
   -- number 11: a pinned page that is sent elsewhere, whatever its byte, behind 3 and before 4; one that stays is no ground
@@ -267,7 +271,10 @@ pub record CasesHold (byte : ℕ) : Type 0 where
   pub program : listing (plan three) 12 0 (record { chip = threeAtRest; work = [] })
       ≡ W 0 0 0 (5 ∷ []) ∷ E 1 1 ∷ W 2 1 0 (3 ∷ []) ∷ E 3 2 ∷ W 4 2 0 (4 ∷ []) ∷ E 5 3
       ∷ W 6 3 0 (2 ∷ []) ∷ E 7 2 ∷ W 8 2 0 (1 ∷ []) ∷ E 9 1 ∷ W 10 1 0 (4 ∷ []) ∷ E 11 0 ∷ []
-  pub program-end : runs three threeAtRest (junk 1) 0 99 ≡ ran 12 (counts 12 6 6 6) 1 threeFinished (4 ∷ []) (1 ∷ 2 ∷ 2 ∷ 1 ∷ [])
+  pub program-end : runs three threeAtRest (junk 1) 0 99 ≡ ran 12 (counts 12 6 6 6 13) 1 threeFinished (4 ∷ []) (1 ∷ 2 ∷ 2 ∷ 1 ∷ [])
+  -- what each page that it writes costs, in the forward pass and in the backward pass
+  pub program-reads : (map (readsAt three (1 ∷ 2 ∷ 4 ∷ [])) (0 ∷ 2 ∷ 4 ∷ []) ≡ 2 ∷ 3 ∷ 1 ∷ [])
+      × (map (readsAt three (1 ∷ 2 ∷ 4 ∷ [])) (6 ∷ 8 ∷ 10 ∷ []) ≡ 3 ∷ 2 ∷ 2 ∷ [])
   -- the paper's Fig. 2: each page written, and what it is made from, in the forward pass and in the backward pass
   pub figure-2 : figure (plan eight) 32 0
       ≡ written 0 (1 ∷ 4 ∷ []) (1 ∷ 4 ∷ []) ∷ written 1 (2 ∷ 5 ∷ []) (2 ∷ 5 ∷ [])
@@ -280,10 +287,10 @@ pub record CasesHold (byte : ℕ) : Type 0 where
       ∷ written 2 (5 ∷ []) (1 ∷ 6 ∷ []) ∷ written 1 (4 ∷ []) (0 ∷ 3 ∷ []) ∷ []
   -- and as bytes: after the forward pass, and at the end
   pub figure-bytes : (runs eight (atRest (sizes 8 1) eightBits) (junk 1) 0 16
-      ≡ ran 16 (counts 16 8 8 8) 0 (chip (map sumOfBits eightCoded ++ (255 ∷ [])) (replicate 8 1 ++ (255 ∷ []))) (sumOfBits (8 ∷ []) ∷ [])
+      ≡ ran 16 (counts 16 8 8 8 15) 0 (chip (map sumOfBits eightCoded ++ (255 ∷ [])) (replicate 8 1 ++ (255 ∷ []))) (sumOfBits (8 ∷ []) ∷ [])
       (0 ∷ replicate 8 1))
       × (runs eight (atRest (sizes 8 1) eightBits) (junk 1) 0 32
-      ≡ ran 32 (counts 32 16 16 16) 1 (chip (255 ∷ map sumOfBits eightFinal) (255 ∷ replicate 8 2)) (sumOfBits (4 ∷ []) ∷ [])
+      ≡ ran 32 (counts 32 16 16 16 41) 1 (chip (255 ∷ map sumOfBits eightFinal) (255 ∷ replicate 8 2)) (sumOfBits (4 ∷ []) ∷ [])
       (1 ∷ replicate 7 2 ++ (1 ∷ [])))
   -- the states of the places, in the moves above
   pub states : Reaches two (1 ∷ 2 ∷ 4 ∷ 8 ∷ []) 12 × Reaches three (1 ∷ 2 ∷ 4 ∷ []) 12 × Reaches eight eightBits 32

@@ -26,6 +26,7 @@ use Rattle.method.specs.Mend.{Reading, lines, reading}
 use Rattle.method.specs.Answers.{order, runRows, mendRows, readRows}
 use Rattle.method.specs.Runs.{RunsAddUp, StatesReached}
 use Rattle.method.specs.Counts.{RunsCount}
+use Rattle.method.specs.PagesRead.{ReadsCounted}
 use Rattle.method.specs.Demand3.{Demand3}
 use Rattle.method.specs.WearCounts.{WearCounts}
 use Rattle.method.specs.HighestCounter.{HighestCounter}
@@ -149,6 +150,7 @@ pub record Claims : Type 0 where
   pub runs : RunsAddUp
   pub states : StatesReached
   pub counts : RunsCount
+  pub reads : ReadsCounted
   pub steps : StepsCounted
   pub places : PlacesDiffer
   pub erases : ErasesCounted

@@ -1,6 +1,6 @@
 -- Worked cases with dropped pages, as those of Cases.antt: the program's case with its last page dropped, step by step, and what is refused.
 use mathlib.Core.Path.{_≡_}
-use mathlib.Core.List.{[], _∷_}
+use mathlib.Core.List.{[], _∷_, map}
 use Rattle.flash.specs.Chip.{Chip}
 use Rattle.split.specs.Drops.{completed}
 use Rattle.split.specs.Request.{Request, requestOf, unpinned}
@@ -8,7 +8,7 @@ use Rattle.split.specs.Answer.{splitAnswer}
 use Rattle.method.specs.Move.{plan}
 use Rattle.method.specs.Answers.{readAnswer}
 use Rattle.method.specs.Runs.{Start}
-use Rattle.method.specs.Cases.{W, E, listing, Reaches, sizes, chip, junk, counts, runs, ran, small, three, threeAtRest, ListRefused}
+use Rattle.method.specs.Cases.{W, E, listing, Reaches, sizes, chip, junk, counts, runs, readsAt, ran, small, three, threeAtRest, ListRefused}
 
 -- page 2 is dropped, and place 0 is free: the completed list is that of `three`
 abbrev thrown : Request
@@ -52,7 +52,12 @@ pub record DropCasesHold : Type 0 where
       ≡ W 0 0 0 (5 ∷ []) ∷ E 1 1 ∷ W 2 1 0 (254 ∷ []) ∷ E 3 2 ∷ W 4 2 0 (4 ∷ []) ∷ E 5 3
       ∷ W 6 3 0 (255 ∷ []) ∷ E 7 2 ∷ W 8 2 0 (1 ∷ []) ∷ E 9 1 ∷ W 10 1 0 (4 ∷ []) ∷ E 11 0 ∷ []
   -- of the six pages written two are 255s
-  pub whole : runs thrown threeAtRest (junk 1) 0 99 ≡ ran 12 (counts 12 6 6 4) 1 thrownEnd (255 ∷ []) (1 ∷ 2 ∷ 2 ∷ 1 ∷ [])
+  pub whole : runs thrown threeAtRest (junk 1) 0 99 ≡ ran 12 (counts 12 6 6 4 8) 1 thrownEnd (255 ∷ []) (1 ∷ 2 ∷ 2 ∷ 1 ∷ [])
+  -- what each page costs: none for D(i) where it is dropped, nor for D(pred(i)), nor for the final page; and for c(2) of the first list, where
+  -- the walk ends at the dropped page, one less than without it
+  pub reads : (map (readsAt thrown (1 ∷ 2 ∷ 4 ∷ [])) (0 ∷ 2 ∷ 4 ∷ 6 ∷ 8 ∷ 10 ∷ []) ≡ 1 ∷ 2 ∷ 0 ∷ 3 ∷ 2 ∷ 0 ∷ [])
+      × (map (readsAt thrownInner (1 ∷ 2 ∷ 4 ∷ [])) (0 ∷ 2 ∷ 4 ∷ 6 ∷ 8 ∷ 10 ∷ []) ≡ 2 ∷ 2 ∷ 1 ∷ 0 ∷ 2 ∷ 2 ∷ [])
+      × (map (readsAt thrownAll (1 ∷ 2 ∷ 4 ∷ [])) (0 ∷ 2 ∷ 4 ∷ 6 ∷ 8 ∷ 10 ∷ []) ≡ 0 ∷ 0 ∷ 0 ∷ 0 ∷ 0 ∷ 0 ∷ [])
   pub states : Reaches thrown (1 ∷ 2 ∷ 4 ∷ []) 12 × Reaches thrownTwo (1 ∷ 2 ∷ 4 ∷ []) 12 × Reaches thrownAll (1 ∷ 2 ∷ 4 ∷ []) 12
   -- the way back from block 1 ends at the dropped page, still plain: 255s are added and not counted
   pub read-plain : readAnswer thrown thrownBegun (junk 1) 0 ≡ record { number = 0; count = 1; bytes = 1; work = 1 ∷ [] }
@@ -62,7 +67,8 @@ pub record DropCasesHold : Type 0 where
   pub read-dropped : (readAnswer thrown threeAtRest (junk 1) 2 ≡ record { number = 0; count = 0; bytes = 0; work = 255 ∷ [] })
       × (readAnswer thrown thrownHalf (junk 1) 2 ≡ record { number = 0; count = 0; bytes = 0; work = 255 ∷ [] })
   -- c(2) is the sum of two dropped pages, which is zeros
-  pub zeros : runs thrownTwo threeAtRest (junk 1) 0 3 ≡ ran 3 (counts 3 2 1 2) 0 (chip (251 ∷ 0 ∷ 2 ∷ 4 ∷ []) (1 ∷ 1 ∷ 0 ∷ 0 ∷ [])) (0 ∷ []) (0 ∷ 1 ∷ [])
+  pub zeros : runs thrownTwo threeAtRest (junk 1) 0 3
+      ≡ ran 3 (counts 3 2 1 2 1) 0 (chip (251 ∷ 0 ∷ 2 ∷ 4 ∷ []) (1 ∷ 1 ∷ 0 ∷ 0 ∷ [])) (0 ∷ []) (0 ∷ 1 ∷ [])
   -- number 3: what is kept still names two pages alike, or none
   pub number-3 : ListRefused 3 3 (65535 ∷ 1 ∷ 1 ∷ []) × ListRefused 3 3 (65535 ∷ 65534 ∷ 1 ∷ [])
   -- number 11 is not given for a pinned page that is dropped

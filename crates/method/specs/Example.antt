@@ -15,7 +15,7 @@ use Rattle.method.specs.Step.{isErase, erasesBlock}
 use Rattle.method.specs.Runs.{Start}
 use Rattle.method.specs.Events.{Call, run, mend, uncut, inside, Event, History, starting, after, moments}
 use Rattle.method.specs.Demand3.{AllAllowed, AtEach, Keeps}
-use Rattle.method.specs.Cases.{chip, junk, runs, three, threeAtRest, threeBeforeErase, threeTorn}
+use Rattle.method.specs.Cases.{chip, junk, runs, readsAt, small, resting, three, threeAtRest, threeBeforeErase, threeTorn}
 
 -- a call that is not cut
 abbrev pub whole : Call → Event
@@ -70,5 +70,8 @@ pub record BoundsMet : Type 0 where
   -- the bytes that a whole move programs: 2 × n × m × P
   pub bytes : runs three threeAtRest (junk 1) 0 (lastPlace (three .sizes)) .tally .bytes
       ≡ 2 * three .sizes .n * three .sizes .m * three .sizes .p
+  -- the stored pages that one page written costs: n; and those that a whole move reads: 2 × n × n × m, with one block
+  pub page-reads : readsAt three (1 ∷ 2 ∷ 4 ∷ []) 2 ≡ three .sizes .n
+  pub move-reads : runs (small 1 (0 ∷ [])) (resting 1) (junk 1) 0 4 .tally .reads ≡ 2 * 1 * 1 * 1
   -- with a budget of one step less the finish is not reached
   pub budget : runs three threeAtRest (junk 1) 0 (lastPlace (three .sizes) - 1) .finished ≡ 0

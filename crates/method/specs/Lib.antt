@@ -11,6 +11,7 @@ pub mod Worn
 pub mod Answers
 pub mod Runs
 pub mod Counts
+pub mod PagesRead
 pub mod Events
 pub mod Demand3
 pub mod WearCounts

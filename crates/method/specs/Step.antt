@@ -3,7 +3,7 @@ use mathlib.Core.Bool.{Bool, true, false}
 use mathlib.Core.List.{List, [], _∷_}
 use Prim.Native.Nat.{ℕ, zero, suc, _+_}
 use lib.Dec.{eqb}
-use lib.ListN.{take, drop}
+use lib.ListN.{length, take, drop}
 use Rattle.flash.specs.Lists.{concatMap}
 use Rattle.flash.specs.declared.sizes.Sizes.{Sizes}
 use Rattle.flash.specs.Geometry.{slot}
@@ -12,7 +12,7 @@ use Rattle.flash.specs.Chip.{Chip, eraseBlock, writePage}
 use Rattle.method.specs.declared.tally.Tally.{Tally}
 use Rattle.method.specs.Move.{Move, Plan}
 use Rattle.method.specs.Place.{Pass, Operation, write, erase, done, markOf, written, operations, operationAt}
-use Rattle.method.specs.Read.{Term, termPage, readTerms}
+use Rattle.method.specs.Read.{Term, termPage, storedSlots, readTerms}
 use Rattle.method.specs.State.{heldOriginals}
 
 -- what a run changes: the store and the marks, and the work page
@@ -33,6 +33,10 @@ module _ (X : Plan) where
   -- rule 4.4: what is summed for a write
   unfoldable pub writeTerms : Pass → (block page : ℕ) → (marks : List ℕ) → List Term
   writeTerms pass block page marks = concatMap (readTerms X marks) (originalsOf M pass block page)
+
+  -- rule 4.7: how many stored pages are read for it
+  unfoldable pub pagesRead : Pass → (block page : ℕ) → (marks : List ℕ) → ℕ
+  pagesRead pass block page marks = length (storedSlots (writeTerms pass block page marks))
 
   unfoldable pub writtenPage : Pass → (block page : ℕ) → Chip → List ℕ
   writtenPage pass block page chip = sum (termPage (M .sizes .p) chip) (writeTerms pass block page (chip .marks))
@@ -79,21 +83,28 @@ operationsFrom Z place count = take count (drop place (operations Z))
 
 -- ---- what is counted
 abbrev pub nothingDone : Tally
-nothingDone = record { steps = 0; writes = 0; erases = 0; bytes = 0 }
+nothingDone = record { steps = 0; writes = 0; erases = 0; bytes = 0; reads = 0 }
 
--- One step more. Of a write the bytes that it programs are counted too: its page is in the work page after it.
-unfoldable pub tallied : Operation → (work : List ℕ) → Tally → Tally
-tallied (write pass block page) work t =
-    record { steps = t .steps + 1; writes = t .writes + 1; erases = t .erases; bytes = t .bytes + writtenBytes work }
-tallied (erase block) work t = record { steps = t .steps + 1; writes = t .writes; erases = t .erases + 1; bytes = t .bytes }
-tallied done work t = t
+-- One step more, from these marks. Of a write the bytes that it programs are counted too, its page being in the work page after it, and the
+-- stored pages that it was made from.
+unfoldable pub tallied : Plan → Operation → (marks work : List ℕ) → Tally → Tally
+tallied X (write pass block page) marks work t = record {
+  steps = t .steps + 1;
+  writes = t .writes + 1;
+  erases = t .erases;
+  bytes = t .bytes + writtenBytes work;
+  reads = t .reads + pagesRead X pass block page marks;
+}
+tallied X (erase block) marks work t =
+    record { steps = t .steps + 1; writes = t .writes; erases = t .erases + 1; bytes = t .bytes; reads = t .reads }
+tallied X done marks work t = t
 
 -- of as many steps as `count` says, each from the next place
 unfoldable pub tallyOf : Plan → (count place : ℕ) → Running → Tally
 tallyOf X zero place run = nothingDone
 tallyOf X (suc count) place run =
     let after = step X place run in
-    tallied (operationAt (X .move .sizes) place) (after .work) (tallyOf X count (suc place) after)
+    tallied X (operationAt (X .move .sizes) place) (run .chip .marks) (after .work) (tallyOf X count (suc place) after)
 
 -- two tallies together
 abbrev pub added : Tally → Tally → Tally
@@ -102,4 +113,5 @@ added one two = record {
   writes = one .writes + two .writes;
   erases = one .erases + two .erases;
   bytes = one .bytes + two .bytes;
+  reads = one .reads + two .reads;
 }

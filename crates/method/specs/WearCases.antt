@@ -12,13 +12,14 @@ use Rattle.method.specs.Cases.{threeTorn}
 
 -- from rest, with these counters and this limit, the whole move is made and leaves these
 abbrev Lasts : (counters : List ℕ) → (limit : ℕ) → (left : List ℕ) → Type 0
-Lasts counters limit left = runAnswer three threeAtRest (junk 1) (wears counters) 0 99 limit ≡ ran 12 (counts 12 6 6 6) 1 threeFinished (4 ∷ []) left
+Lasts counters limit left =
+    runAnswer three threeAtRest (junk 1) (wears counters) 0 99 limit ≡ ran 12 (counts 12 6 6 6 13) 1 threeFinished (4 ∷ []) left
 
 -- a run is refused with this number, and leaves the counters
 abbrev Refused : (number : ℕ) → Chip → (counters : List ℕ) → (place budget limit : ℕ) → Type 0
 Refused number lent counters place budget limit =
     runAnswer three lent (junk 1) (wears counters) place budget limit
-    ≡ record { number = number; place = 0; tally = counts 0 0 0 0; finished = 0; chip = lent; work = junk 1; wear = wears counters }
+    ≡ record { number = number; place = 0; tally = counts 0 0 0 0 0; finished = 0; chip = lent; work = junk 1; wear = wears counters }
 
 abbrev WearsOut : (counters : List ℕ) → (limit : ℕ) → Type 0
 WearsOut counters limit = Refused 12 threeAtRest counters 0 99 limit
@@ -33,7 +34,7 @@ threeErased = chip (5 ∷ 255 ∷ 2 ∷ 4 ∷ []) (1 ∷ 255 ∷ 0 ∷ 0 ∷ [])
 -- the step from place 1, with any limit
 abbrev ErasesOne : (counters : List ℕ) → (limit : ℕ) → (left : List ℕ) → Type 0
 ErasesOne counters limit left =
-    runAnswer three threeBegun (junk 1) (wears counters) 1 1 limit ≡ ran 2 (counts 1 0 1 0) 0 threeErased (junk 1) left
+    runAnswer three threeBegun (junk 1) (wears counters) 1 1 limit ≡ ran 2 (counts 1 0 1 0 0) 0 threeErased (junk 1) left
 
 -- two steps, a run that is cut inside its second, which is the erase of block 2, and a recovery, which erases that block
 abbrev cutOnce : List Event

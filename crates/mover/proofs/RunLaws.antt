@@ -20,6 +20,7 @@ use Rattle.method.proofs.basics.AcceptedCalls.{stands-at}
 use Rattle.method.proofs.states.StepsAddUp.{steps-add}
 use Rattle.method.proofs.states.StepsLeadOn.{Stood, steps-stand}
 use Rattle.method.proofs.states.RunsCount.{page-kept, few-bytes}
+use Rattle.method.proofs.states.ReadsCounted.{few-reads}
 use Rattle.method.proofs.places.PagesHeld.{Change, by-write, by-erase, change}
 use Rattle.method.proofs.places.StepsAtPlaces.{nextBlock, page-cases, backward-low, after-write, after-erase, operation-writes}
 use Rattle.method.proofs.wear.WornLaws.{worn-next}
@@ -45,7 +46,7 @@ performed X run done = refl
 
 -- nor does what is counted: of a write its own page, of an erase none
 counted-by : (X : Plan) (run : Running) (op : Operation) (t : Tally)
-    → tallied op (perform X op (record { chip = run .chip; work = [] }) .work) t ≡ tallied op (perform X op run .work) t
+    → tallied X op (run .chip .marks) (perform X op (record { chip = run .chip; work = [] }) .work) t ≡ tallied X op (run .chip .marks) (perform X op run .work) t
 unfolding perform tallied
 counted-by X run (write pass block page) t = refl
 counted-by X run (erase block) t = refl
@@ -58,7 +59,7 @@ module _ (X : Plan) (place i : ℕ) where
   one-taken start chip next e f = rw (steps-add X i 1 place start) (f ∙ rw e (performed X (steps X i place start) (operationAt (X .move .sizes) (place + i))))
 
   pub one-counted : (start : Running) (chip : Chip) (tally next : Tally) → chip ≡ steps X i place start .chip → tally ≡ tallyOf X i place start
-      → next ≡ tallied (operationAt (X .move .sizes) (place + i)) (step X (place + i) (record { chip = chip; work = [] }) .work) tally
+      → next ≡ tallied X (operationAt (X .move .sizes) (place + i)) (chip .marks) (step X (place + i) (record { chip = chip; work = [] }) .work) tally
       → next ≡ tallyOf X (i + 1) place start
   unfolding steps step
   one-counted start chip tally next c e f =
@@ -120,12 +121,20 @@ module _ (X : Plan) (A : AcceptedMove (X .move)) (run : Running) (place : ℕ) (
 
   -- ---- what it counts is small
   pub counts-fit : (i : ℕ) (tally : Tally) → place + i ≤ lastPlace Z → tally ≡ tallyOf X i place run
-      → (tally .steps ≤ 8320) × (tally .writes ≤ 8320) × (tally .erases ≤ 8320) × (tally .bytes ≤ 8320 * 4096)
+      → (tally .steps ≤ 8320) × (tally .writes ≤ 8320) × (tally .erases ≤ 8320) × (tally .bytes ≤ 8320 * 4096) × (tally .reads ≤ 8320 * 64)
   counts-fit i tally h e =
       let few = last-small Z (A .ranges) in
       let counts = few-tallied X i place run h in
+      let writes = tallyOf X i place run .writes in
       let bytes = few-bytes X A run place begins i h in
-      rw e (omega arith, omega arith, omega arith, omega (arith, bytes, product-le (tallyOf X i place run .writes) P {c = 8320} {d = 4096} (omega arith) (A .ranges .p-high)))
+      let reads = few-reads X A run place begins i h in
+      rw e (
+        omega arith,
+        omega arith,
+        omega arith,
+        omega (arith, bytes, product-le writes P {c = 8320} {d = 4096} (omega arith) (A .ranges .p-high)),
+        omega (arith, reads, product-le writes (Z .n) {c = 8320} {d = 64} (omega arith) (A .ranges .n-high)),
+      )
 
   -- ---- its work page: the old one where nothing was written, or else the page of the slot that was written last
   abbrev writesIn : (i : ℕ) → ℕ
@@ -157,7 +166,7 @@ module _ (X : Plan) (A : AcceptedMove (X .move)) (run : Running) (place : ℕ) (
     last-is = omega arith
 
     done-is : (op : Operation) → operationAt Z at ≡ op
-        → (after (i + 1) ≡ perform X op (after i)) × (writesIn (i + 1) ≡ tallied op (after (i + 1) .work) (tallyOf X i place run) .writes)
+        → (after (i + 1) ≡ perform X op (after i)) × (writesIn (i + 1) ≡ tallied X op (after i .chip .marks) (after (i + 1) .work) (tallyOf X i place run) .writes)
     unfolding steps step
     done-is op is = rw (← is) (steps-add X i 1 place run, ap (λ (t : Tally). t .writes) (tally-next X i place run))
 

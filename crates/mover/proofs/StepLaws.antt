@@ -15,7 +15,7 @@ use Rattle.method.specs.declared.tally.Tally.{Tally}
 use Rattle.method.specs.Move.{Move, Plan, AcceptedMove}
 use Rattle.method.specs.Cycle.{sentTo}
 use Rattle.method.specs.Place.{Pass, Operation, write, markOf, lastPlace, operationAt, passAt, filling, marksOf}
-use Rattle.method.specs.Step.{runningOf, writeTerms, writtenPage, perform, Running, step, tallied}
+use Rattle.method.specs.Step.{runningOf, writeTerms, pagesRead, writtenPage, perform, Running, step, tallied}
 use Rattle.method.specs.inner.Shape.{Shape}
 use Rattle.method.proofs.basics.Indexes.{clash, slot-lt}
 use Rattle.method.proofs.cycles.SetCycles.{set-in, sent-in, entry-sent}
@@ -51,6 +51,11 @@ module _ (X : Plan) (pass : Pass) (block page : ℕ) (store marks : List ℕ) (s
   unfolding perform
   wrote-bytes bytes e = rw page-is e
 
+  -- as many slots are summed as its terms have stored pages
+  pub wrote-reads : pagesRead X pass block page marks ≡ r .count
+  unfolding pagesRead
+  wrote-reads = S .number
+
 -- the set of the page that goes to a page of a block
 pub set-sent : (M : Move) → AcceptedMove M → (other : List ℕ) → ByDestination (M .list) (M .sets) other → (b page : ℕ) → 1 ≤ b → b ≤ M .sizes .n → page < M .sizes .m
     → (getD other (numberAt (M .sizes .m) b page) 0 ≡ setOf (M .sets) (sentTo M (numberAt (M .sizes .m) b page)))
@@ -81,8 +86,10 @@ row-is table set = (let e : set * rowLength + rowLength - set * rowLength ≡ ro
 
 -- ---- the step at a place
 pub stepped : (X : Plan) (at : ℕ) (op : Operation) → operationAt (X .move .sizes) at ≡ op
-    → (run : Running) (after : Chip) (tally next : Tally) → after ≡ perform X op run .chip → next ≡ tallied op (perform X op run .work) tally
-    → {Room : Type 0} → Room → ((after ≡ step X at run .chip) × (next ≡ tallied (operationAt (X .move .sizes) at) (step X at run .work) tally)) × Room
+    → (run : Running) (after : Chip) (tally next : Tally) → after ≡ perform X op run .chip
+    → next ≡ tallied X op (run .chip .marks) (perform X op run .work) tally
+    → {Room : Type 0} → Room
+    → ((after ≡ step X at run .chip) × (next ≡ tallied X (operationAt (X .move .sizes) at) (run .chip .marks) (step X at run .work) tally)) × Room
 unfolding step
 stepped X at op is run after tally next e f room = rw is ((e, f), room)
 

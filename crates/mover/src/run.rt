@@ -52,6 +52,7 @@ fn nothing_done() -> Tally
         writes: 0,
         erases: 0,
         bytes: 0,
+        reads: 0,
     }
 }
 

@@ -161,7 +161,8 @@ fn write_terms(
     )
 }
 
-// Does the step at a place, and counts it. A page is summed where it is to lie; the slots that are gathered for that are of no use after.
+// Does the step at a place, and counts it. A page is summed where it is to lie; the slots that are gathered for that are read once each, and of
+// no use after.
 pub fn step(
     sizes: Sizes,
     reciprocal: usize,
@@ -181,11 +182,12 @@ pub fn step(
     requires { ⌜ PassTables (moveOf sizes (now list) (now sets)) few (place .backward) (now pages) (now other) (now drops) (now places) ⌝ }
     requires { ⌜ (reciprocal ≡ reciprocalOf (sizes .m)) × (place ≡ placeOf sizes (place .at)) × (now marks ≡ marksOf sizes (place .at))
         × (length (now slots) ≡ slotsLength) × (length (now store) ≡ storeLength sizes) × (length (now marks) ≡ marksLength sizes)
-        × ((tally .steps ≤ 8320) × (tally .writes ≤ 8320) × (tally .erases ≤ 8320) × (tally .bytes ≤ 8320 * 4096)) ⌝ }
-    ensures { λ r. ⌜ (let after = method.step (planBy sizes (now (list .entry)) (now (sets .entry)) (now (drops .entry))) (place .at)
-        (runningOf (now (store .entry)) (now (marks .entry)) []) in
+        × ((tally .steps ≤ 8320) × (tally .writes ≤ 8320) × (tally .erases ≤ 8320) × (tally .bytes ≤ 8320 * 4096)
+        × (tally .reads ≤ 8320 * 64)) ⌝ }
+    ensures { λ r. ⌜ (let X = planBy sizes (now (list .entry)) (now (sets .entry)) (now (drops .entry)) in
+        let after = method.step X (place .at) (runningOf (now (store .entry)) (now (marks .entry)) []) in
         (record { store = now (store .exit); marks = now (marks .exit) } ≡ after .chip)
-        × (r ≡ tallied (operationAt sizes (place .at)) (after .work) tally)) ⌝ }
+        × (r ≡ tallied X (operationAt sizes (place .at)) (now (marks .entry)) (after .work) tally)) ⌝ }
     ensures { λ _. ⌜ length (now (slots .exit)) ≡ slotsLength ⌝ }
 {
     match place.operation(sizes) {
@@ -216,6 +218,7 @@ pub fn step(
             tally.steps += 1;
             tally.writes += 1;
             tally.bytes += written as u32;
+            tally.reads += terms.count as u32;
             tally
         }
         Op::Erase { block } => {

@@ -78,6 +78,7 @@ fn smallest_move() -> Outcome {
         erases: 2,
         finished: 1,
         written_bytes: 2,
+        pages_read: 2,
         ..Numbers::default()
     };
     same("the answer", scene.run(0, u32::MAX).numbers, due)

@@ -130,7 +130,9 @@ fn eight_sums(write: usize) -> Outcome {
     let mut due = EIGHT_SUMMED[write].to_vec();
     due.sort();
     summed.sort();
-    same("the blocks summed", summed, due)
+    same("the blocks summed", summed, due)?;
+    let reads = scene.run(2 * write as u32, 1).numbers.pages_read;
+    same("pages read", reads as usize, EIGHT_SUMMED[write].len())
 }
 
 /// Follows the moves backwards from the list alone.

@@ -177,6 +177,9 @@ fn one_run_is_many(scene: &Scene, states: &[Flash]) -> Outcome {
         "the flash differs".into()
     })?;
     let rest = scene.run(steps / 3, u32::MAX);
+    let reads = first.numbers.pages_read + rest.numbers.pages_read;
+    let most = 2 * scene.sizes.n * scene.sizes.n * scene.sizes.m;
+    ensure(reads <= most, || format!("{reads} pages read"))?;
     same("the place reached", rest.numbers.place, steps)?;
     same("finished", rest.numbers.finished, 1)?;
     let erases = first.numbers.erases + rest.numbers.erases;
@@ -199,7 +202,11 @@ fn big_move(n: u32, m: u32, random: &mut Random) -> Outcome {
     let mut place = 0;
     while place < shape.steps() as u32 {
         let budget = random.between(1, shape.steps() / 10) as u32;
-        place = scene.run(place, budget).numbers.place;
+        let ran = scene.run(place, budget).numbers;
+        ensure(ran.pages_read <= n * ran.writes, || {
+            format!("{} pages read for {}", ran.pages_read, ran.writes)
+        })?;
+        place = ran.place;
         for _ in 0..20 {
             original_readable(&scene, random.below(shape.originals()))?;
         }

@@ -160,6 +160,7 @@ unsafe extern "C" fn run<R: Rules, M: Manners>(
     erases: *mut u32,
     finished: *mut u32,
     written_bytes: *mut u32,
+    pages_read: *mut u32,
 ) -> u32 {
     let loan = [
         raw(list, list_len),
@@ -182,6 +183,7 @@ unsafe extern "C" fn run<R: Rules, M: Manners>(
         (erases, numbers.erases),
         (finished, numbers.finished),
         (written_bytes, numbers.written_bytes),
+        (pages_read, numbers.pages_read),
     ];
     set::<M>(numbers.returned, &outs);
     numbers.returned

@@ -12,6 +12,7 @@ mod pairing;
 mod pinning;
 pub mod programs;
 mod reading;
+mod reads;
 mod recovery;
 mod refusing;
 mod running;
@@ -41,6 +42,7 @@ pub fn all_faults() -> Vec<Fault> {
         reading::faults(),
         recovery::faults(),
         counting::faults(),
+        reads::faults(),
         pinning::faults(),
         dropping::faults(),
         wearing::faults(),

@@ -43,6 +43,9 @@ pub struct Comparer<'a> {
     compared: [u64; 5],
     /// Runs and reads that counted none, some and all bytes of their pages.
     counted: [u64; 3],
+    /// Runs that read no page for those they wrote, at most as many as they wrote, and
+    /// more.
+    reads: [u64; 3],
     /// Calls with pinned pages that were carried out, and that were refused for them.
     pinned: [u64; 2],
     /// Calls carried out with a list that drops one page, some pages, or all.
@@ -73,6 +76,7 @@ impl<'a> Comparer<'a> {
             calls,
             compared: [0; 5],
             counted: [0; 3],
+            reads: [0; 3],
             pinned: [0; 2],
             dropping: [0; 3],
             dropped_read: 0,
@@ -104,6 +108,7 @@ impl<'a> Comparer<'a> {
         }
         self.compared[request.call as usize] += 1;
         self.note_count(request, &due.numbers);
+        self.note_reads(&due.numbers);
         self.note_pins(request, &due.numbers);
         self.note_wear(request, &due);
         if due.numbers.returned == 0 {
@@ -123,6 +128,15 @@ impl<'a> Comparer<'a> {
             0 => self.counted[0] += 1,
             count if count < pages * request.sizes.page_bytes => self.counted[1] += 1,
             _ => self.counted[2] += 1,
+        }
+    }
+
+    fn note_reads(&mut self, numbers: &Numbers) {
+        match numbers.pages_read {
+            _ if numbers.writes == 0 => {}
+            0 => self.reads[0] += 1,
+            reads if reads <= numbers.writes => self.reads[1] += 1,
+            _ => self.reads[2] += 1,
         }
     }
 
@@ -189,6 +203,10 @@ impl<'a> Comparer<'a> {
         }
         let [none, some, all] = self.counted;
         println!("written bytes: none of the pages {none} times, some {some}, all {all}");
+        let [none, few, more] = self.reads;
+        println!(
+            "reads: none in {none} runs that wrote, at most one a page in {few}, more in {more}"
+        );
         let [done, refused] = self.pinned;
         println!("pins: {done} calls carried out, {refused} refused as 11");
         let [one, some, all] = self.dropping;
@@ -219,6 +237,9 @@ pub fn difference(given: Result<Answer, String>, due: &Answer) -> Option<String>
         ));
     }
     for part in ALL_PARTS {
+        if given.parts.get(part) == due.parts.get(part) {
+            continue;
+        }
         let mut bytes = given.parts.get(part).iter().zip(due.parts.get(part));
         if let Some(at) = bytes.position(|(given, due)| given != due) {
             let (given, due) = (given.parts.get(part)[at], due.parts.get(part)[at]);
@@ -276,6 +297,7 @@ pub fn check_mover(tally: &mut Tally, name: &str, calls: &Calls, seed: u64) {
         tally.check(&format!("{name}, {what}"), enough);
     };
     often("counts of every kind", &comparer.counted);
+    often("pages read, none, few, more", &comparer.reads);
     often("pins kept and moved", &comparer.pinned);
     often("one page dropped, some, all", &comparer.dropping);
     often("dropped pages read", &[comparer.dropped_read]);

@@ -2,7 +2,7 @@
 
 use super::interface::Calls;
 use super::lent::{Lent, Outs};
-use crate::simulator::request::{Answer, Call, Numbers, Parts, Request};
+use crate::simulator::request::{Answer, Call, Numbers, Part, Parts, Request};
 
 /// The lent parts of one call.
 struct Loan {
@@ -16,15 +16,20 @@ struct Loan {
 }
 
 impl Loan {
-    fn new(parts: &Parts) -> Loan {
+    /// The parts that the call takes.
+    fn new(request: &Request) -> Loan {
+        let lend = |part| match request.call.parts().contains(&part) {
+            true => Lent::new(request.parts.get(part)),
+            false => Lent::none(),
+        };
         Loan {
-            list: Lent::new(&parts.list),
-            pins: Lent::new(&parts.pins),
-            sets: Lent::new(&parts.sets),
-            store: Lent::new(&parts.store),
-            marks: Lent::new(&parts.marks),
-            work: Lent::new(&parts.work),
-            wear: Lent::new(&parts.wear),
+            list: lend(Part::List),
+            pins: lend(Part::Pins),
+            sets: lend(Part::Sets),
+            store: lend(Part::Store),
+            marks: lend(Part::Marks),
+            work: lend(Part::Work),
+            wear: lend(Part::Wear),
         }
     }
 
@@ -43,7 +48,7 @@ impl Loan {
 
 /// The mover's answer, or what it damaged.
 pub fn drive(calls: &Calls, request: &Request) -> Result<Answer, String> {
-    let mut loan = Loan::new(&request.parts);
+    let mut loan = Loan::new(request);
     let mut outs = Outs::junk();
     let returned = match request.call {
         Call::Split => drive_split(calls, request, &mut loan),
@@ -65,7 +70,7 @@ fn collect(call: Call, returned: u32, loan: Loan, outs: Outs) -> Result<Answer, 
     match call {
         Call::Split | Call::Refresh => {}
         Call::Run => {
-            let [place, steps, writes, erases, finished, written_bytes] = outs;
+            let [place, steps, writes, erases, finished, written_bytes, pages_read] = outs;
             numbers = Numbers {
                 place,
                 steps,
@@ -73,6 +78,7 @@ fn collect(call: Call, returned: u32, loan: Loan, outs: Outs) -> Result<Answer, 
                 erases,
                 finished,
                 written_bytes,
+                pages_read,
                 ..numbers
             };
         }
@@ -102,7 +108,7 @@ fn drive_split(calls: &Calls, request: &Request, loan: &mut Loan) -> u32 {
     }
 }
 
-fn drive_run(calls: &Calls, request: &Request, loan: &mut Loan, outs: [*mut u32; 6]) -> u32 {
+fn drive_run(calls: &Calls, request: &Request, loan: &mut Loan, outs: [*mut u32; 7]) -> u32 {
     let sizes = &request.sizes;
     // All parts are live buffers of the lengths given.
     unsafe {
@@ -134,11 +140,12 @@ fn drive_run(calls: &Calls, request: &Request, loan: &mut Loan, outs: [*mut u32;
             outs[3],
             outs[4],
             outs[5],
+            outs[6],
         )
     }
 }
 
-fn drive_mend(calls: &Calls, request: &Request, loan: &mut Loan, outs: [*mut u32; 6]) -> u32 {
+fn drive_mend(calls: &Calls, request: &Request, loan: &mut Loan, outs: [*mut u32; 7]) -> u32 {
     let sizes = &request.sizes;
     // All parts are live buffers of the lengths given.
     unsafe {
@@ -159,7 +166,7 @@ fn drive_mend(calls: &Calls, request: &Request, loan: &mut Loan, outs: [*mut u32
     }
 }
 
-fn drive_read(calls: &Calls, request: &Request, loan: &mut Loan, outs: [*mut u32; 6]) -> u32 {
+fn drive_read(calls: &Calls, request: &Request, loan: &mut Loan, outs: [*mut u32; 7]) -> u32 {
     let sizes = &request.sizes;
     // All parts are live buffers of the lengths given.
     unsafe {

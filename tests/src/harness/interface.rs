@@ -52,6 +52,7 @@ calls! {
         erases: *mut u32,
         finished: *mut u32,
         written_bytes: *mut u32,
+        pages_read: *mut u32,
     );
     MendCall, mover_mend(
         n: u32,

@@ -24,6 +24,14 @@ impl Lent {
         }
     }
 
+    /// A part that the call does not take.
+    pub fn none() -> Lent {
+        Lent {
+            buffer: vec![],
+            guard: GUARD_BYTE,
+        }
+    }
+
     pub fn length(&self) -> u64 {
         (self.buffer.len() - 2 * GUARD) as u64
     }
@@ -33,16 +41,21 @@ impl Lent {
     }
 
     /// The part after the call, or what happened to its guards.
-    pub fn take(self, name: &str) -> Result<Vec<u8>, String> {
+    pub fn take(mut self, name: &str) -> Result<Vec<u8>, String> {
+        if self.buffer.is_empty() {
+            return Ok(vec![]);
+        }
         let end = self.buffer.len() - GUARD;
-        let touched = |guard: &[u8]| guard.iter().any(|&byte| byte != self.guard);
-        if touched(&self.buffer[..GUARD]) {
+        let around = [self.guard; GUARD];
+        if self.buffer[..GUARD] != around {
             return Err(format!("a byte before the part {name} was written"));
         }
-        if touched(&self.buffer[end..]) {
+        if self.buffer[end..] != around {
             return Err(format!("a byte behind the part {name} was written"));
         }
-        Ok(self.buffer[GUARD..end].to_vec())
+        self.buffer.truncate(end);
+        self.buffer.drain(..GUARD);
+        Ok(self.buffer)
     }
 }
 
@@ -51,26 +64,26 @@ const JUNK: u32 = 0xdead_beef;
 
 /// Returned numbers, junk at first, with junk between them as guards.
 pub struct Outs {
-    numbers: [u32; 13],
+    numbers: [u32; 15],
 }
 
 impl Outs {
     pub fn junk() -> Outs {
         Outs {
-            numbers: [JUNK; 13],
+            numbers: [JUNK; 15],
         }
     }
 
-    pub fn pointers(&mut self) -> [*mut u32; 6] {
+    pub fn pointers(&mut self) -> [*mut u32; 7] {
         let start = self.numbers.as_mut_ptr();
-        [1, 3, 5, 7, 9, 11].map(|index| start.wrapping_add(index))
+        [1, 3, 5, 7, 9, 11, 13].map(|index| start.wrapping_add(index))
     }
 
-    pub fn take(self) -> Result<[u32; 6], String> {
+    pub fn take(self) -> Result<[u32; 7], String> {
         let guards = self.numbers.iter().step_by(2);
         if guards.into_iter().any(|&number| number != JUNK) {
             return Err("memory beside a returned number was written".into());
         }
-        Ok([1, 3, 5, 7, 9, 11].map(|index| self.numbers[index]))
+        Ok([1, 3, 5, 7, 9, 11, 13].map(|index| self.numbers[index]))
     }
 }

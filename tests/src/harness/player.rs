@@ -4,8 +4,9 @@ use super::compare::{Comparer, Difference};
 use super::demand::{right_read, Summed};
 use crate::scene::Scene;
 use crate::simulator::dropping::Term;
+use crate::simulator::flash::Flash;
 use crate::simulator::request::{Answer, Request};
-use std::collections::HashMap;
+use std::collections::{HashMap, HashSet};
 
 pub type Played<T> = Result<T, Box<Difference>>;
 
@@ -23,6 +24,8 @@ pub struct Player<'a, 'b> {
     /// Does the move drop pages?
     drops: bool,
     summed: HashMap<(Vec<u8>, usize), Summed>,
+    /// The stores and marks of which every original has been read.
+    read_out: HashSet<(Vec<u8>, Vec<u8>)>,
 }
 
 impl<'a, 'b> Player<'a, 'b> {
@@ -31,6 +34,7 @@ impl<'a, 'b> Player<'a, 'b> {
             comparer,
             drops: scene.has_drops(),
             summed: HashMap::new(),
+            read_out: HashSet::new(),
         }
     }
 
@@ -62,6 +66,13 @@ impl<'a, 'b> Player<'a, 'b> {
             self.summed.insert(key.clone(), summed);
         }
         right_read(scene, k, &answer, &self.summed[&key]).map_err(|why| broken(&request, why))
+    }
+
+    /// Are the originals of this flash still to be read? They are read once: most
+    /// recoveries lead to one of few.
+    pub fn unread(&mut self, flash: &Flash) -> bool {
+        let key = (flash.store.clone(), flash.marks.clone());
+        self.read_out.insert(key)
     }
 
     /// Lays a bit of its own in the page of each slot, under the same marks:

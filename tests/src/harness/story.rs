@@ -150,6 +150,10 @@ impl Story {
     }
 
     pub fn read_all(&mut self, player: &mut Player) -> Played<()> {
+        if !player.unread(&self.scene.flash) {
+            // One call stands for all, for movers that remember calls.
+            return self.read(player, 0);
+        }
         (0..self.scene.sizes.originals()).try_for_each(|k| self.read(player, k))
     }
 

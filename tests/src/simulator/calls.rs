@@ -83,6 +83,7 @@ fn run<R: Rules>(request: &Request, answer: &mut Answer) {
         erases: progress.erased.len() as u32,
         finished: (place == all) as u32,
         written_bytes: progress.written_bytes,
+        pages_read: progress.pages_read,
         ..Numbers::default()
     };
 }

@@ -122,6 +122,7 @@ pub struct Numbers {
     pub finished: u32,
     pub count: u32,
     pub written_bytes: u32,
+    pub pages_read: u32,
 }
 
 #[derive(Clone, Debug, PartialEq)]

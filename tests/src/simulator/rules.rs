@@ -146,6 +146,26 @@ pub trait Rules {
         stored(terms).len() as u32
     }
 
+    /// How many stored pages are read for D(i) of a coded page.
+    fn own_reads(term: Term) -> u32 {
+        Self::reads(&[term])
+    }
+
+    /// How many stored pages are read for the other terms of a written page.
+    fn reads(terms: &[Term]) -> u32 {
+        stored(terms).len() as u32
+    }
+
+    /// The reads of c(i): those of D(i) and, unless i is the top, of D(pred(i)).
+    fn coded_reads(own: u32, from_pred: Option<u32>) -> u32 {
+        own + from_pred.unwrap_or(0)
+    }
+
+    /// The reads of a run with those of one more page.
+    fn reads_so_far(before: u32, page: u32) -> u32 {
+        before + page
+    }
+
     /// The mark of a page written, whatever its bytes are.
     fn mark_of(_bytes: &[u8], letter: u8) -> u8 {
         letter

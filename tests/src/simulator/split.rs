@@ -2,6 +2,7 @@
 
 use super::rules::Rules;
 use super::sizes::Sizes;
+use std::mem::replace;
 
 /// A split in the making: pages already placed have a set.
 pub struct Partial {
@@ -92,19 +93,20 @@ pub fn split_by_rule<R: Rules>(sizes: Sizes, destinations: &[usize]) -> Vec<usiz
     partial.sets.into_iter().flatten().collect()
 }
 
-/// In each set a data block sends exactly one page, and gets exactly one.
+/// In each set a data block sends exactly one page, and gets exactly one: there
+/// are as many pages as pairs of a set and a block, so that none may come twice.
 pub fn is_split(sizes: &Sizes, destinations: &[usize], sets: &[u8]) -> bool {
-    let mut due = vec![];
-    for set in 0..sizes.pages() {
-        due.extend((1..=sizes.data_blocks()).map(|block| (set, block)));
-    }
-    let mut sources = vec![];
-    let mut targets = vec![];
-    for (k, (&set, &number)) in sets.iter().zip(destinations).enumerate() {
-        sources.push((set as usize, sizes.block_of(k)));
-        targets.push((set as usize, sizes.block_of(number)));
-    }
-    sources.sort();
-    targets.sort();
-    sources == due && targets == due
+    let mut sent = vec![false; sizes.slots()];
+    let mut got = sent.clone();
+    let first = |seen: &mut [bool], set: usize, block: usize| {
+        let pair = seen.get_mut(sizes.slot(block, set));
+        set < sizes.pages() && pair.is_some_and(|pair| !replace(pair, true))
+    };
+    let mut pages = sets.iter().zip(destinations).enumerate();
+    let enough = pages.len() == sizes.originals();
+    enough
+        && pages.all(|(k, (&set, &number))| {
+            let set = set as usize;
+            first(&mut sent, set, sizes.block_of(k)) && first(&mut got, set, sizes.block_of(number))
+        })
 }

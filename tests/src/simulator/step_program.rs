@@ -136,7 +136,7 @@ fn moved_text(request: &Request, mut flash: Flash) -> String {
             Step::WriteCoded { block, page } | Step::WriteFinal { block, page } => {
                 writes += 1;
                 write!(text, "W {block} {page} ").unwrap();
-                let bytes = written.unwrap_or_default();
+                let bytes = written.map(|page| page.bytes).unwrap_or_default();
                 bytes
                     .iter()
                     .for_each(|byte| write!(text, "{byte:02x}").unwrap());

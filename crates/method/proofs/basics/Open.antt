@@ -16,11 +16,11 @@ use Rattle.method.specs.Cycle.{highest, D, dest, pred, cycle, top, isTop
 use Rattle.method.specs.Place.{markOf, writes, forwardTurn, backwardTurn, operations, lastPlace, operationAt, passAt, filling, filled, written, above, heldAt, heldMark, marksOf}
 use Rattle.method.specs.Read.{fullOf, codedSlot, plainSlot, finalSlot, goBack, goOn, readSlots, fillerPage, termPage, storedSlots, termAt, readTerms, readPage}
 use Rattle.method.specs.State.{isAtRest, atRest, heldOriginals, countsAs, heldPage, stateOf}
-use Rattle.method.specs.Step.{originalsOf, writeTerms, writtenPage, perform, step, steps, isWrite, isErase, tallied, tallyOf, operationsFrom}
+use Rattle.method.specs.Step.{originalsOf, writeTerms, pagesRead, writtenPage, perform, step, steps, isWrite, isErase, tallied, tallyOf, operationsFrom}
 use Rattle.method.specs.Worn.{wornOnce, wornBy, erasesOf, wearsOut, isWornOut}
 use Rattle.method.specs.Mend.{fullFrom, forwardTorn, backwardTorn, forwardFull, backwardFull, lines, seen, reading}
 use Rattle.method.specs.Answers.{badChip, badParts, marksAnswer, fitsNone, isElsewhere, moveRows, runRows, mendRows, readRows, stepsTaken, runCarriedOut, runRefused, runAnswer, mended, mendAnswer, readAnswer}
 
 unfoldable pub all-open : Unit {0}
-unfolding range downFrom iterates highest all any count filter first concatMap part setPart isSame firstFit numberOr0 refusal isLetter inRange _⊕_ sum writtenBytes pageAt markAt isBlank isWhole isFull isUnfinished eraseBlock writePage metTwice isOneToOne keptEntries badList isDropped freePlaces paired completed sourceBlock destBlock setOf pagesFrom pagesTo isSplit otherEnd swapped blockAt isPageOf isUsed lowestUnused pagesMet exchange giveNext setsGiven splitByRule isPinned movesPinned badRequest splitRows splitAnswer letter D dest pred cycle top isTop coded sentTo markOf writes forwardTurn backwardTurn operations lastPlace operationAt passAt filling filled written above heldAt heldMark marksOf fullOf codedSlot plainSlot finalSlot goBack goOn readSlots fillerPage termPage storedSlots termAt readTerms readPage isAtRest atRest heldOriginals countsAs heldPage stateOf originalsOf writeTerms writtenPage perform step steps isWrite isErase tallied tallyOf operationsFrom fullFrom forwardTorn backwardTorn forwardFull backwardFull lines seen reading counterAt raised replaces noted risen notedUpTo refreshed wornOnce wornBy erasesOf wearsOut isWornOut badChip badParts marksAnswer fitsNone isElsewhere moveRows runRows mendRows readRows stepsTaken runCarriedOut runRefused runAnswer mended mendAnswer readAnswer
+unfolding range downFrom iterates highest all any count filter first concatMap part setPart isSame firstFit numberOr0 refusal isLetter inRange _⊕_ sum writtenBytes pageAt markAt isBlank isWhole isFull isUnfinished eraseBlock writePage metTwice isOneToOne keptEntries badList isDropped freePlaces paired completed sourceBlock destBlock setOf pagesFrom pagesTo isSplit otherEnd swapped blockAt isPageOf isUsed lowestUnused pagesMet exchange giveNext setsGiven splitByRule isPinned movesPinned badRequest splitRows splitAnswer letter D dest pred cycle top isTop coded sentTo markOf writes forwardTurn backwardTurn operations lastPlace operationAt passAt filling filled written above heldAt heldMark marksOf fullOf codedSlot plainSlot finalSlot goBack goOn readSlots fillerPage termPage storedSlots termAt readTerms readPage isAtRest atRest heldOriginals countsAs heldPage stateOf originalsOf writeTerms pagesRead writtenPage perform step steps isWrite isErase tallied tallyOf operationsFrom fullFrom forwardTorn backwardTorn forwardFull backwardFull lines seen reading counterAt raised replaces noted risen notedUpTo refreshed wornOnce wornBy erasesOf wearsOut isWornOut badChip badParts marksAnswer fitsNone isElsewhere moveRows runRows mendRows readRows stepsTaken runCarriedOut runRefused runAnswer mended mendAnswer readAnswer
 all-open = tt

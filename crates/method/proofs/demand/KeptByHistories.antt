@@ -1,6 +1,6 @@
 -- What a list of calls and cuts keeps, and that demand 3 holds of a moment that has it.
-use Rattle.flash.proofs.Kit.{_≡_, refl, sym, ap, _∙_, subst, inl, inr, ⊎-elim, true, false, List, [], ℕ, suc, _+_, _-_, _*_, _≤_, _<_, min, arith, length, getD, take}
-use Rattle.flash.proofs.Kit.{eq-eqb, lt-leb}
+use Rattle.flash.proofs.Kit.{_≡_, refl, sym, ap, _∙_, subst, inl, inr, ⊎-elim, true, false, List, ℕ, suc, _+_, _-_, _*_, _≤_, _<_, min, arith, length, getD, take}
+use Rattle.flash.proofs.Kit.{eq-eqb}
 use Rattle.flash.specs.Lists.{count}
 use Rattle.flash.specs.Tables.{refusal}
 use Rattle.flash.specs.declared.sizes.Sizes.{Sizes}
@@ -8,7 +8,6 @@ use Rattle.flash.specs.Geometry.{slotOf, originalCount, slotCount, storeLength,
 use Rattle.flash.specs.declared.wear.Wear.{Wear}
 use Rattle.flash.specs.Chip.{Chip, pageAt, isWhole}
 use Rattle.flash.proofs.Searches.{count-take}
-use Rattle.flash.proofs.Tables.{refusal-skip, refusal-nil}
 use Rattle.split.specs.Drops.{isDropped}
 use Rattle.split.specs.Request.{Request}
 use Rattle.split.proofs.DropLaws.{completed-kept}
@@ -23,7 +22,7 @@ use Rattle.method.specs.Runs.{Start}
 use Rattle.method.specs.Events.{History}
 use Rattle.method.specs.Demand3.{Stays, Keeps}
 use Rattle.method.proofs.basics.MoveShape.{Holding, counted, counts-kept, counts-dropped, holding-shows}
-use Rattle.method.proofs.basics.AcceptedCalls.{StandsAt, RunTaken, accepted-move, run-taken, taken-run}
+use Rattle.method.proofs.basics.AcceptedCalls.{StandsAt, RunTaken, run-taken, taken-run}
 use Rattle.method.proofs.places.StepsAtPlaces.{filled-early}
 use Rattle.method.proofs.places.PlaceShape.{letterAbove, which-pass}
 use Rattle.method.proofs.walks.Terms.{terms-kept, terms-dropped, stored-few, stored-each, sum-terms, page-dropped, page-kept, added-once}
@@ -33,7 +32,7 @@ use Rattle.method.proofs.states.RunsAddUp.{run-answer, start-accepted, 
 use Rattle.method.proofs.places.Turns.{turn, turn-high, turn-erases}
 use Rattle.method.proofs.recovery.MarksSeen.{terms-seen, page-seen}
 use Rattle.method.proofs.recovery.Moments.{Moment, moment-shape, finished-page}
-use Rattle.method.proofs.recovery.MendFinds.{moment-fits}
+use Rattle.method.proofs.recovery.ReadAnswers.{read-taken}
 use Rattle.method.proofs.recovery.MendAnswers.{Recovered, recovers}
 use Rattle.method.proofs.places.ErasesCounted.{at-most-twice}
 
@@ -87,11 +86,8 @@ module _ (R : Request) (chip₀ : Chip) (S : Start R chip₀) where
     lent work l = record { store-length = K .store-length; marks-length = K .moment .marks-length; work-length = l }
 
     -- read is not refused
-    read-taken : (work : List ℕ) → length work ≡ workLength W → (k : ℕ) → k < originalCount W → refusal (readRows R chip work k) ≡ 0
-    unfolding readRows
-    read-taken work l k h =
-        accepted-move R chip work _ A (lent work l) (start-fits R chip₀ S)
-        (refusal-skip _ _ (moment-fits W (A .ranges) (chip .marks) (K .place) (K .moment)) (refusal-skip _ [] (lt-leb (originalCount W) k h) refusal-nil))
+    taken : (work : List ℕ) → length work ≡ workLength W → (k : ℕ) → k < originalCount W → refusal (readRows R chip work k) ≡ 0
+    taken work l = read-taken R A (start-fits R chip₀ S) chip work (lent work l) (K .place) (K .moment)
 
     stays : (k : ℕ) → k < originalCount W → isDropped (R .list) k ≡ false → Stays R chip k (pageAt (W .p) chip₀ (slotOf (W .m) k))
     unfolding readAnswer
@@ -107,14 +103,14 @@ module _ (R : Request) (chip₀ : Chip) (S : Start R chip₀) where
           stored = rw (terms-kept X (chip .marks) k kept) (stored-each X (chip .marks) (λ t. t < slotCount W) slots (λ i l. D .sited i l .inside));
           whole = rw (terms-kept X (chip .marks) k kept) (stored-each X (chip .marks) (λ t. isWhole (chip .marks) t ≡ true) slots (λ i l. D .sited i l .whole));
           total = rw (terms-kept X (chip .marks) k kept) (⊎-elim (λ e. inl (e ∙ total)) (λ e. inr (e ∙ total)) (added-once X chip slots (D .coded-first)));
-          read-gives = λ work l. rw (read-taken work l k k-in, page-seen X chip k, terms-seen X (chip .marks) k, page-kept X chip k kept, page);
+          read-gives = λ work l. rw (taken work l k k-in, page-seen X chip k, terms-seen X (chip .marks) k, page-kept X chip k kept, page);
         }
 
     dropped : (k : ℕ) → k < originalCount W → isDropped (R .list) k ≡ true → (work : List ℕ) → length work ≡ workLength W
         → readAnswer R chip work k ≡ readGives 0 (fillerPage (W .p))
     unfolding readAnswer storedSlots
     dropped k k-in gone work l =
-        rw (read-taken work l k k-in, page-seen X chip k, terms-seen X (chip .marks) k, page-dropped X chip k gone, terms-dropped X (chip .marks) k gone)
+        rw (taken work l k k-in, page-seen X chip k, terms-seen X (chip .marks) k, page-dropped X chip k gone, terms-dropped X (chip .marks) k gone)
 
     few-erases : count isErase (h .begun) ≤ 2 * W .n + h .mends
     few-erases = go (K .bounded)

@@ -29,6 +29,7 @@ cases-hold byte = record {
   pins = (refl, refl, refl, refl, refl, refl);
   program = refl;
   program-end = refl;
+  program-reads = (refl, refl);
   figure-2 = refl;
   figure-bytes = (refl, refl);
   states = (refl, refl, refl);

@@ -12,6 +12,7 @@ drop-cases-hold = record {
   lines = refl;
   inner-lines = refl;
   whole = refl;
+  reads = (refl, refl, refl);
   states = (refl, refl, refl);
   read-plain = refl;
   read-coded = refl;

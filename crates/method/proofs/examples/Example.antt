@@ -42,4 +42,4 @@ example-holds = record {
 
 pub bounds-met : BoundsMet
 unfolding events-open
-bounds-met = record { pages = refl; undisturbed = (refl, refl, refl); erases = refl; block-erases = refl; steps = refl; bytes = refl; budget = refl }
+bounds-met = record { pages = refl; undisturbed = (refl, refl, refl); erases = refl; block-erases = refl; steps = refl; bytes = refl; page-reads = refl; move-reads = refl; budget = refl }

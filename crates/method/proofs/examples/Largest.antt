@@ -87,11 +87,11 @@ run-taken : refusal (runRows asked (resting 64) (junk 1) unworn 0 counterEnd) �
 unfolding runRows
 run-taken = moves _ (refusal-skip _ _ here (refusal-skip _ [] lasts refusal-nil))
 
-no-steps : runCarriedOut (plan asked) (resting 64) (junk 1) unworn 0 (stepsTaken (sizes 64 1) 0 0) ≡ ran 0 (counts 0 0 0 0) 0 (resting 64) (junk 1) []
+no-steps : runCarriedOut (plan asked) (resting 64) (junk 1) unworn 0 (stepsTaken (sizes 64 1) 0 0) ≡ ran 0 (counts 0 0 0 0 0) 0 (resting 64) (junk 1) []
 unfolding all-open
 no-steps = refl
 
-pub largest-run : runs asked (resting 64) (junk 1) 0 0 ≡ ran 0 (counts 0 0 0 0) 0 (resting 64) (junk 1) []
+pub largest-run : runs asked (resting 64) (junk 1) 0 0 ≡ ran 0 (counts 0 0 0 0 0) 0 (resting 64) (junk 1) []
 largest-run = run-answer asked (resting 64) (junk 1) unworn 0 0 counterEnd run-taken ∙ no-steps
 
 -- ---- read

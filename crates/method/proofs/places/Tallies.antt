@@ -59,55 +59,57 @@ module _ (Z : Sizes) where
       ∙ ap (λ (p : ℕ). p / (m + 1)) at
 
 -- ---- the tally of a run
-same-tally : {s t : Tally} → s .steps ≡ t .steps → s .writes ≡ t .writes → s .erases ≡ t .erases → s .bytes ≡ t .bytes → s ≡ t
-same-tally a b c d = λ i. record { steps = a i; writes = b i; erases = c i; bytes = d i }
-
--- one step first, or as part of the first of two runs
-tallied-added : (op : Operation) (work : List ℕ) (s t : Tally) → tallied op work (added s t) ≡ added (tallied op work s) t
-unfolding tallied
-tallied-added (write pass b q) work s t = same-tally (omega arith) (omega arith) refl (omega arith)
-tallied-added (erase b) work s t = same-tally (omega arith) refl (omega arith) refl
-tallied-added done work s t = refl
-
--- one step last
-tallied-last : (op : Operation) (work : List ℕ) (t : Tally) → added t (tallied op work nothingDone) ≡ tallied op work t
-unfolding tallied
-tallied-last (write pass b q) work t = same-tally refl refl (omega arith) (omega arith)
-tallied-last (erase b) work t = same-tally refl (omega arith) refl (omega arith)
-tallied-last done work t = same-tally (omega arith) (omega arith) (omega arith) (omega arith)
+same-tally : {s t : Tally} → s .steps ≡ t .steps → s .writes ≡ t .writes → s .erases ≡ t .erases → s .bytes ≡ t .bytes → s .reads ≡ t .reads → s ≡ t
+same-tally a b c d e = λ i. record { steps = a i; writes = b i; erases = c i; bytes = d i; reads = e i }
 
 module _ (X : Plan) where
   abbrev Z : Sizes
   Z = X .move .sizes
+
+  -- one step first, or as part of the first of two runs
+  tallied-added : (op : Operation) (marks work : List ℕ) (s t : Tally) → tallied X op marks work (added s t) ≡ added (tallied X op marks work s) t
+  unfolding tallied
+  tallied-added (write pass b q) marks work s t = same-tally (omega arith) (omega arith) refl (omega arith) (omega arith)
+  tallied-added (erase b) marks work s t = same-tally (omega arith) refl (omega arith) refl refl
+  tallied-added done marks work s t = refl
+
+  -- one step last
+  tallied-last : (op : Operation) (marks work : List ℕ) (t : Tally) → added t (tallied X op marks work nothingDone) ≡ tallied X op marks work t
+  unfolding tallied
+  tallied-last (write pass b q) marks work t = same-tally refl refl (omega arith) (omega arith) (omega arith)
+  tallied-last (erase b) marks work t = same-tally refl (omega arith) refl (omega arith) (omega arith)
+  tallied-last done marks work t = same-tally (omega arith) (omega arith) (omega arith) (omega arith) (omega arith)
 
   -- some steps, and then more
   pub tally-split : (a b place : ℕ) (run : Running)
       → tallyOf X (a + b) place run ≡ added (tallyOf X a place run) (tallyOf X b (place + a) (steps X a place run))
   unfolding tallyOf steps
   tally-split zero b place run =
-      ap₂ (λ (x y : ℕ). tallyOf X x y run) (zero-add b) (sym (add-zero place)) ∙ same-tally (omega arith) (omega arith) (omega arith) (omega arith)
+      ap₂ (λ (x y : ℕ). tallyOf X x y run) (zero-add b) (sym (add-zero place)) ∙ same-tally (omega arith) (omega arith) (omega arith) (omega arith) (omega arith)
   tally-split (suc a) b place run =
       let next : Running = step X place run in
-      let done = tallied (operationAt Z place) (next .work) in
+      let done = tallied X (operationAt Z place) (run .chip .marks) (next .work) in
       ap (λ (x : ℕ). tallyOf X x place run) (suc-add a b) ∙ ap done (tally-split a b (suc place) next)
-      ∙ tallied-added (operationAt Z place) (next .work) _ _
+      ∙ tallied-added (operationAt Z place) (run .chip .marks) (next .work) _ _
       ∙ ap (λ (x : ℕ). added (done (tallyOf X a (suc place) next)) (tallyOf X b x (steps X a (suc place) next))) (suc-add place a ∙ sym (add-suc place a))
 
   -- one step more
   pub tally-next : (i place : ℕ) (run : Running)
-      → tallyOf X (i + 1) place run ≡ tallied (operationAt Z (place + i)) (steps X (i + 1) place run .work) (tallyOf X i place run)
+      → tallyOf X (i + 1) place run
+      ≡ tallied X (operationAt Z (place + i)) (steps X i place run .chip .marks) (steps X (i + 1) place run .work) (tallyOf X i place run)
   unfolding tallyOf steps
   tally-next i place run =
-      tally-split i 1 place run ∙ tallied-last (operationAt Z (place + i)) (step X (place + i) (steps X i place run) .work) (tallyOf X i place run)
-      ∙ ap (λ (r : Running). tallied (operationAt Z (place + i)) (r .work) (tallyOf X i place run)) (sym (steps-add X i 1 place run))
+      let now : Running = steps X i place run in
+      tally-split i 1 place run ∙ tallied-last (operationAt Z (place + i)) (now .chip .marks) (step X (place + i) now .work) (tallyOf X i place run)
+      ∙ ap (λ (r : Running). tallied X (operationAt Z (place + i)) (now .chip .marks) (r .work) (tallyOf X i place run)) (sym (steps-add X i 1 place run))
 
   -- its writes and erases are those of the operations
-  counted-first : (op : Operation) (work : List ℕ) (t : Tally) (ops : List Operation) → t .writes ≡ count isWrite ops → t .erases ≡ count isErase ops
-      → (tallied op work t .writes ≡ count isWrite (op ∷ ops)) × (tallied op work t .erases ≡ count isErase (op ∷ ops))
+  counted-first : (op : Operation) (marks work : List ℕ) (t : Tally) (ops : List Operation) → t .writes ≡ count isWrite ops → t .erases ≡ count isErase ops
+      → (tallied X op marks work t .writes ≡ count isWrite (op ∷ ops)) × (tallied X op marks work t .erases ≡ count isErase (op ∷ ops))
   unfolding tallied count isWrite isErase
-  counted-first (write pass b q) work t ops e f = (omega arith, f)
-  counted-first (erase b) work t ops e f = (e, omega arith)
-  counted-first done work t ops e f = (e, f)
+  counted-first (write pass b q) marks work t ops e f = (omega arith, f)
+  counted-first (erase b) marks work t ops e f = (e, omega arith)
+  counted-first done marks work t ops e f = (e, f)
 
   pub tally-counts : (taken place : ℕ) (run : Running) → place + taken ≤ lastPlace Z
       → (tallyOf X taken place run .writes ≡ count isWrite (operationsFrom Z place taken))
@@ -117,11 +119,11 @@ module _ (X : Plan) where
   tally-counts (suc taken) place run h =
       let next : Running = step X place run in
       let rest = tally-counts taken (suc place) next (omega arith) in
-      rw (operationsFrom-suc Z place taken (omega arith)) (counted-first (operationAt Z place) (next .work) _ (operationsFrom Z (suc place) taken) (rest .0) (rest .1))
+      rw (operationsFrom-suc Z place taken (omega arith)) (counted-first (operationAt Z place) _ (next .work) _ (operationsFrom Z (suc place) taken) (rest .0) (rest .1))
 
-  stepped-first : (place : ℕ) (work : List ℕ) (t : Tally) → place < lastPlace Z → tallied (operationAt Z place) work t .steps ≡ suc (t .steps)
+  stepped-first : (place : ℕ) (marks work : List ℕ) (t : Tally) → place < lastPlace Z → tallied X (operationAt Z place) marks work t .steps ≡ suc (t .steps)
   unfolding tallied
-  stepped-first place work t h = ⊎-elim
+  stepped-first place marks work t h = ⊎-elim
       (λ (k : filled Z place < Z .m). rw (operation-writes Z place h k) (omega arith))
       (λ (k : filled Z place ≡ Z .m). rw (operation-erases Z place h k) (omega arith))
       (page-cases Z place)
@@ -131,7 +133,7 @@ module _ (X : Plan) where
   unfolding tallyOf
   steps-tallied zero place run h = refl
   steps-tallied (suc taken) place run h =
-      stepped-first place _ _ (omega arith) ∙ ap suc (steps-tallied taken (suc place) (step X place run) (omega arith))
+      stepped-first place _ _ _ (omega arith) ∙ ap suc (steps-tallied taken (suc place) (step X place run) (omega arith))
 
   -- no count of steps is above the steps taken
   pub few-tallied : (taken place : ℕ) (run : Running) → place + taken ≤ lastPlace Z

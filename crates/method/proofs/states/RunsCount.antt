@@ -119,7 +119,7 @@ module _ (R : Request) (chip : Chip) (work : List ℕ) (wear : Wear) (place budg
   T : RunTaken R chip work wear place limit
   T = run-taken R chip work wear place limit ok
 
-  in-move : place + taken ≤ lastPlace W
+  pub in-move : place + taken ≤ lastPlace W
   in-move = taken-in W place budget (T .stands .inside)
 
   stands : Stood (plan R) (T .accepted) start place
@@ -132,7 +132,7 @@ module _ (R : Request) (chip : Chip) (work : List ℕ) (wear : Wear) (place budg
       let all : stepsTaken W place i ≡ i = omega (arith, in-move) in
       ap (λ (a : RunAnswer). a .chip) (run-answer R chip work wear place i limit ok) ∙ ap (λ (x : ℕ). steps (plan R) x place start .chip) all
 
-  few-writes : count isWrite (operationsFrom W place taken) ≤ 2 * W .n * W .m
+  pub few-writes : count isWrite (operationsFrom W place taken) ≤ 2 * W .n * W .m
   unfolding operationsFrom
   few-writes =
       omega (arith, count-take isWrite taken (drop place (operations W)), count-drop isWrite place (operations W), all-writes W)
@@ -140,7 +140,7 @@ module _ (R : Request) (chip : Chip) (work : List ℕ) (wear : Wear) (place budg
   abbrev tally-told : Tally
   tally-told = runAnswer R chip work wear place budget limit .tally
 
-  told : tally-told ≡ tallyOf (plan R) taken place start
+  pub told : tally-told ≡ tallyOf (plan R) taken place start
   unfolding runCarriedOut
   told = ap (λ (a : RunAnswer). a .tally) (run-answer R chip work wear place budget limit ok)
 

@@ -1,13 +1,13 @@
 -- The bounds of read's walks are never what ends them.
-use Rattle.flash.proofs.Kit.{_≡_, sym, ap, _∙_, true, false, List, ℕ, zero, suc, _+_, _<_, arith}
+use Rattle.flash.proofs.Kit.{_≡_, sym, ap, _∙_, ⊎-elim, true, false, List, ℕ, zero, suc, _+_, _≤_, _<_, arith, length}
 use Rattle.flash.specs.declared.sizes.Sizes.{Sizes}
-use Rattle.flash.proofs.Bools.{never-both}
+use Rattle.flash.proofs.Bools.{bool-cases, never-both}
 use Rattle.method.specs.Move.{Move, AcceptedMove}
 use Rattle.method.specs.Cycle.{dest, pred, top, isTop}
 use Rattle.method.specs.Read.{fullOf, codedSlot, goBack, goOn}
 use Rattle.method.proofs.cycles.Orbits.{DataBlock, iterate}
 use Rattle.method.proofs.cycles.Tops.{top-top, top-behind, top-ahead, top-isTop}
-use Rattle.method.proofs.walks.WalkSlots.{Ends, ends-by, walk-more, backEnds, backLast, back-walk, onEnds, onLast, on-walk}
+use Rattle.method.proofs.walks.WalkSlots.{Ends, ends-by, way, length-way, walk-is, walk-more, backEnds, backLast, back-walk, onEnds, onLast, on-walk}
 
 module _ (M : Move) (A : AcceptedMove M) (marks : List ℕ) (set : ℕ) (set-ok : set < M .sizes .m) where
   open Sizes (M .sizes) using (n)
@@ -31,6 +31,20 @@ module _ (M : Move) (A : AcceptedMove M) (marks : List ℕ) (set : ℕ) (set-ok 
       back-walk M marks set (n + extra) v
       ∙ walk-more (pred M set) (codedSlot M marks set) (backLast M marks set) (backEnds M marks set) n extra (e .0) v (e .2) (e .1)
       ∙ sym (back-walk M marks set n v)
+
+  -- it takes at most n slots
+  pub back-few : (v : ℕ) → DataBlock n v → length (goBack M marks set n v) ≤ n
+  unfolding backLast
+  back-few v v-in =
+      let e = back-ends v v-in in
+      let c : ℕ = iterate (pred M set) (e .0) v in
+      let is : goBack M marks set n v ≡ way (pred M set) (codedSlot M marks set) (backLast M marks set) (e .0) v =
+      back-walk M marks set n v ∙ walk-is (pred M set) (codedSlot M marks set) (backLast M marks set) (backEnds M marks set) n (e .0) v (e .2) (e .1) in
+      let size = length-way (pred M set) (codedSlot M marks set) (backLast M marks set) (e .0) v in
+      ⊎-elim
+      (λ (t : isTop M set c ≡ true). rw is (omega (arith, rw t at size, e .1)))
+      (λ (t : isTop M set c ≡ false). rw is (omega (arith, rw t at size, e .3 t)))
+      (bool-cases (isTop M set c))
 
   -- going on: the final page of the block before the top is there
   module _ (v : ℕ) (v-in : DataBlock n v) (top-full : fullOf M marks 2 (top M set v) ≡ true) (not-there : fullOf M marks 2 (dest M set v) ≡ false) where

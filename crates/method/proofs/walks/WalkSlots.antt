@@ -1,6 +1,6 @@
 -- A walk from block to block that takes a slot at each, until a test ends it. Read's rules 2 and 3 are two such walks.
 use Rattle.flash.proofs.Kit.{_≡_, refl, sym, ap, _∙_, _≢_, Bool, true, false, cond, _||_, List, [], _∷_, ℕ, zero, suc, _+_, _-_, _≤_, _<_}
-use Rattle.flash.proofs.Kit.{not-suc-le-zero, arith}
+use Rattle.flash.proofs.Kit.{not-suc-le-zero, arith, length}
 use Rattle.flash.specs.Lists.{range, first}
 use Rattle.flash.proofs.Bools.{never-both}
 use Rattle.flash.proofs.Ranges.{first-hit}
@@ -46,6 +46,11 @@ module _ (f slot : ℕ → ℕ) (last : ℕ → List ℕ) where
   each-way Q zero b met end = each-cons Q (slot b) (last b) (met 0 (omega arith)) end
   each-way Q (suc d) b met end =
       each-cons Q (slot b) (way d (f b)) (met 0 (omega arith)) (each-way Q d (f b) (λ i h. met (suc i) (omega arith)) end)
+
+  pub length-way : (d b : ℕ) → length (way d b) ≡ suc (d + length (last (iterate f d b)))
+  unfolding way iterate
+  length-way zero b = omega arith
+  length-way (suc d) b = omega (arith, length-way d (f b))
 
   module _ (ends : ℕ → Bool) where
     -- a walk until the test holds

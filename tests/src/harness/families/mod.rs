@@ -11,6 +11,7 @@ mod other_splits;
 mod papers;
 mod pins;
 mod random_moves;
+mod reads;
 mod refusals;
 mod small_moves;
 mod torn;
@@ -41,7 +42,7 @@ const EVENTS: Family = Family {
 /// The families that look at demand 3 over whole lists.
 pub static LISTS: [Family; 2] = [EVERY_CUT, EVENTS];
 
-pub static FAMILIES: [Family; 18] = [
+pub static FAMILIES: [Family; 19] = [
     Family {
         name: "refusals, one and two at once",
         cases: refusals::cases,
@@ -53,6 +54,10 @@ pub static FAMILIES: [Family; 18] = [
     Family {
         name: "the highest counter kept at hand",
         cases: highest::cases,
+    },
+    Family {
+        name: "pages read in long cycles",
+        cases: reads::cases,
     },
     Family {
         name: "all lists of n x m up to 6",

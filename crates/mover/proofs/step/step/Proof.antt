@@ -8,7 +8,7 @@ use Rattle.places.specs.inner.Place.{passOf}
 use Rattle.places.proofs.StepTold.{IsWrite, is-write, IsErase, is-erase, told-done}
 use Rattle.walk.specs.inner.Terms.{planBy}
 use Rattle.mover.specs.inner.Steps.{PassTables}
-use Rattle.mover.proofs.StepLaws.{wrote, wrote-bytes, stepped, WriteKnown, write-known}
+use Rattle.mover.proofs.StepLaws.{wrote, wrote-bytes, wrote-reads, stepped, WriteKnown, write-known}
 use Rattle.mover.proofs.step.step.Statement.{statement}
 use Rattle.mover.proofs.step.step.Tie as tie
 
@@ -97,6 +97,15 @@ add-tally-3 c =
     let s = start (w .before .before .before .before .before .before .before .before .before .before) in
     omega (arith, w .total-to-slot .ensures .2, s .pre .0 .accepted .ranges .p-high, s .pre .1 .6)
 
+-- and so are the slots that were summed
+cast-tally-2 : tie.Need-cast-tally-2
+cast-tally-2 c = (let w = c .before .before .before .before .before .before .before .before .before .before .before in omega (arith, w .write-terms .ensures .0 .0))
+
+add-tally-4 : tie.Need-add-tally-4
+add-tally-4 c =
+    let w = c .before .before .before .before .before .before .before .before .before .before .before .before in
+    omega (arith, w .write-terms .ensures .0 .0, start (w .before .before .before .before .before) .pre .1 .6)
+
 -- ---- it is this erase
 enum-known-block : tie.Need-enum-known-block
 enum-known-block c = search needs
@@ -112,11 +121,11 @@ erase-block-requires c κs =
     let i = erases b .block-in in
     (rw (s .pre .1 .4) (block-in-store (s .args .sizes) block i), rw (s .pre .1 .5) (block-in-marks (s .args .sizes) block i))
 
-add-tally-4 : tie.Need-add-tally-4
-add-tally-4 c = search needs
-
 add-tally-5 : tie.Need-add-tally-5
 add-tally-5 c = search needs
+
+add-tally-6 : tie.Need-add-tally-6
+add-tally-6 c = search needs
 
 enum-told : tie.Need-enum-told
 enum-told c = search needs
@@ -131,8 +140,8 @@ same-length-2 c = search needs
 returns : tie.Need-returns
 unfolding tallied
 returns c =
-    let summed = c .before .before .before .before .before .total-to-slot .ensures in
-    let w = c .before .before .before .before .before .before .before .before .before .before in
+    let summed = c .before .before .before .before .before .before .before .total-to-slot .ensures in
+    let w = c .before .before .before .before .before .before .before .before .before .before .before .before in
     let b = w .before .before .before in
     let s = start (b .before .before) in
     let a = s .args in
@@ -142,7 +151,10 @@ returns c =
     let sums = w .write-terms .ensures .1 (a .marks .now) (known b .shape) in
     stepped (planned s) (a .place .at) (write pass (v .1 .0) (v .1 .1 .0)) (W .is) _ _ _ _
     (wrote (planned s) pass (v .1 .0) (v .1 .1 .0) (a .store .now) (a .marks .now) (s .pre .1 .4) _ _ sums _ (v .1 .1 .1 .0) (summed .0) (W .mark-is))
-    (rw (← wrote-bytes (planned s) pass (v .1 .0) (v .1 .1 .0) (a .store .now) (a .marks .now) (s .pre .1 .4) _ _ sums _ (summed .1))) (w .write-terms .ensures .0 .1)
+    (rw (
+      ← wrote-bytes (planned s) pass (v .1 .0) (v .1 .1 .0) (a .store .now) (a .marks .now) (s .pre .1 .4) _ _ sums _ (summed .1),
+      wrote-reads (planned s) pass (v .1 .0) (v .1 .1 .0) (a .store .now) (a .marks .now) (s .pre .1 .4) _ _ sums,
+    )) (w .write-terms .ensures .0 .1)
 
 same-length-3 : tie.Need-same-length-3
 same-length-3 c = search needs
@@ -181,10 +193,12 @@ step-spec =
     add-tally-2
     cast-tally
     add-tally-3
+    cast-tally-2
+    add-tally-4
     enum-known-block
     erase-block-requires
-    add-tally-4
     add-tally-5
+    add-tally-6
     enum-told
     same-length
     same-length-2
