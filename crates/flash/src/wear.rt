@@ -41,19 +41,31 @@ fn replaces(highest: u32, kept: u8, count: u32, block: u8) -> bool
     (highest < count) | ((count == highest) & (block < kept))
 }
 
-// One erase of a block more. The pair is kept without a look at the other counters.
-pub fn rise(mut wear: Wear, block: usize) -> Wear
+// The pair of a record.
+pub struct Most {
+    pub highest: u32,
+    pub block: u8,
+}
+
+// One erase of a block more: its counter is raised in place, and the pair is kept without a look at the others. A record by value would be copied for it.
+pub fn rise(counters: &mut [u32; BLOCKS], highest: u32, kept: u8, block: usize) -> Most
     requires { ⌜ block < 65 ⌝ }
-    ensures { λ r. ⌜ r ≡ risen block wear ⌝ }
+    ensures { λ r. ⌜ record { counters = now (counters .exit); highest = r .highest; block = r .block }
+        ≡ risen block (record { counters = now (counters .entry); highest = highest; block = kept }) ⌝ }
 {
-    let count = raised(wear.counters[block]);
-    wear.counters[block] = count;
+    let count = raised(counters[block]);
+    counters[block] = count;
     let named = block as u8;
-    if replaces(wear.highest, wear.block, count, named) {
-        wear.highest = count;
-        wear.block = named;
+    if replaces(highest, kept, count, named) {
+        return Most {
+            highest: count,
+            block: named,
+        };
     }
-    wear
+    Most {
+        highest,
+        block: kept,
+    }
 }
 
 // The pair made afresh from all counters.

@@ -149,7 +149,12 @@ fn take_steps(
             tally,
         );
         if at.page == sizes.m {
-            wear = rise(wear, at.freed(sizes));
+            let freed = at.freed(sizes);
+            let highest = wear.highest;
+            let block = wear.block;
+            let most = rise(&mut wear.counters, highest, block, freed);
+            wear.highest = most.highest;
+            wear.block = most.block;
         }
         at = at.next(sizes);
     }

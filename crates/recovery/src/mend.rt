@@ -64,7 +64,14 @@ pub fn mend(sizes: Sizes, store: &mut [u8], marks: &mut [u8], wear: Wear) -> Men
             erase_block(store, marks, sizes.m, sizes.p, block);
             mended.place = place_in_turn(sizes, backward, block, 0);
             mended.erases = 1;
-            mended.wear = rise(wear, block);
+            let mut counters = wear.counters;
+            let most = rise(&mut counters, wear.highest, wear.block, block);
+            let worn = Wear {
+                counters,
+                highest: most.highest,
+                block: most.block,
+            };
+            mended.wear = worn;
         }
     }
     mended

@@ -129,9 +129,9 @@ freed-requires c κs =
 -- the block of an erase has a counter
 rise-requires : tie.Need-rise-requires Inv-loop μ-loop
 rise-requires c κs =
-    let inner = c .before .before .before .before .before .before .before .before .before .before .before .before .before .before .before .before .before in
+    let inner = c .before .before .before .before .before .before .before .before .before .before .before .before .before .before .before .before .before .before in
     let a = start (inner .before) in
-    omega (arith, bounds-erase (a .args .sizes) _ _ (c .freed .ensures), a .pre .0 .ranges .n-high)
+    omega (arith, bounds-erase (a .args .sizes) _ _ (c .before .freed .ensures), a .pre .0 .ranges .n-high)
 
 next-requires : tie.Need-next-requires Inv-loop μ-loop
 next-requires c κs =
@@ -152,7 +152,7 @@ worn-is c wear e =
     let a = start (inner .before) .args in
     let at = number-is _ _ _ (l .inv .2) in
     ⊎-elim
-    (λ w. w .3 ∙ erase-worn (a .sizes) (a .place) (l .i) (inside inner .0) (w .1 .result) _ wear _ (rw at at (w .1 .ensures)) e (w .2 .ensures))
+    (λ w. w .4 ∙ erase-worn (a .sizes) (a .place) (l .i) (inside inner .0) (w .1 .result) _ wear _ (rw at at (w .1 .ensures)) e (w .3 .ensures))
     (λ w. w .1 ∙ write-worn (a .sizes) (a .place) (l .i) (inside inner .0) (λ full. w .0 .left (page-is _ _ (is-place _ _ _ (l .inv .2)) ∙ ap (filled (a .sizes)) at ∙ full)) _ wear e)
     (c .if1 .came)
 

@@ -100,7 +100,7 @@ place-in-turn-requires-2 c κs =
 
 rise-requires : tie.Need-rise-requires
 rise-requires c κs =
-    let t = c .before .before .before .before .before .before .before .before .before in
+    let t = c .before .before .before .before .before .before .before .before .before .before .before in
     let B = in-range _ (in-ranges (t .before .before .before .before .before .before .before)) in
     omega (arith, inside t, B .n-high)
 
@@ -137,7 +137,7 @@ same-length-4 c = search needs
 returns-5 : tie.Need-returns-5
 unfolding answerOf
 returns-5 c =
-    let w = c .before in
+    let w = c .before .before .before in
     let e = w .before .before .before .before .before in
     let t = e .before .before .before .before in
     let k = t .before .before .before .before in
