@@ -259,6 +259,10 @@ static void print_stack(void)
         double library = stack_kib(&movers[LIBRARY], scene, call), plain = stack_kib(&movers[PLAIN], scene, call);
         printf("  %-50s %6.2f KiB %8.2f KiB%s\n", names[call], library, plain, library >= STACK_AIM_KIB ? "  above the aim" : "");
     }
+    double listing[BOTH];
+    for (int i = 0; i < BOTH; i++)
+        listing[i] = (double)stack_of(listing_stack, &i) / 1024;
+    printf("  %-50s %6.2f KiB %8.2f KiB%s\n", "check of a listing", listing[LIBRARY], listing[PLAIN], listing[LIBRARY] >= STACK_AIM_KIB ? "  above the aim" : "");
     scene_free(&standing);
     scene_free(&at_rest);
 }
@@ -305,6 +309,7 @@ int main(int count, char **words)
     line("mend, no block to erase", 64, 4096, RANDOM, 65 * 30 + 64, 2000, mend_job);
     line("highest count made afresh", 64, 1, RANDOM, 65 * 30, 20000, refresh_job);
     hex_lines();
+    listing_lines();
     printf("\ndeepest stack %46s %12s\n", movers[LIBRARY].name, movers[PLAIN].name);
     print_stack();
     return 0;

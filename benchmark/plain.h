@@ -32,6 +32,9 @@ uint32_t plain_hex_read(uint32_t n, uint32_t m, uint32_t page_bytes, const uint8
 uint32_t plain_hex_write(uint32_t n, uint32_t m, uint32_t page_bytes, const uint8_t *store, uint64_t store_len,
                          const uint8_t *marks, uint64_t marks_len, uint8_t *text, uint64_t text_len);
 
+uint32_t plain_check_listing(uint32_t n, uint32_t m, const uint8_t *list, uint64_t list_len, const uint8_t *text, uint64_t text_len,
+                             uint32_t *line, uint32_t *accepted);
+
 /* How many bytes plain_run has summed since the start: what a memcpy of as many bytes is timed against. */
 extern uint64_t plain_bytes_summed;
 

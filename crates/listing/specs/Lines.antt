@@ -6,19 +6,20 @@ use lib.ListN.{length, take, drop}
 use Rattle.flash.specs.Lists.{concatMap}
 use Rattle.listing.specs.Digits.{small, decimal, hex}
 
--- the line of a write and that of an erase
--- 32 is a space, 10 the line feed, 87 `W`, 69 `E`.
+-- what the line of a write starts with: 32 is a space, 87 `W`
+abbrev pub writeHead : (step block page : ℕ) → List ℕ
+writeHead step block page = decimal step ++ (32 ∷ 87 ∷ 32 ∷ decimal block) ++ (32 ∷ decimal page)
+
+-- the line of a write and that of an erase: 10 is the line feed, 69 `E`
 unfoldable pub writeLine : (step block page : ℕ) → (bytes : List ℕ) → List ℕ
-writeLine step block page bytes =
-    decimal step ++ (32 ∷ 87 ∷ 32 ∷ decimal block) ++ (32 ∷ decimal page) ++ (32 ∷ concatMap (hex small) bytes) ++ (10 ∷ [])
+writeLine step block page bytes = writeHead step block page ++ (32 ∷ concatMap (hex small) bytes) ++ (10 ∷ [])
 
 unfoldable pub eraseLine : (step block : ℕ) → List ℕ
 eraseLine step block = decimal step ++ (32 ∷ 69 ∷ 32 ∷ decimal block) ++ (10 ∷ [])
 
 -- Rule 13.2: a write in the form that names, in place of bytes, the originals that the page is the sum of.
 unfoldable pub originalsLine : (step block page : ℕ) → (originals : List ℕ) → List ℕ
-originalsLine step block page originals =
-    decimal step ++ (32 ∷ 87 ∷ 32 ∷ decimal block) ++ (32 ∷ decimal page) ++ concatMap (λ k. 32 ∷ decimal k) originals ++ (10 ∷ [])
+originalsLine step block page originals = writeHead step block page ++ concatMap (λ k. 32 ∷ decimal k) originals ++ (10 ∷ [])
 
 -- the last line: `end `, the writes and the erases
 unfoldable pub endLine : (writes erases : ℕ) → List ℕ

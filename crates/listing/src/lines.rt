@@ -1,11 +1,21 @@
 // The lines that the program writes, each printed into a lent part from a position on. Each function answers the next position.
 ghost use Prim.Native.Nat.{_+_, _≤_};
 ghost use lib.ListN.{length};
-ghost use Rattle.listing.specs.Lines.{Printed, writeLine, eraseLine, endLine, refusedLine, unreadableLine};
+ghost use Rattle.listing.specs.Lines.{Printed, writeHead, writeLine, eraseLine, endLine, refusedLine, unreadableLine};
 use crate::digits::put_decimal;
 use crate::digits::put_field;
 use crate::digits::put_hex;
 use crate::digits::put_text;
+
+// The start of a write's line, which both forms have.
+pub fn put_head(out: &mut [u8], at: usize, step: usize, block: usize, page: usize) -> usize
+    requires { ⌜ at + length (writeHead step block page) ≤ length (now out) ⌝ }
+    ensures { λ r. ⌜ Printed (writeHead step block page) (now (out .entry)) at (now (out .exit)) r ⌝ }
+{
+    let past_step = put_decimal(out, at, step);
+    let past_block = put_field(out, past_step, b" W ", block);
+    put_field(out, past_block, b" ", page)
+}
 
 pub fn put_write(
     out: &mut [u8],
@@ -18,9 +28,7 @@ pub fn put_write(
     requires { ⌜ at + length (writeLine step block page (now bytes)) ≤ length (now out) ⌝ }
     ensures { λ r. ⌜ Printed (writeLine step block page (now (bytes .entry))) (now (out .entry)) at (now (out .exit)) r ⌝ }
 {
-    let past_step = put_decimal(out, at, step);
-    let past_block = put_field(out, past_step, b" W ", block);
-    let past_page = put_field(out, past_block, b" ", page);
+    let past_page = put_head(out, at, step, block, page);
     let past_space = put_text(out, past_page, b" ");
     let past_bytes = put_hex(out, past_space, bytes);
     put_text(out, past_bytes, b"\n")

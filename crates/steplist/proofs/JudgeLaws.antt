@@ -1,5 +1,5 @@
 -- When the list is refused, and when it is split.
-use Rattle.flash.proofs.Kit.{_≡_, sym, ap, _∙_, ⊎-elim, _≢_, true, false, not, List, ℕ, _*_, _≤_, arith, leb}
+use Rattle.flash.proofs.Kit.{_≡_, sym, ap, _∙_, ⊎-elim, _≢_, Bool, true, false, not, List, ℕ, _*_, _≤_, arith, leb}
 use Rattle.flash.proofs.Kit.{length, getD, length-replicate, eq-eqb, eqb-true, le-leb}
 use Rattle.flash.specs.Lists.{all}
 use Rattle.flash.specs.declared.sizes.Sizes.{Sizes}
@@ -17,9 +17,10 @@ use Rattle.split.proofs.DropLaws.{Kept, kept-of}
 use Rattle.listing.specs.Lines.{refusedLine}
 use Rattle.listing.specs.Input.{isAllowed, request}
 use Rattle.listing.proofs.InputLaws.{bounded, few-originals}
-use Rattle.steplist.specs.Output.{listed, answered}
+use Rattle.steplist.specs.Output.{answered}
 use Rattle.steplist.specs.inner.Given.{Readable, AcceptedInput}
 use Rattle.steplist.proofs.StartLaws.{in-bounds}
+use Rattle.steplist.proofs.FormLaws.{bad-not-one, not-listed}
 
 -- an entry such as 65536 is judged before anything is cut to 16 bits: no page has that number, and none is dropped by it
 large-entry : (originals : ℕ) (list : List ℕ) → originals ≤ 65536 → all (λ number. leb number 65535) list ≡ false → badList originals list ≡ true
@@ -38,11 +39,16 @@ large-entry originals list h e = ⊎-elim
 module _ (Z : Sizes) (allowed : isAllowed Z ≡ true) (list bytes : List ℕ) where
   open Sizes Z using (n, m)
 
-  pub too-large : all (λ number. leb number 65535) list ≡ false → answered (request Z list bytes) ≡ refusedLine 3
+  -- a bad list is refused in either form
+  bad-refused : length list ≡ n * m → badList (n * m) list ≡ true → (named : Bool) → answered named (request Z list bytes) ≡ refusedLine 3
   unfolding answered
-  too-large e =
+  bad-refused size bad false = rw bad
+  bad-refused size bad true = not-listed Z allowed list size (bad-not-one Z allowed list bad)
+
+  pub too-large : length list ≡ n * m → all (λ number. leb number 65535) list ≡ false → (named : Bool) → answered named (request Z list bytes) ≡ refusedLine 3
+  too-large size e named =
       let l = bounded Z allowed in
-      rw (large-entry (n * m) list (omega (arith, few-originals n m (l .few-blocks) (l .few-pages))) e)
+      bad-refused size (large-entry (n * m) list (omega (arith, few-originals n m (l .few-blocks) (l .few-pages))) e) named
 
   in-range : inRange Z ≡ true
   in-range = range-in Z (in-bounds Z allowed)
@@ -62,11 +68,10 @@ module _ (Z : Sizes) (allowed : isAllowed Z ≡ true) (list bytes : List ℕ) wh
         ∙ refusal-skip _ _ (ap not in-range) (refusal-skip _ _ (rw (eq-eqb _ _ list-length, eq-eqb _ _ (length-replicate {A = ℕ} (n * m) 0), eq-eqb _ _ sets-length))
         (refusal-skip _ _ e (refusal-skip _ _ (none-pinned (n * m) list) refusal-nil)))
 
-    pub not-split : number ≢ 0 → answered (request Z list bytes) ≡ refusedLine 3
-    unfolding answered
-    not-split ne =
+    pub not-split : number ≢ 0 → (named : Bool) → answered named (request Z list bytes) ≡ refusedLine 3
+    not-split ne named =
         ⊎-elim
-        (λ (e : badList (n * m) list ≡ true). rw e)
+        (λ (e : badList (n * m) list ≡ true). bad-refused list-length e named)
         (λ (e : badList (n * m) list ≡ false). absurd (ne (good-split e)))
         (bool-cases (badList (n * m) list))
 
@@ -78,7 +83,3 @@ module _ (Z : Sizes) (allowed : isAllowed Z ≡ true) (list bytes : List ℕ) wh
       pub is-split : Readable Z list bytes → AcceptedInput Z list sets bytes
       unfolding splitAnswer
       is-split R = record { readable = R; good = good; sets-is = sets-are ∙ rw (eq-eqb _ 0 (sym (number-is) ∙ e)) }
-
-      pub is-listed : answered (request Z list bytes) ≡ listed Z list bytes
-      unfolding answered
-      is-listed = rw good

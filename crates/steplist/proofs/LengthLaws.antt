@@ -1,14 +1,18 @@
 -- How long a line can be.
 use Rattle.flash.proofs.Kit.{_≡_, ⊎-elim, List, ℕ, _+_, _*_, _≤_, _<_, arith, mul-le-mul, length, length-append}
+use Rattle.flash.specs.Lists.{concatMap}
 use Rattle.flash.specs.declared.sizes.Sizes.{Sizes}
 use Rattle.method.specs.Place.{Pass, forward, backward, operationAt, passAt, filling, filled, lastPlace}
 use Rattle.method.proofs.places.StepsAtPlaces.{nextBlock, page-cases, filling-in, operation-writes, operation-erases}
 use Rattle.listing.specs.Digits.{small, placesUpTo, decimal}
-use Rattle.listing.specs.Lines.{writeLine, eraseLine, endLine, refusedLine}
+use Rattle.listing.specs.Lines.{writeLine, originalsLine, eraseLine, endLine, refusedLine}
 use Rattle.listing.proofs.DigitLaws.{length-digits}
 use Rattle.listing.proofs.ReadBack.{places-few}
 use Rattle.listing.proofs.PrintLaws.{length-hex}
+use Rattle.steplist.specs.declared.originals.Originals.{Originals}
+use Rattle.steplist.specs.declared.originals.Originals.the-variants.{One, Two}
 use Rattle.steplist.specs.Output.{stepLine}
+use Rattle.steplist.specs.inner.Originals.{originalsAs, Within}
 
 decimal-short : (n : ℕ) → n < 1000 → length (decimal n) ≤ 3
 unfolding decimal
@@ -19,7 +23,15 @@ unfolding writeLine
 write-short step block page bytes h k l few =
     simp length-append (omega (arith, decimal-short step h, decimal-short block k, decimal-short page l, length-hex small bytes))
 
-erase-short : (step block : ℕ) → step < 1000 → block < 1000 → length (eraseLine step block) ≤ 149
+-- a line by originals, of which a write has two at most
+pub originals-short : (step block page count : ℕ) → step < 1000 → block < 1000 → page < 1000 → count ≤ 1000 → (o : Originals) → Within count o → length (originalsLine step block page (originalsAs o)) ≤ 149
+unfolding originalsLine concatMap
+originals-short step block page count h k l few (One x) w =
+    simp length-append (omega (arith, decimal-short step h, decimal-short block k, decimal-short page l, decimal-short x (omega (arith, w))))
+originals-short step block page count h k l few (Two x y) w =
+    simp length-append (omega (arith, decimal-short step h, decimal-short block k, decimal-short page l, decimal-short x (omega (arith, w .0)), decimal-short y (omega (arith, w .1))))
+
+pub erase-short : (step block : ℕ) → step < 1000 → block < 1000 → length (eraseLine step block) ≤ 149
 unfolding eraseLine
 erase-short step block h k = simp length-append (omega (arith, decimal-short step h, decimal-short block k))
 

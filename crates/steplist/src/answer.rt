@@ -9,6 +9,7 @@ ghost use Rattle.listing.specs.ReaderAnswers.{requestIn};
 ghost use Rattle.steplist.specs.Output.{listed, answered, output, Counts};
 ghost use Rattle.steplist.specs.inner.Listing.{mostOutput};
 ghost use Rattle.steplist.specs.inner.Given.{Asked, Readable, AcceptedInput, judgedList, judgedSets};
+use crate::by_originals::put_method;
 use crate::listed::put_listing;
 use crate::rest::put_marks;
 use crate::rest::put_store;
@@ -27,6 +28,7 @@ use listing::input::numbers_due;
 use listing::input::read;
 use listing::lines::put_refused;
 use listing::lines::put_unreadable;
+use split::drops::has_drop;
 
 // Room for the longest output.
 pub const MOST_OUTPUT: usize = 32768;
@@ -67,9 +69,31 @@ fn put_accepted(out: &mut [u8], sizes: Sizes, list: &[u16], sets: &[u8], origina
     )
 }
 
+// Lists the move of an accepted request in one form or the other. By originals no page may be dropped.
+fn put_form(
+    out: &mut [u8],
+    named: bool,
+    sizes: Sizes,
+    list: &[u16],
+    sets: &[u8],
+    originals: &[u32],
+) -> usize
+    requires { ⌜ AcceptedInput sizes (now list) (now sets) (now originals) × (mostOutput ≤ length (now out)) ⌝ }
+    ensures { λ r. ⌜ Written (answered named (request sizes (now (list .entry)) (now (originals .entry)))) (now (out .entry)) (now (out .exit)) r ⌝ }
+{
+    if !named {
+        return put_accepted(out, sizes, list, sets, originals);
+    }
+    if has_drop(list) {
+        return put_refused(out, 0, 3);
+    }
+    put_method(out, sizes.n, sizes.m, list, sets)
+}
+
 // Judges and splits the list of a request, and lists its move. A number is judged before it is cut to 16 bits.
 fn put_judged(
     out: &mut [u8],
+    named: bool,
     sizes: Sizes,
     entries: &[u32],
     originals: &[u32],
@@ -79,7 +103,7 @@ fn put_judged(
     requires { ⌜ Readable sizes (now entries) (now originals) × (length (now list) ≡ originalCount sizes)
         × (length (now sets) ≡ originalCount sizes)
         × (mostOutput ≤ length (now out)) ⌝ }
-    ensures { λ r. ⌜ Written (answered (request sizes (now (entries .entry)) (now (originals .entry)))) (now (out .entry)) (now (out .exit)) r ⌝ }
+    ensures { λ r. ⌜ Written (answered named (request sizes (now (entries .entry)) (now (originals .entry)))) (now (out .entry)) (now (out .exit)) r ⌝ }
     ensures { λ _. ⌜ (now (list .exit) ≡ judgedList (now (entries .entry)) (now (list .entry)))
         × (now (sets .exit) ≡ judgedSets sizes (now (entries .entry)) (now (sets .entry))) ⌝ }
 {
@@ -90,13 +114,13 @@ fn put_judged(
     if split_unpinned(sizes, list, sets) != 0 {
         return put_refused(out, 0, 3);
     }
-    put_accepted(out, sizes, list, sets, originals)
+    put_form(out, named, sizes, list, sets, originals)
 }
 
 // Answers a request whose numbers were read.
-fn put_move(out: &mut [u8], sizes: Sizes, numbers: &[u32; MOST_NUMBERS]) -> usize
+fn put_move(out: &mut [u8], named: bool, sizes: Sizes, numbers: &[u32; MOST_NUMBERS]) -> usize
     requires { ⌜ Asked sizes (now numbers) × (mostOutput ≤ length (now out)) ⌝ }
-    ensures { λ r. ⌜ Written (answered (requestIn (now (numbers .entry)) sizes)) (now (out .entry)) (now (out .exit)) r ⌝ }
+    ensures { λ r. ⌜ Written (answered named (requestIn (now (numbers .entry)) sizes)) (now (out .entry)) (now (out .exit)) r ⌝ }
 {
     let area: &[u32] = numbers;
     let mut list = [0u16; MOST_ORIGINALS];
@@ -105,6 +129,7 @@ fn put_move(out: &mut [u8], sizes: Sizes, numbers: &[u32; MOST_NUMBERS]) -> usiz
     let due = numbers_due(count, sizes.p);
     put_judged(
         out,
+        named,
         sizes,
         &area[..count],
         &area[count..due],
@@ -113,10 +138,10 @@ fn put_move(out: &mut [u8], sizes: Sizes, numbers: &[u32; MOST_NUMBERS]) -> usiz
     )
 }
 
-// Answers an input: the answer is written over the front of `out`, and its length is returned. The input's byte behind the limit, if it
+// Answers an input in one form or the other: the answer is written over the front of `out`, and its length is returned. The input's byte behind the limit, if it
 // has one, is overwritten.
-pub fn answer(input: &mut [u8], out: &mut [u8; MOST_OUTPUT]) -> usize
-    ensures { λ r. ⌜ Written (output (now (input .entry))) (now (out .entry)) (now (out .exit)) r ⌝ }
+pub fn answer(named: bool, input: &mut [u8], out: &mut [u8; MOST_OUTPUT]) -> usize
+    ensures { λ r. ⌜ Written (output named (now (input .entry))) (now (out .entry)) (now (out .exit)) r ⌝ }
     ensures { λ r. ⌜ Counts r (now (out .exit)) ⌝ }
     ensures { λ _. ⌜ now (input .exit) ≡ over (withinLimit (now (input .entry))) (now (input .entry)) ⌝ }
 {
@@ -125,6 +150,6 @@ pub fn answer(input: &mut [u8], out: &mut [u8; MOST_OUTPUT]) -> usize
     match read(&input[..end], &mut numbers) {
         InputRead::Unreadable => put_unreadable(out, 0),
         InputRead::Refused => put_refused(out, 0, 1),
-        InputRead::Move { sizes } => put_move(out, sizes, &numbers),
+        InputRead::Move { sizes } => put_move(out, named, sizes, &numbers),
     }
 }

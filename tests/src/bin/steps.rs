@@ -1,7 +1,8 @@
-//! Compares the built step program with the simulator's, input by input.
+//! Compares the built step program with the simulator's, input by input, in
+//! both forms.
 
 use mover_tests::checks::tally::{ensure, Tally};
-use mover_tests::harness::programs::{inputs, same_output};
+use mover_tests::harness::programs::{inputs, same_originals, same_output};
 use mover_tests::random::seed_from_environment;
 use std::ffi::OsStr;
 use std::io::Write;
@@ -17,20 +18,36 @@ fn main() -> ExitCode {
     let mut tally = Tally::default();
     let enough = ensure(inputs.len() >= LEAST_INPUTS, || inputs.len().to_string());
     tally.check("the number of inputs", enough);
-    for input in &inputs {
-        let outcome = output(&program, input).and_then(|given| same_output(input, &given));
-        let differs = outcome.is_err();
-        tally.check("the step program", outcome);
-        if differs {
-            break;
+    for (words, same) in FORMS {
+        for input in &inputs {
+            let outcome = output(&program, words, input).and_then(|given| same(input, &given));
+            let differs = outcome.is_err();
+            tally.check(&format!("the step program {words:?}"), outcome);
+            if differs {
+                break;
+            }
         }
     }
     tally.finish()
 }
 
+type Compare = fn(&[u8], &[u8]) -> Result<(), String>;
+
+/// The arguments, and what is due. The second form has its word as the first
+/// argument; others change nothing.
+const FORMS: [(&[&str], Compare); 6] = [
+    (&[], same_output),
+    (&["--originals"], same_originals),
+    (&["--originals", "--bytes"], same_originals),
+    (&["--original"], same_output),
+    (&["--originalss"], same_output),
+    (&["", "--originals"], same_output),
+];
+
 /// What the program writes; it need not read an input to its end.
-fn output(program: &OsStr, input: &[u8]) -> Result<Vec<u8>, String> {
+fn output(program: &OsStr, words: &[&str], input: &[u8]) -> Result<Vec<u8>, String> {
     let mut running = Command::new(program)
+        .args(words)
         .stdin(Stdio::piped())
         .stdout(Stdio::piped())
         .spawn()

@@ -6,7 +6,7 @@ use crate::checks::step_inputs::{
     TWO_BY_TWO, UNREADABLE_INPUTS,
 };
 use crate::random::Random;
-use crate::simulator::step_program::{step_program, INPUT_LIMIT};
+use crate::simulator::step_program::{step_program, step_program_by_originals, INPUT_LIMIT};
 
 const RANDOM_INPUTS: usize = 400;
 const WRONG_INPUTS: usize = 50;
@@ -19,7 +19,15 @@ pub fn compare_program(seed: u64, mut program: impl FnMut(&[u8]) -> Vec<u8>) -> 
 }
 
 pub fn same_output(input: &[u8], given: &[u8]) -> Result<(), String> {
-    let due = step_program(input);
+    same_text(input, given, step_program(input))
+}
+
+/// The same for the second form.
+pub fn same_originals(input: &[u8], given: &[u8]) -> Result<(), String> {
+    same_text(input, given, step_program_by_originals(input))
+}
+
+fn same_text(input: &[u8], given: &[u8], due: String) -> Result<(), String> {
     if given == due.as_bytes() {
         return Ok(());
     }

@@ -2,6 +2,7 @@
 
 use super::calls::{answer, move_of};
 use super::flash::Flash;
+use super::listing::method::{by_method, listing};
 use super::request::{Call, Parts, Request};
 use super::rules::Correct;
 use super::running::take_step;
@@ -18,6 +19,27 @@ pub fn step_program(input: &[u8]) -> String {
         Err(line) => Err(line),
     };
     line.unwrap_or_else(|line| format!("{line}\n"))
+}
+
+/// The second form: what is written is named by its originals.
+pub fn step_program_by_originals(input: &[u8]) -> String {
+    let line = match read_move(input) {
+        Ok((sizes, list, _)) => originals_text(sizes, &list),
+        Err(line) => Err(line),
+    };
+    line.unwrap_or_else(|line| format!("{line}\n"))
+}
+
+/// A list that drops a page is bad here.
+fn originals_text(sizes: Sizes, list: &[u32]) -> Result<String, &'static str> {
+    let mut sorted = list.to_vec();
+    sorted.sort();
+    if !(0..sizes.originals() as u32).eq(sorted) {
+        return Err("refused 3");
+    }
+    let entries: Vec<u16> = list.iter().map(|&entry| entry as u16).collect();
+    let steps = by_method(sizes.n as usize, sizes.m as usize, &entries);
+    Ok(listing(&steps))
 }
 
 type MoveRead = (Sizes, Vec<u32>, Vec<u8>);

@@ -7,31 +7,14 @@ use Rattle.listing.proofs.PrintLaws.{printed-then}
 use Rattle.listing.proofs.lines.put_write.Statement.{statement}
 use Rattle.listing.proofs.lines.put_write.Tie as tie
 
-put-decimal-requires : tie.Need-put-decimal-requires
+put-head-requires : tie.Need-put-head-requires
 unfolding writeLine
-put-decimal-requires c κs = omega (arith, simp length-append at (c .before .before .before .pre))
+put-head-requires c κs = simp length-append (omega (arith, simp length-append at (c .before .before .before .pre)))
 
 -- the bytes and the end of the line fit behind the page's number
-room : (c : tie.After-put-field2) → (let a = c .before .before .before .before .before .before .before .before .before .before .before .before .before .before .args in c .put-field2 .result + length (32 ∷ concatMap (hex small) (a .bytes .now)) + 1 ≤ length (a .out .now))
+room : (c : tie.After-put-head) → (let a = c .before .before .before .before .args in c .put-head .result + length (32 ∷ concatMap (hex small) (a .bytes .now)) + 1 ≤ length (a .out .now))
 unfolding writeLine
-room c =
-    let block = simp length-append at (c .before .before .before .before .before .put-field .ensures .next-is) in
-    let page = simp length-append at (c .put-field2 .ensures .next-is) in
-    omega (arith, simp length-append at (c .before .before .before .before .before .before .before .before .before .before .before .before .before .before .pre))
-
-slice-aggregate-put-field : tie.Need-slice-aggregate-put-field
-slice-aggregate-put-field c = search needs
-
-put-field-requires : tie.Need-put-field-requires
-unfolding writeLine
-put-field-requires c κs = simp length-append (omega (arith, simp length-append at (c .before .before .before .before .before .before .before .before .pre)))
-
-slice-aggregate-put-field-2 : tie.Need-slice-aggregate-put-field-2
-slice-aggregate-put-field-2 c = search needs
-
-put-field-requires-2 : tie.Need-put-field-requires-2
-unfolding writeLine
-put-field-requires-2 c κs = simp length-append (omega (arith, simp length-append at (c .before .before .before .before .before .before .before .before .before .before .before .before .before .pre), simp length-append at (c .before .before .before .before .put-field .ensures .next-is)))
+room c = omega (arith, simp length-append at (c .before .before .before .before .pre), simp length-append at (c .put-head .ensures .next-is))
 
 slice-aggregate-put-text : tie.Need-slice-aggregate-put-text
 slice-aggregate-put-text c = search needs
@@ -54,12 +37,9 @@ same-length c = search needs
 returns : tie.Need-returns
 unfolding writeLine
 returns c =
-    let step = c .before .before .before .before .before .before .before .before .before .before .before .before .before .before .before .before .before .before .before .before .before .before .before .before .before .before .put-decimal .ensures in
-    let block = c .before .before .before .before .before .before .before .before .before .before .before .before .before .before .before .before .before .before .before .before .before .put-field .ensures in
-    let page = c .before .before .before .before .before .before .before .before .before .before .before .before .before .before .before .before .put-field2 .ensures in
     let bytes = printed-then (c .before .before .before .before .before .before .before .before .before .before .before .put-text .ensures) (c .before .before .before .before .before .before .before .put-hex .ensures) in
-    printed-then (printed-then (printed-then (printed-then step block) page) bytes) (c .before .before .put-text2 .ensures)
+    printed-then (printed-then (c .before .before .before .before .before .before .before .before .before .before .before .before .before .before .before .before .put-head .ensures) bytes) (c .before .before .put-text2 .ensures)
 
 pub put-write-spec : {M : Type 1} → statement M
-put-write-spec = tie.close (tie.spec put-decimal-requires slice-aggregate-put-field put-field-requires slice-aggregate-put-field-2 put-field-requires-2
-    slice-aggregate-put-text put-text-requires put-hex-requires slice-aggregate-put-text-2 put-text-requires-2 same-length returns)
+put-write-spec = tie.close (tie.spec put-head-requires slice-aggregate-put-text put-text-requires put-hex-requires slice-aggregate-put-text-2
+    put-text-requires-2 same-length returns)

@@ -66,7 +66,7 @@ unfolding answered unreadableLine
 returns c =
     let r = c .before .before .before .before in
     let a = r .before .before .before .before .before .before .before .before .args in
-    let done = answers (a .input .now) (r .read .last .1 .0) (a .out .now) _ _ (r .read .result) _ (told r) (c .before .before .enum-told .given .1) (first-printed (c .put-unreadable .ensures)) in
+    let done = answers (a .named) (a .input .now) (r .read .last .1 .0) (a .out .now) _ _ (r .read .result) _ (told r) (c .before .before .enum-told .given .1) (first-printed (c .put-unreadable .ensures)) in
     (done .0, (done .1, r .before .before .before .before .before .limit .ensures .1))
 
 same-length-2 : tie.Need-same-length-2
@@ -77,7 +77,7 @@ unfolding answered
 returns-2 c =
     let r = c .before .before .before .before in
     let a = r .before .before .before .before .before .before .before .before .args in
-    let done = answers (a .input .now) (r .read .last .1 .0) (a .out .now) _ _ (r .read .result) _ (told r) (c .before .before .enum-told2 .given .1) (first-printed (c .put-refused .ensures)) in
+    let done = answers (a .named) (a .input .now) (r .read .last .1 .0) (a .out .now) _ _ (r .read .result) _ (told r) (c .before .before .enum-told2 .given .1) (first-printed (c .put-refused .ensures)) in
     (done .0, (done .1, r .before .before .before .before .before .limit .ensures .1))
 
 same-length-3 : tie.Need-same-length-3
@@ -87,7 +87,7 @@ returns-3 : tie.Need-returns-3
 returns-3 c =
     let r = c .before .before .before .before .before .before in
     let a = r .before .before .before .before .before .before .before .before .args in
-    let done = answers (a .input .now) (r .read .last .1 .0) (a .out .now) _ _ (r .read .result) _ (told r) (c .before .before .before .before .sizes .given .1) (c .put-move .ensures) in
+    let done = answers (a .named) (a .input .now) (r .read .last .1 .0) (a .out .now) _ _ (r .read .result) _ (told r) (c .before .before .before .before .sizes .given .1) (c .put-move .ensures) in
     (done .0, (done .1, r .before .before .before .before .before .limit .ensures .1))
 
 pub answer-spec : {M : Type 1} → statement M

@@ -6,7 +6,7 @@ use Rattle.steplist.specs.inner.Given.{judgedList, judgedSets}
 use Rattle.listing.proofs.InputLaws.{bounded}
 use Rattle.listing.proofs.PrintLaws.{first-printed}
 use Rattle.steplist.proofs.LengthLaws.{refused-short}
-use Rattle.steplist.proofs.JudgeLaws.{too-large, not-split, is-split, is-listed}
+use Rattle.steplist.proofs.JudgeLaws.{too-large, not-split, is-split}
 use Rattle.steplist.proofs.answer.put_judged.Statement.{statement}
 use Rattle.steplist.proofs.answer.put_judged.Tie as tie
 
@@ -40,7 +40,7 @@ returns c =
     let a = start .args in
     let line = c .before .before .put-refused .ensures in
     let large = sym (c .before .before .before .before .before .fit .ensures) ∙ not-true _ (c .before .before .before .before .if1 .taken) in
-    (rw (too-large (a .sizes) (start .pre .0 .allowed) (a .entries .now) (a .originals .now) large) (first-printed line), (rw large, rw large))
+    (rw (too-large (a .sizes) (start .pre .0 .allowed) (a .entries .now) (a .originals .now) (start .pre .0 .list-length) large (a .named)) (first-printed line), (rw large, rw large))
 
 put-entries-requires : tie.Need-put-entries-requires
 put-entries-requires c κs =
@@ -71,10 +71,10 @@ returns-2 c =
     let a = start .args in
     let split = c .before .before .before .before .before .before .before .split-unpinned in
     let line = c .before .before .put-refused2 .ensures in
-    (rw (not-split (a .sizes) (start .pre .0 .allowed) (a .entries .now) (a .originals .now) (a .sets .now) (split .last .1 .1 .0) (split .result) (start .pre .0 .list-length) (start .pre .2) (judged (c .before .before .before .before .before .before .before)) (c .before .before .before .before .if2 .taken)) (first-printed line), left (c .before .before .before .before .before .before .before))
+    (rw (not-split (a .sizes) (start .pre .0 .allowed) (a .entries .now) (a .originals .now) (a .sets .now) (split .last .1 .1 .0) (split .result) (start .pre .0 .list-length) (start .pre .2) (judged (c .before .before .before .before .before .before .before)) (c .before .before .before .before .if2 .taken) (a .named)) (first-printed line), left (c .before .before .before .before .before .before .before))
 
-put-accepted-requires : tie.Need-put-accepted-requires
-put-accepted-requires c κs =
+put-form-requires : tie.Need-put-form-requires
+put-form-requires c κs =
     let start = c .before .before .before .before .before .before .before .before .before .before .before .before .before .before .before .before .before .before .before .before in
     let a = start .args in
     let split = c .before .before .before .before .before .before .split-unpinned in
@@ -91,12 +91,9 @@ same-length-7 c = search needs
 
 returns-3 : tie.Need-returns-3
 returns-3 c =
-    let start = c .before .before .before .before .before .before .before .before .before .before .before .before .before .before .before .before .before .before .before .before .before .before .before in
-    let a = start .args in
-    let split = c .before .before .before .before .before .before .before .before .before .split-unpinned in
-    let listing = c .before .before .put-accepted .ensures in
-    (rw (is-listed (a .sizes) (start .pre .0 .allowed) (a .entries .now) (a .originals .now) (a .sets .now) (split .last .1 .1 .0) (split .result) (start .pre .0 .list-length) (start .pre .2) (judged (c .before .before .before .before .before .before .before .before .before)) (c .before .before .before .before .before .before .if2 .left)) (rw (c .before .before .before .before .before .before .before .before .before .before .before .before .before .before .put-entries .ensures) at listing), left (c .before .before .before .before .before .before .before .before .before))
+    let form = c .before .before .put-form .ensures in
+    (rw (c .before .before .before .before .before .before .before .before .before .before .before .before .before .before .put-entries .ensures) at form, left (c .before .before .before .before .before .before .before .before .before))
 
 pub put-judged-spec : {M : Type 1} → statement M
 put-judged-spec = tie.close (tie.spec fit-requires put-refused-requires same-length returns put-entries-requires split-unpinned-requires put-refused-requires-2
-    same-length-2 same-length-3 same-length-4 returns-2 put-accepted-requires same-length-5 same-length-6 same-length-7 returns-3)
+    same-length-2 same-length-3 same-length-4 returns-2 put-form-requires same-length-5 same-length-6 same-length-7 returns-3)
