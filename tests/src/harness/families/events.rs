@@ -55,6 +55,10 @@ fn play(comparer: &mut Comparer, shape: Sizes, most: usize, random: &mut Random)
         quiet: random.one_in(5),
         widest_budget: *random.pick(&[3, block_steps, 3 * block_steps, shape.steps() / 4 + 1]),
     };
+    // A limit that no move keeps, before this one begins.
+    let mut worn = list.story.scene.run_request(0, 1);
+    worn.wear_limit = 0;
+    list.story.refused(&mut player, &worn)?;
     for _ in 0..random.between(most / 2, most) {
         list.event(&mut player, random)?;
         if list.story.place == Some(shape.steps() as u32) {
