@@ -17,6 +17,9 @@ void highest_checked(void);
 /* Step listings of other movers. */
 void listing_checked(void);
 
+/* How far one changed page reaches. */
+void reach_checked(void);
+
 /* Intel HEX. */
 void hex_checked(void);
 

@@ -11,7 +11,7 @@ use Rattle.method.specs.Runs.{Start}
 use Rattle.method.specs.Cases.{W, E, listing, Reaches, sizes, chip, junk, counts, runs, ran, small, three, threeAtRest, ListRefused}
 
 -- page 2 is dropped, and place 0 is free: the completed list is that of `three`
-abbrev thrown : Request
+abbrev pub thrown : Request
 thrown = small 3 (1 ∷ 2 ∷ 65535 ∷ [])
 
 -- page 1 is dropped instead, and place 2 is free

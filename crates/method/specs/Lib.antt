@@ -16,9 +16,11 @@ pub mod Demand3
 pub mod WearCounts
 pub mod PinsStay
 pub mod NoDrops
+pub mod Reach
 pub mod Cases
 pub mod DropCases
 pub mod WearCases
+pub mod ReachCases
 pub mod HighestCounter
 pub mod Example
 pub mod TwoPages
