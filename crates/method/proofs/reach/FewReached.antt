@@ -1,11 +1,10 @@
 -- An original reaches at most three slots, and at the end one.
 use Rattle.flash.proofs.Kit.{_≡_, refl, sym, ap, _∙_, ap₂, _⊎_, inl, inr, ⊎-elim, Bool, true, false, _||_, or-false, or-true, List, [], _∷_, _++_, ℕ, zero, suc, _+_, _-_, _*_, _/_, _%_, _≤_, _<_}
-use Rattle.flash.proofs.Kit.{arith, eqb, length, length-append, getD, eqb-true, eq-eqb, ne-eqb, mod-lt, suc-mul, subst}
+use Rattle.flash.proofs.Kit.{arith, eqb, length, length-append, getD, eqb-true, eq-eqb, ne-eqb, suc-mul, subst}
 use Rattle.flash.specs.Lists.{range, any, count, filter}
 use Rattle.flash.specs.declared.sizes.Sizes.{Sizes}
-use Rattle.flash.specs.Geometry.{slot, blockOf, pageOf, slotOf, originalCount, slotCount}
+use Rattle.flash.specs.Geometry.{slot, blockOf, slotOf, originalCount, slotCount}
 use Rattle.flash.proofs.Bools.{bool-cases, never-both}
-use Rattle.flash.proofs.Bounds.{slot-in-marks}
 use Rattle.flash.proofs.Comparisons.{lt-cases}
 use Rattle.flash.proofs.Searches.{any-append, count-none}
 use Rattle.flash.proofs.Ranges.{none-is}
@@ -16,7 +15,7 @@ use Rattle.method.specs.Cycle.{dest, isTop}
 use Rattle.method.specs.Place.{Pass, forward, backward, Held, blank, code, lastPlace, passAt, filling, filled, above, written, heldAt}
 use Rattle.method.specs.Reach.{lies, isReached, reached}
 use Rattle.method.proofs.basics.Indexes.{Order, less, same, more, order, slot-div, slot-mod, each-slot}
-use Rattle.method.proofs.cycles.SetCycles.{block-in, entry-in}
+use Rattle.method.proofs.cycles.SetCycles.{entry-in, slot-in}
 use Rattle.method.proofs.places.StepsAtPlaces.{Stands, stands-at}
 use Rattle.method.proofs.places.PagesHeld.{held-below, held-above, held-written, held-blank}
 
@@ -192,12 +191,9 @@ module _ (M : Move) (A : AcceptedMove M) (k : ℕ) (k-in : k < originalCount (M 
       (held-above S (lastPlace S) (suc b) q (omega (arith, at-last .block-is)) ∙ ap above (at-last .pass-is))
       ∙ or-false (eqb (slot m (suc b) q) (slotOf m to))
 
-  to-in : slotOf m to < slotCount S
-  to-in = (let b = block-in M A to (entry-in M A k k-in) in slot-in-marks S (blockOf m to) (pageOf m to) (b .high) (mod-lt to (A .ranges .m-low)))
-
   pub reached-last : reached M (lastPlace S) k ≡ slotOf m to ∷ []
   unfolding reached
   reached-last =
       filter-same (isReached M (lastPlace S) k) (λ t. eqb t (slotOf m to)) 0 (slotCount S)
       (λ t l h. each-slot m (n + 1) (λ t. isReached M (lastPlace S) k t ≡ eqb t (slotOf m to)) final-test t (omega arith))
-      ∙ filter-this (slotOf m to) 0 (slotCount S) (omega arith) (omega (arith, to-in))
+      ∙ filter-this (slotOf m to) 0 (slotCount S) (omega arith) (omega (arith, slot-in M A to (entry-in M A k k-in)))

@@ -1,13 +1,13 @@
 -- Two stores at one place, from originals of which one alone differs: the pages that differ are those that it reaches, and they do so at its offsets.
 use Rattle.flash.proofs.Kit.{_≡_, refl, sym, ap, ap₂, _∙_, _≢_, ⊎-elim, Bool, true, false, not, _&&_, List, [], _∷_, ℕ, _+_, _-_, _*_, _≤_, _<_}
-use Rattle.flash.proofs.Kit.{arith, eqb, length, getD, take, drop-of-length-le, take-nil, ext-getD, mul-le-mul-right, eqb-true, eq-eqb, mod-lt}
+use Rattle.flash.proofs.Kit.{arith, eqb, length, getD, take, drop-of-length-le, take-nil, ext-getD, mul-le-mul-right, eqb-true, eq-eqb}
 use Rattle.flash.specs.Lists.{range, any, count, part, isSame}
 use Rattle.flash.specs.declared.sizes.Sizes.{Sizes}
-use Rattle.flash.specs.Geometry.{slot, blockOf, pageOf, slotOf, originalCount, slotCount, storeLength}
+use Rattle.flash.specs.Geometry.{slot, slotOf, originalCount, slotCount, storeLength}
 use Rattle.flash.specs.PageSum.{sum}
 use Rattle.flash.specs.Chip.{Chip, pageAt}
 use Rattle.flash.proofs.Bools.{bool-cases, never-both, fails}
-use Rattle.flash.proofs.Bounds.{slot-in-marks, slot-in-store}
+use Rattle.flash.proofs.Bounds.{slot-in-store}
 use Rattle.flash.proofs.Chips.{page-is}
 use Rattle.flash.proofs.Comparisons.{lt-cases}
 use Rattle.flash.proofs.Filters.{filter-passes, filter-same, any-filter}
@@ -22,7 +22,7 @@ use Rattle.method.specs.Reach.{isReached, reached, slotsApart, byteAt, C
 use Rattle.method.proofs.basics.MoveShape.{Holding, slot-back, counts-kept}
 use Rattle.method.proofs.basics.AcceptedCalls.{StandsAt}
 use Rattle.method.proofs.basics.Indexes.{each-slot}
-use Rattle.method.proofs.cycles.SetCycles.{block-in}
+use Rattle.method.proofs.cycles.SetCycles.{slot-in}
 use Rattle.method.proofs.places.PagesHeld.{HeldCases, coded, ended, resting, empty, held-cases}
 use Rattle.method.proofs.states.StatesOfPlaces.{page-held}
 use Rattle.method.proofs.states.RunsAddUp.{start-accepted, start-full, start-page}
@@ -57,7 +57,7 @@ module _ (R : Request) (one other : Chip) (k : ℕ) (C : Changed R one other k) 
   isApart t = not (isSame (pageAt P one t) (pageAt P other t))
 
   home-in : home < slotCount Z
-  home-in = (let b = block-in (move R) A k (C .inside) in slot-in-marks Z (blockOf m k) (pageOf m k) (b .high) (mod-lt k (A .ranges .m-low)))
+  home-in = slot-in (move R) A k (C .inside)
 
   home-apart : pageAt P one home ≢ pageAt P other home
   unfolding slotsApart
@@ -87,14 +87,11 @@ module _ (R : Request) (one other : Chip) (k : ℕ) (C : Changed R one other k) 
   abbrev yours : (i : ℕ) → List ℕ
   yours i = part P i (originalsIn Z other)
 
-  slot-in : (i : ℕ) → i < originalCount Z → slotOf m i < slotCount Z
-  slot-in i h = (let b = block-in (move R) A i h in slot-in-marks Z (blockOf m i) (pageOf m i) (b .high) (mod-lt i (A .ranges .m-low)))
-
   originals-same : (i : ℕ) → i ≢ k → mine i ≡ yours i
   originals-same i apart = ⊎-elim
       (λ (h : i < originalCount Z).
       start-page R one (C .one-starts) i
-      ∙ others-same (slotOf m i) (slot-in i h) (λ (e : slotOf m i ≡ home). apart (sym (slot-back m i) ∙ ap (λ (t : ℕ). t - m) e ∙ slot-back m k))
+      ∙ others-same (slotOf m i) (slot-in (move R) A i h) (λ (e : slotOf m i ≡ home). apart (sym (slot-back m i) ∙ ap (λ (t : ℕ). t - m) e ∙ slot-back m k))
       ∙ sym (start-page R other (C .other-starts) i))
       (λ (h : originalCount Z ≤ i).
       part-past P i (originalCount Z) (originalsIn Z one) (start-full R one (C .one-starts)) h
