@@ -72,7 +72,7 @@ pub record Lasting (Z : Sizes) (L : Lends) : Type 0 where
   pub work-length : length (L .work) ≡ workLength Z
   pub lasts : wearsOut (Z .n) (L .wear) (L .limit) ≡ false
 
--- runs one after another, each with its budget and from where the one before it stopped: what the last of them leaves and returns
+-- Runs one after another, each with its budget and from where the one before it stopped, the last with budget 0: what that one leaves and returns.
 unfoldable pub runsOf : Request → Chip → (work : List ℕ) → Wear → (place : ℕ) → (budgets : List ℕ) → (limit : ℕ) → RunAnswer
 runsOf R chip work wear place [] limit = runAnswer R chip work wear place 0 limit
 runsOf R chip work wear place (budget ∷ budgets) limit =
