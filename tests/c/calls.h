@@ -17,6 +17,9 @@ void highest_checked(void);
 /* Step listings of other movers. */
 void listing_checked(void);
 
+/* The least y of an order of blocks, and the best order. */
+void orders_checked(void);
+
 /* Intel HEX. */
 void hex_checked(void);
 
