@@ -1,5 +1,5 @@
 -- What the exports about block orders answer is what the calls answer for the entries decoded.
-use Rattle.flash.proofs.Kit.{_≡_, refl, sym, ap, _∙_, _≢_, ⊎-elim, true, false, cond, List, [], ℕ, _*_, _≤_, mul-le-mul, arith, length}
+use Rattle.flash.proofs.Kit.{_≡_, sym, _∙_, _≢_, ⊎-elim, true, false, cond, List, [], ℕ, _*_, _≤_, mul-le-mul, arith, length}
 use Rattle.flash.proofs.Bools.{bool-cases}
 use Rattle.flash.proofs.Bounds.{in-range}
 use Rattle.orders.specs.Answer.{areSizes, LeastAnswer, leastAnswer, BestAnswer, bestAnswer}

@@ -1,7 +1,6 @@
 -- What the two calls answer once no row applies.
-use Rattle.flash.proofs.Kit.{_≡_, refl, sym, ap, ap₂, _∙_, ⊎-elim, Bool, true, false, cond, _&&_, _||_, not, List, ℕ, _*_, _/_, _≤_, _<_, div-lt-iff-lt-mul, arith, eqb, length}
+use Rattle.flash.proofs.Kit.{_≡_, refl, sym, ap₂, _∙_, Bool, true, false, _&&_, _||_, not, List, ℕ, _*_, _/_, _≤_, _<_, div-lt-iff-lt-mul, length}
 use Rattle.flash.specs.Tables.{refusal}
-use Rattle.split.specs.Drops.{isDropped}
 use Rattle.orders.specs.Orders.{badOrder}
 use Rattle.orders.specs.Answer.{listRows, LeastAnswer, leastAnswer}
 use Rattle.orders.specs.inner.Places.{Placed, Surveyed}

@@ -5,9 +5,9 @@ use Rattle.flash.proofs.Bools.{bool-cases}
 use Rattle.flash.proofs.Comparisons.{eq-cases, lt-cases}
 use Rattle.flash.proofs.Tables.{first-returned}
 use Rattle.orders.specs.Orders.{leastY, forbiddingPage}
-use Rattle.orders.specs.Dictionary.{factorial, orderAt, bestOrder}
+use Rattle.orders.specs.Dictionary.{factorial, orderAt}
 use Rattle.orders.specs.Answer.{listRows, leastRows, bestRows, leastAnswer, bestAnswer}
-use Rattle.orders.specs.Claims.{IsOrder, Least, Precedes, LeastGiven, Best, BestGiven, NumbersInOrder}
+use Rattle.orders.specs.Claims.{IsOrder, Precedes, LeastGiven, Best, BestGiven, NumbersInOrder}
 use Rattle.orders.specs.inner.Search.{FirstLeast}
 use Rattle.orders.proofs.LeastLaws.{least-given}
 use Rattle.orders.proofs.OrderLaws.{good-order}

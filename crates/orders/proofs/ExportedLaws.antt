@@ -1,12 +1,11 @@
 -- What the calls for C need of the answers: a list of another length is refused alike whatever its entries, and the numbers are small.
-use Rattle.flash.proofs.Kit.{_≡_, refl, sym, ap, _∙_, _≢_, ⊎-elim, Bool, true, false, cond, _&&_, _||_, List, ℕ, _*_, _≤_, arith, eqb, ltb, length, eqb-true, ne-eqb}
+use Rattle.flash.proofs.Kit.{_≡_, sym, _∙_, _≢_, ⊎-elim, Bool, true, false, cond, _||_, List, ℕ, _*_, _≤_, arith, eqb, ltb, length, eqb-true, ne-eqb}
 use Rattle.flash.specs.Tables.{refusal}
 use Rattle.flash.proofs.Bools.{bool-cases}
 use Rattle.flash.proofs.Comparisons.{eq-cases}
 use Rattle.orders.specs.Orders.{leastY, forbiddingPage}
 use Rattle.orders.specs.Dictionary.{bestOrder}
 use Rattle.orders.specs.Answer.{areSizes, listRows, leastRows, bestRows, LeastAnswer, leastAnswer, BestAnswer, bestAnswer}
-use Rattle.orders.specs.Claims.{Least}
 use Rattle.orders.proofs.LeastLaws.{least-given}
 use Rattle.orders.proofs.RowLaws.{few, gives-1, gives-16, gives-2, passed, least-number, least-refused, best-refused}
 

@@ -1,8 +1,8 @@
 -- What the search answers once no row applies.
-use Rattle.flash.proofs.Kit.{_≡_, refl, sym, ap, ap₂, _∙_, List, ℕ, _*_, _≤_, _<_, arith, length, getD}
+use Rattle.flash.proofs.Kit.{_≡_, sym, ap, _∙_, List, ℕ, _≤_, _<_, arith, length}
 use Rattle.flash.specs.Tables.{refusal}
 use Rattle.orders.specs.Orders.{leastY, forbiddingPage}
-use Rattle.orders.specs.Dictionary.{factorial, orderAt, bestOrder}
+use Rattle.orders.specs.Dictionary.{factorial, orderAt}
 use Rattle.orders.specs.Answer.{listRows, LeastAnswer, leastAnswer, BestAnswer, bestAnswer}
 use Rattle.orders.specs.Claims.{IsOrder}
 use Rattle.orders.specs.inner.Table.{Sends, Short, yBy}

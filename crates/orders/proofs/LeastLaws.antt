@@ -1,10 +1,10 @@
 -- The definitions of the least y and of the page against the words of the request.
-use Rattle.flash.proofs.Kit.{_≡_, refl, _≢_, ⊎-elim, true, false, _&&_, not, List, ℕ, _+_, _-_, _*_, _≤_, _<_, arith, eqb, getD, eqb-true, eqb-false, eq-eqb}
+use Rattle.flash.proofs.Kit.{_≡_, _≢_, ⊎-elim, true, false, _&&_, not, List, ℕ, _+_, _-_, _*_, _≤_, _<_, arith, eqb, getD, eqb-true, eqb-false, eq-eqb}
 use Rattle.flash.proofs.Kit.{ne-eqb, not-true, not-false}
-use Rattle.flash.specs.Lists.{range, any, first}
+use Rattle.flash.specs.Lists.{range, any}
 use Rattle.flash.proofs.Bools.{never-both, both, fails}
 use Rattle.flash.proofs.Comparisons.{eq-cases}
-use Rattle.flash.proofs.Ranges.{First, first-hit, first-is, none-in, none-is, any-is, any-range-find}
+use Rattle.flash.proofs.Ranges.{First, first-hit, first-is, none-is, any-is, any-range-find}
 use Rattle.split.specs.OneToOne.{dropped}
 use Rattle.split.specs.Drops.{isDropped}
 use Rattle.split.specs.Split.{sourceBlock, destBlock}

@@ -1,9 +1,9 @@
 -- Laws of orders: what the check of one says, and how an order of n + 1 blocks is made of one of n.
-use Rattle.flash.proofs.Kit.{_≡_, refl, sym, ap, ap₂, _∙_, _⊎_, inl, inr, _≢_, ⊎-elim, true, false, cond, _&&_, _||_, not, List, [], _∷_, map, ℕ, zero, suc, _+_}
+use Rattle.flash.proofs.Kit.{_≡_, refl, sym, ap, ap₂, _∙_, _⊎_, _≢_, ⊎-elim, true, false, cond, _&&_, not, List, [], _∷_, map, ℕ, zero, suc, _+_}
 use Rattle.flash.proofs.Kit.{_-_, _≤_, _<_, not-suc-le-zero, le-of-suc-le-suc, arith, leb, ltb, length, length-map, getD, le-leb, lt-leb, lt-ltb, le-ltb}
-use Rattle.flash.proofs.Kit.{leb-true, leb-false, not-true, not-false}
+use Rattle.flash.proofs.Kit.{leb-true, not-true, not-false}
 use Rattle.flash.specs.Lists.{any}
-use Rattle.flash.proofs.Bools.{both, fails, or-false-left, or-false-right}
+use Rattle.flash.proofs.Bools.{both, or-false-left, or-false-right}
 use Rattle.flash.proofs.Comparisons.{lt-cases}
 use Rattle.flash.proofs.Searches.{none-at, none-of}
 use Rattle.split.specs.OneToOne.{metTwice, isOneToOne}

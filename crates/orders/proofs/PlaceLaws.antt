@@ -1,5 +1,5 @@
 -- The pass over the pages, by the places of the blocks, finds the least y and its page.
-use Rattle.flash.proofs.Kit.{_≡_, refl, sym, ap, _∙_, _≢_, ⊎-elim, true, false, cond, _&&_, not, List, ℕ, _+_, _-_, _*_, _≤_, _<_, arith, leb, length, getD}
+use Rattle.flash.proofs.Kit.{_≡_, refl, sym, ap, _∙_, _≢_, ⊎-elim, true, false, List, ℕ, _+_, _-_, _*_, _≤_, _<_, arith, length, getD}
 use Rattle.flash.proofs.Kit.{le-leb, lt-leb, _/_, below-more}
 use Rattle.flash.proofs.Bools.{bool-cases}
 use Rattle.flash.proofs.Comparisons.{eq-cases, lt-cases}

@@ -1,11 +1,10 @@
 -- The places of the blocks, put one by one, tell whether an order has each block once.
-use Rattle.flash.proofs.Kit.{_≡_, refl, sym, ap, _∙_, _≢_, ⊎-elim, true, false, _||_, List, ℕ, _+_, _-_, _≤_, _<_, arith, ltb, length, getD, set, replicate, length-replicate}
+use Rattle.flash.proofs.Kit.{_≡_, sym, ap, _∙_, _≢_, ⊎-elim, true, false, _||_, List, ℕ, _+_, _-_, _≤_, _<_, arith, ltb, length, getD, set, replicate, length-replicate}
 use Rattle.flash.proofs.Kit.{length-set, getD-set-same, getD-set-other, ltb-true, below-more}
 use Rattle.flash.proofs.Bools.{bool-cases, or-cases}
 use Rattle.flash.proofs.Comparisons.{eq-cases}
 use Rattle.split.proofs.MaskLaws.{zeros-at}
 use Rattle.orders.specs.Orders.{badOrder}
-use Rattle.orders.specs.Claims.{IsOrder}
 use Rattle.orders.specs.inner.Places.{Placed}
 use Rattle.orders.proofs.OrderLaws.{good-order, is-order}
 

@@ -1,10 +1,9 @@
 -- One place more of an order that is written from its last place on.
-use Rattle.flash.proofs.Kit.{_≡_, refl, sym, ap, ap₂, _∙_, List, [], _∷_, _++_, map, append-nil, ℕ, suc, _+_, _-_, _*_, _/_, _%_, _≤_, _<_, add-one, mod-lt, arith}
+use Rattle.flash.proofs.Kit.{_≡_, refl, sym, ap, ap₂, _∙_, List, [], _∷_, _++_, map, append-nil, ℕ, suc, _+_, _-_, _/_, _%_, _≤_, _<_, add-one, mod-lt, arith}
 use Rattle.flash.proofs.Kit.{length, length-append, length-set, length-drop, length-take-le, getD, set, take, drop, take-all, drop-of-length-le, drop-cons, drop-at, drop-set-lt}
 use Rattle.flash.proofs.Kit.{getD-set-same, div-one, drop-length}
 use native.Mathlib.Nat.{mul-comm, div-div-eq-div-mul}
-use Rattle.orders.specs.Dictionary.{factorial, leaving, orderAt}
-use Rattle.orders.specs.Claims.{IsOrder}
+use Rattle.orders.specs.Dictionary.{factorial, leaving}
 use Rattle.orders.specs.inner.Search.{orderBy}
 use Rattle.orders.proofs.DictionaryLaws.{factorial-some, factorial-next, each-order, by-remainder}
 

@@ -1,14 +1,11 @@
 -- The rows of the two calls: which of them applies, and what all together say.
-use Rattle.flash.proofs.Kit.{_≡_, refl, sym, ap, _∙_, _≢_, ⊎-elim, Bool, true, false, cond, _&&_, _||_, not, List, [], _∷_, _++_, ℕ, _*_, _≤_, _<_, arith, eqb, leb, ltb, length, getD}
-use Rattle.flash.proofs.Kit.{eqb-true, eqb-false, eq-eqb, ne-eqb, ltb-false, le-ltb, not-true, not-false}
-use Rattle.flash.specs.Tables.{Row, firstFit, numberOr0, refusal}
-use Rattle.flash.specs.declared.sizes.Sizes.{Sizes}
-use Rattle.flash.specs.Geometry.{inRange}
-use Rattle.flash.proofs.Bools.{bool-cases, both, or-false-left, or-false-right}
-use Rattle.flash.proofs.Bounds.{in-range, product-le, range-in}
-use Rattle.flash.proofs.Tables.{refusal-hit, refusal-miss, refusal-zero, refusal-skip, refusal-nil}
+use Rattle.flash.proofs.Kit.{_≡_, refl, ap, _∙_, _≢_, Bool, true, false, cond, _&&_, _||_, not, List, [], _∷_, ℕ, _*_, _≤_, arith, eqb, ltb, length}
+use Rattle.flash.proofs.Kit.{eqb-true, eq-eqb, ne-eqb, ltb-false, le-ltb, not-false}
+use Rattle.flash.specs.Tables.{firstFit, numberOr0, refusal}
+use Rattle.flash.proofs.Bools.{both, or-false-left, or-false-right}
+use Rattle.flash.proofs.Bounds.{in-range, product-le}
+use Rattle.flash.proofs.Tables.{refusal-hit, refusal-miss, refusal-zero, refusal-nil}
 use Rattle.split.specs.OneToOne.{badList}
-use Rattle.split.specs.Drops.{isDropped}
 use Rattle.split.proofs.DropLaws.{kept-of}
 use Rattle.orders.specs.Orders.{badOrder, leastY, forbiddingPage}
 use Rattle.orders.specs.Dictionary.{bestOrder}

@@ -1,7 +1,7 @@
 -- The table of who sends to whom gives the y of an order.
 use Rattle.flash.proofs.Kit.{_≡_, refl, sym, ap, ap₂, _∙_, _≢_, ⊎-elim, Bool, true, false, _||_, or-true, List, ℕ, zero, suc, _+_, _-_, _*_, _/_, _≤_, _<_}
 use Rattle.flash.proofs.Kit.{div-lt-iff-lt-mul, arith, eqb, length, getD, eqb-true, eq-eqb, below-more, replicate}
-use Rattle.flash.specs.Lists.{range, downFrom, any, first}
+use Rattle.flash.specs.Lists.{downFrom, first}
 use Rattle.flash.proofs.Bools.{bool-cases, never-both, or-cases}
 use Rattle.flash.proofs.Comparisons.{eq-cases}
 use Rattle.flash.proofs.Ranges.{any-is, any-range-find}
@@ -10,7 +10,7 @@ use Rattle.split.specs.Split.{sourceBlock, destBlock}
 use Rattle.split.specs.inner.Mask.{isMarked}
 use Rattle.split.proofs.DropLaws.{is-kept}
 use Rattle.split.proofs.MarkLaws.{unmarked}
-use Rattle.orders.specs.Orders.{blockAt, leastY}
+use Rattle.orders.specs.Orders.{leastY}
 use Rattle.orders.specs.Claims.{Forbids}
 use Rattle.orders.specs.inner.Places.{Surveyable}
 use Rattle.orders.specs.inner.Table.{cell, Sends, Short, isSentFrom, isSent, yBy}

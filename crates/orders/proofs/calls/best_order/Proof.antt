@@ -1,10 +1,10 @@
 -- `best_order` looks for the numbers, then for the best order, and asks for its y and page.
-use Rattle.flash.proofs.Kit.{_≡_, refl, sym, ap, _∙_, ℕ, arith, needs, length}
+use Rattle.flash.proofs.Kit.{_≡_, refl, sym, ap, _∙_, ℕ, arith, needs}
 use Rattle.flash.specs.Tables.{refusal}
-use Rattle.orders.specs.Dictionary.{factorial, orderAt}
+use Rattle.orders.specs.Dictionary.{orderAt}
 use Rattle.orders.specs.Answer.{listRows}
 use Rattle.orders.specs.inner.Calls.{leastAs}
-use Rattle.orders.proofs.RowLaws.{Passed, passed, surveyable, best-refused}
+use Rattle.orders.proofs.RowLaws.{passed, surveyable, best-refused}
 use Rattle.orders.proofs.FoundLaws.{best-answered}
 use Rattle.orders.proofs.calls.best_order.Statement.{statement}
 use Rattle.orders.proofs.calls.best_order.Tie as tie

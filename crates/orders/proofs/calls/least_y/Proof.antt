@@ -1,5 +1,5 @@
 -- `least_y` looks for the numbers, then at the pages.
-use Rattle.flash.proofs.Kit.{_≡_, refl, sym, _∙_, arith, needs, not-true, not-false}
+use Rattle.flash.proofs.Kit.{_≡_, refl, sym, _∙_, needs, not-true, not-false}
 use Rattle.flash.specs.Tables.{refusal}
 use Rattle.orders.specs.Answer.{listRows}
 use Rattle.orders.proofs.RowLaws.{passed, surveyable, least-refused, least-17}

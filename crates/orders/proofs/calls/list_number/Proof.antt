@@ -1,5 +1,5 @@
 -- `list_number` looks for the numbers in their order.
-use Rattle.flash.proofs.Kit.{_≡_, sym, _∙_, true, _||_, _&&_, _*_, _≤_, arith, needs, eqb, ltb, length, eqb-true, not-true, not-false}
+use Rattle.flash.proofs.Kit.{_≡_, sym, _∙_, true, _&&_, _*_, _≤_, arith, needs, eqb, length, eqb-true, not-true, not-false}
 use Rattle.flash.proofs.Bools.{both}
 use Rattle.orders.specs.Answer.{areSizes}
 use Rattle.orders.proofs.RowLaws.{few, gives-1, gives-16, gives-2, gives-3, gives-0}

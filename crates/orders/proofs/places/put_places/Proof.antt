@@ -1,5 +1,5 @@
 -- `put_places` tells whether the order is one, and where its blocks stand.
-use Rattle.flash.proofs.Kit.{_≡_, refl, sym, ap, _∙_, subst, not, _||_, ℕ, _+_, _-_, _≤_, _<_, arith, needs, ltb, length, getD, set, ltb-false}
+use Rattle.flash.proofs.Kit.{refl, sym, ap, _∙_, subst, not, _||_, ℕ, _+_, _-_, _≤_, _<_, arith, needs, ltb, length, getD, set, ltb-false}
 use Rattle.flash.proofs.Bools.{never-both, or-false-left, or-false-right}
 use Rattle.orders.proofs.PlacingLaws.{Placing, none-placed, outside, repeated, placed-more, placed-all}
 use Rattle.orders.proofs.places.put_places.Statement.{statement}

@@ -1,5 +1,5 @@
 -- `best_number` keeps the first of the least so far.
-use Rattle.flash.proofs.Kit.{_≡_, refl, sym, ap, _∙_, subst, ⊎-elim, ℕ, _+_, _-_, _≤_, _<_, arith, needs, length}
+use Rattle.flash.proofs.Kit.{_≡_, subst, ⊎-elim, ℕ, _-_, _≤_, arith, needs}
 use Rattle.orders.specs.Dictionary.{factorial, orderAt}
 use Rattle.orders.specs.inner.Table.{yBy}
 use Rattle.orders.specs.inner.Search.{Searching, FirstLeast}

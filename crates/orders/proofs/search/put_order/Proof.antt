@@ -1,6 +1,6 @@
 -- `put_order` writes the blocks from the last place on.
-use Rattle.flash.proofs.Kit.{_≡_, refl, sym, ap, _∙_, List, ℕ, _+_, _-_, _/_, _%_, _≤_, _<_, div-one, mod-lt, arith, needs, length, length-set, drop, drop-length}
-use Rattle.orders.specs.Dictionary.{factorial, orderAt}
+use Rattle.flash.proofs.Kit.{_≡_, refl, sym, ap, _∙_, ℕ, _+_, _-_, _/_, _%_, _≤_, _<_, mod-lt, arith, needs, length, drop}
+use Rattle.orders.specs.Dictionary.{factorial}
 use Rattle.orders.specs.inner.Search.{orderBy}
 use Rattle.orders.proofs.DictionaryLaws.{by-digits}
 use Rattle.orders.proofs.PutLaws.{none-put, tail-small, rest-more, put-more, put-length}

@@ -1,5 +1,5 @@
 -- `y_in` makes the order and asks for its y.
-use Rattle.flash.proofs.Kit.{_≡_, sym, ap, _∙_, subst, arith, needs, length}
+use Rattle.flash.proofs.Kit.{sym, ap, _∙_, subst, arith, needs, length}
 use Rattle.orders.specs.inner.Table.{Short, yBy}
 use Rattle.orders.proofs.DictionaryLaws.{order-length}
 use Rattle.orders.proofs.FoundLaws.{short-order}

@@ -1,6 +1,5 @@
 -- `survey` keeps the highest place, and the first page that goes back to it.
 use Rattle.flash.proofs.Kit.{_≡_, sym, subst, ⊎-elim, _+_, _-_, _≤_, arith, needs, length}
-use Rattle.orders.specs.declared.survey.Found.{Found}
 use Rattle.orders.specs.inner.Places.{Surveyed}
 use Rattle.orders.proofs.PlaceLaws.{none-surveyed, surveyed-higher, surveyed-same}
 use Rattle.orders.proofs.survey.survey.Statement.{statement}

@@ -1,5 +1,5 @@
 -- `y_by` looks for the highest place that is sent to, from the last on.
-use Rattle.flash.proofs.Kit.{_≡_, refl, sym, ap, _∙_, List, ℕ, _+_, _-_, _≤_, _<_, arith, needs, length, getD}
+use Rattle.flash.proofs.Kit.{_≡_, refl, sym, ap, _∙_, _+_, _-_, _≤_, arith, needs, length}
 use Rattle.flash.specs.Lists.{downFrom, first}
 use Rattle.orders.specs.inner.Table.{isSentFrom, isSent, yBy}
 use Rattle.orders.proofs.TableLaws.{down-hit, down-miss, down-none}
