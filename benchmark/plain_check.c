@@ -66,17 +66,15 @@ int plain_one_to_one(const uint8_t *list, uint32_t originals)
     return all_are(met, originals, 1);
 }
 
-/* Most stores have no pins, which memcmp sees soonest. Else a loop of 16 bits without a branch, which vectors take. A dropped page is not
- * sent anywhere. */
+/* Most stores have no pins, which memcmp sees soonest. Else a loop of 16 bits without a branch, which vectors take. No page has the
+ * number that drops one. */
 int plain_moves_pinned(const uint8_t *list, const uint8_t *pins, uint32_t originals)
 {
     uint16_t moved = 0;
     if (all_are(pins, originals, 0))
         return 0;
-    for (uint32_t k = 0; k < originals; k++) {
-        uint16_t number = (uint16_t)entry(list, k);
-        moved |= (uint16_t)((number ^ k) & (pins[k] == 0 ? 0 : 0xFFFF) & (number == DROPPED ? 0 : 0xFFFF));
-    }
+    for (uint32_t k = 0; k < originals; k++)
+        moved |= (uint16_t)((entry(list, k) ^ k) & (pins[k] == 0 ? 0 : 0xFFFF));
     return moved != 0;
 }
 

@@ -28,7 +28,7 @@
  *   list         2 * n * m bytes: entry k, two bytes, low byte first, is the page number 0 to n * m - 1 where original k goes, or
  *                MOVER_DROPPED: then it is thrown away, see below
  *   pins         n * m bytes: where byte k is not 0, original k is pinned: it must end at its old address, and a list that sends it
- *                elsewhere is refused; one that drops it is not. Without pins: n * m zeros. They do nothing else: a move may go on with others
+ *                elsewhere or drops it is refused. Without pins: n * m zeros. They do nothing else: a move may go on with others
  *   sets         n * m bytes: the set of each original, 0 to m - 1, as mover_split fills them; the same through the whole move
  *   store        (n + 1) * m * page_bytes bytes: the pages, block after block, the spare first
  *   marks        (n + 1) * m bytes, one a page in the same order: 0, 1 or 2 where a page is written, 255 where none is; 3 to 254 only
@@ -92,7 +92,7 @@ enum mover_refusal {
     MOVER_BAD_RECORD = 8,    /* a HEX record of another form or type, or with a wrong checksum */
     MOVER_BAD_ADDRESS = 9,   /* a HEX data byte outside the image, or a record that runs over a 64 KiB span */
     MOVER_BAD_TEXT = 10,     /* a HEX data byte given twice, no end record, or anything after it */
-    MOVER_BAD_PINS = 11,     /* the list sends a pinned page to another address and does not drop it; this comes between 3 and 4 */
+    MOVER_BAD_PINS = 11,     /* the list sends a pinned page to another address, or drops it; this comes between 3 and 4 */
     MOVER_BAD_WEAR = 12,     /* a move from place 0 would wear a block past the limit; this comes after 5 */
     MOVER_BAD_LINE = 13,     /* a line of a listing of another form, with a wrong number, or after the end line */
     MOVER_BAD_WRITE = 14,    /* a line that writes where the page is not blank, or where a higher one has been written after the last erase */

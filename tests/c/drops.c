@@ -44,13 +44,15 @@ static void lists_checked(void)
 {
     static const uint32_t two[] = {X, 2, X, 0}, all[] = {X, X, X, X}, one[] = {X, 2, 1, 3};
     static const uint32_t twice[] = {X, 2, X, 2}, high[] = {X, 4, X, 0}, below[] = {X, 2, 65534, 0};
-    static const uint8_t none[] = {0, 0, 0, 0}, pinned[] = {1, 0, 255, 0}, moving[] = {1, 0, 0, 1};
+    static const uint8_t none[] = {0, 0, 0, 0}, pinned[] = {1, 0, 255, 0}, second[] = {0, 0, 3, 0}, moving[] = {0, 0, 0, 1};
     static const uint8_t two_sets[] = {0, 1, 0, 1}, one_sets[] = {1, 0, 0, 1};
 
     splits_to("two dropped: split as 1 2 3 0", two, none, MOVER_DONE, two_sets);
     splits_to("all dropped: split as 0 1 2 3", all, none, MOVER_DONE, two_sets);
     splits_to("one dropped: split as P1", one, none, MOVER_DONE, one_sets);
-    splits_to("both pinned", two, pinned, MOVER_DONE, two_sets);
+    splits_to("both pinned", two, pinned, MOVER_BAD_PINS, NULL);
+    splits_to("one of them pinned", two, second, MOVER_BAD_PINS, NULL);
+    splits_to("both pinned, and an entry twice", twice, pinned, MOVER_BAD_LIST, NULL);
     splits_to("a pinned page moves beside a dropped one", two, moving, MOVER_BAD_PINS, NULL);
     splits_to("an entry twice beside drops", twice, none, MOVER_BAD_LIST, NULL);
     splits_to("an entry of n * m beside drops", high, none, MOVER_BAD_LIST, NULL);
@@ -144,7 +146,8 @@ static void refused_checked(void)
     check("a pinned page moves", mover_read_move(&moved.move, 1, &count, &bytes) == MOVER_BAD_PINS && moved.work[0] == 77);
     moved.pins[0] = 0;
     moved.pins[1] = 1;
-    check("the dropped one pinned", reads_as(&moved, 1, 255, 0));
+    moved.work[0] = 77;
+    check("the dropped one pinned", mover_read_move(&moved.move, 1, &count, &bytes) == MOVER_BAD_PINS && moved.work[0] == 77);
 }
 
 static void all_checked(void)

@@ -31,6 +31,7 @@ use Rattle.method.specs.Demand3.{Demand3}
 use Rattle.method.specs.WearCounts.{WearCounts}
 use Rattle.method.specs.HighestCounter.{HighestCounter}
 use Rattle.method.specs.PinsStay.{PinsStay}
+use Rattle.method.specs.PinFirst.{PinFirst}
 use Rattle.method.specs.NoDrops.{NoDrops}
 use Rattle.method.specs.Example.{ExampleHolds, BoundsMet}
 use Rattle.method.specs.TwoPages.{TwoPagesHold}
@@ -166,6 +167,7 @@ pub record Claims : Type 0 where
   pub wear : WearCounts
   pub highest : HighestCounter
   pub pins : PinsStay
+  pub pin-first : PinFirst
   pub no-drops : NoDrops
   pub bounds : BoundsMet
   pub example : ExampleHolds

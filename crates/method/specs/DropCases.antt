@@ -1,6 +1,7 @@
 -- Worked cases with dropped pages, as those of Cases.antt: the program's case with its last page dropped, step by step, and what is refused.
 use mathlib.Core.Path.{_≡_}
-use mathlib.Core.List.{[], _∷_, map}
+use mathlib.Core.List.{[], _∷_, map, List}
+use Prim.Native.Nat.{ℕ}
 use Rattle.flash.specs.Chip.{Chip}
 use Rattle.split.specs.Drops.{completed}
 use Rattle.split.specs.Request.{Request, requestOf, unpinned}
@@ -8,7 +9,7 @@ use Rattle.split.specs.Answer.{splitAnswer}
 use Rattle.method.specs.Move.{plan}
 use Rattle.method.specs.Answers.{readAnswer}
 use Rattle.method.specs.Runs.{Start}
-use Rattle.method.specs.Cases.{W, E, listing, Reaches, sizes, chip, junk, counts, runs, readsAt, ran, small, three, threeAtRest, ListRefused}
+use Rattle.method.specs.Cases.{W, E, listing, Reaches, sizes, chip, junk, counts, runs, readsAt, ran, small, three, threeAtRest, ListRefused, refusedRun}
 
 -- page 2 is dropped, and place 0 is free: the completed list is that of `three`
 abbrev thrown : Request
@@ -32,6 +33,10 @@ thrownEnd = chip (255 ∷ 255 ∷ 1 ∷ 2 ∷ []) (255 ∷ 2 ∷ 2 ∷ 2 ∷ [])
 -- two pages are dropped, and again the completed list is that of `three`
 abbrev thrownTwo : Request
 thrownTwo = small 3 (65535 ∷ 65535 ∷ 0 ∷ [])
+
+-- page 2 is pinned
+abbrev pinnedLast : List ℕ → Request
+pinnedLast list = requestOf (sizes 3 1) list (0 ∷ 0 ∷ 1 ∷ []) (junk 3)
 
 -- every page is dropped, and each is paired with its own place
 abbrev thrownAll : Request
@@ -71,5 +76,8 @@ pub record DropCasesHold : Type 0 where
       ≡ ran 3 (counts 3 2 1 2 1) 0 (chip (251 ∷ 0 ∷ 2 ∷ 4 ∷ []) (1 ∷ 1 ∷ 0 ∷ 0 ∷ [])) (0 ∷ []) (0 ∷ 1 ∷ [])
   -- number 3: what is kept still names two pages alike, or none
   pub number-3 : ListRefused 3 3 (65535 ∷ 1 ∷ 1 ∷ []) × ListRefused 3 3 (65535 ∷ 65534 ∷ 1 ∷ [])
-  -- number 11 is not given for a pinned page that is dropped
-  pub pinned : splitAnswer (requestOf (sizes 3 1) (thrown .list) (0 ∷ 0 ∷ 1 ∷ []) (junk 3)) ≡ record { number = 0; sets = 0 ∷ 0 ∷ 0 ∷ [] }
+  -- number 11 is given for a pinned page that is dropped, behind 3
+  pub pinned : (splitAnswer (pinnedLast (thrown .list)) ≡ record { number = 11; sets = junk 3 })
+      × (runs (pinnedLast (thrown .list)) threeAtRest (junk 1) 0 9 ≡ refusedRun 11 threeAtRest (junk 1))
+      × (readAnswer (pinnedLast (thrown .list)) threeAtRest (junk 1) 0 ≡ record { number = 11; count = 0; bytes = 0; work = junk 1 })
+      × (splitAnswer (pinnedLast (1 ∷ 1 ∷ 65535 ∷ [])) ≡ record { number = 3; sets = junk 3 })

@@ -16,6 +16,7 @@ pub mod Events
 pub mod Demand3
 pub mod WearCounts
 pub mod PinsStay
+pub mod PinFirst
 pub mod NoDrops
 pub mod Cases
 pub mod DropCases

@@ -1,13 +1,12 @@
--- Pinned pages that are not dropped, along any list of calls with cuts: once the finish was reported each is where it lay at first, and before that
+-- Pinned pages, along any list of calls with cuts: once the finish was reported each is where it lay at first, and before that
 -- it can be read as every other page can. In mid-move it may lie elsewhere.
-use mathlib.Core.Bool.{true, false}
+use mathlib.Core.Bool.{true}
 use mathlib.Core.Path.{_≡_}
 use mathlib.Core.List.{List}
 use Prim.Native.Nat.{ℕ, _<_}
 use lib.ListN.{length}
 use Rattle.flash.specs.Geometry.{slotOf, originalCount}
 use Rattle.flash.specs.Chip.{Chip, pageAt}
-use Rattle.split.specs.Drops.{isDropped}
 use Rattle.split.specs.Pins.{isPinned}
 use Rattle.split.specs.Request.{Request}
 use Rattle.method.specs.Runs.{Start}
@@ -21,5 +20,5 @@ pub record Pinned (R : Request) (chip₀ : Chip) (h : History) (k : ℕ) : Type 
 unfoldable pub PinsStay : Type 0
 PinsStay =
     (R : Request) (chip₀ : Chip) → Start R chip₀ → (events : List Event) → AllAllowed R events (starting chip₀)
-    → AtEach (λ h. (k : ℕ) → k < originalCount (R .sizes) → isPinned (R .pins) k ≡ true → isDropped (R .list) k ≡ false → Pinned R chip₀ h k)
+    → AtEach (λ h. (k : ℕ) → k < originalCount (R .sizes) → isPinned (R .pins) k ≡ true → Pinned R chip₀ h k)
     (moments events (starting chip₀))

@@ -1,5 +1,5 @@
 -- The proofs of what specs/Claims.antt claims.
-use Rattle.flash.proofs.Kit.{_≡_, refl, ap, _∙_, fun-ext, Bool, true, false, and-true, _||_, not, ℕ, arith, leb, length, eq-eqb}
+use Rattle.flash.proofs.Kit.{_≡_, refl, _∙_, Bool, true, false, _||_, not, ℕ, arith, leb, length, eq-eqb}
 use Rattle.flash.specs.Lists.{range, any, filter, first}
 use Rattle.flash.specs.Geometry.{originalCount}
 use Rattle.split.specs.OneToOne.{metTwice, isOneToOne, keptEntries, badList}
@@ -8,10 +8,11 @@ use Rattle.split.specs.Split.{sourceBlock, destBlock, setOf}
 use Rattle.split.specs.Rule.{otherEnd, swapped, blockAt, isPageOf, isUsed, lowestUnused, pagesMet, exchange, giveNext, setsGiven, splitByRule}
 use Rattle.split.specs.Pins.{isPinned, movesPinned}
 use Rattle.split.specs.Answer.{splitAnswer}
+use Rattle.split.specs.PinFirst.{movesPinnedKept}
 use Rattle.split.specs.Claims.{SplitEnds, walkOf, WalkEnds, WalkIsShort, WalkBoundMet, Completes, NoDrops, DropCases, FilledFits}
 use Rattle.split.proofs.Answers.{passed}
 use Rattle.split.proofs.DropLaws.{completed-length, completed-kept, completed-new, completed-ascends, completed-one-to-one, completed-accepted}
-use Rattle.split.proofs.DropLaws.{undropped-each, undropped-completed, undropped-bad}
+use Rattle.split.proofs.DropLaws.{undropped-completed, undropped-bad}
 use Rattle.split.proofs.RuleLaws.{given, rule-split, rule-length, walk-bound, walk-length}
 
 pub split-ends : SplitEnds
@@ -43,11 +44,10 @@ completes list good = (
 )
 
 pub no-drops : NoDrops
-unfolding isOneToOne movesPinned
+unfolding isOneToOne
 no-drops list none = (
   undropped-completed list none,
   λ originals. undropped-bad list none originals ∙ twice-not (any (leb originals) list || metTwice list),
-  λ pins. ap (λ (test : ℕ → Bool). any test (range 0 (length list))) (fun-ext (λ k. rw (undropped-each list none k, and-true))),
 )
   where
     twice-not : (t : Bool) → not (not t) ≡ t
@@ -55,8 +55,8 @@ no-drops list none = (
     twice-not false = refl
 
 pub drop-cases : DropCases
-unfolding isOneToOne metTwice keptEntries badList isDropped freePlaces paired completed isPinned movesPinned range any filter
-drop-cases = (refl, refl, refl, refl, refl, refl, refl)
+unfolding isOneToOne metTwice keptEntries badList isDropped freePlaces paired completed isPinned movesPinned movesPinnedKept range any filter
+drop-cases = (refl, refl, refl, refl, refl, refl, refl, refl)
 
 pub filled-fits : FilledFits
 unfolding splitAnswer

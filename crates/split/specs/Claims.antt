@@ -1,6 +1,6 @@
 -- What is claimed of the split, as types. The proofs are in proofs/, and `claims` of src/ asks for them.
 use mathlib.Core.Path.{_≡_}
-use mathlib.Core.Bool.{true, false, _&&_, _||_, not}
+use mathlib.Core.Bool.{true, false, _||_}
 use mathlib.Core.List.{List, [], _∷_}
 use Prim.Native.Nat.{ℕ, _+_, _-_, _*_, _≤_, _<_}
 use lib.Dec.{eqb, leb}
@@ -10,7 +10,8 @@ use Rattle.flash.specs.Geometry.{originalCount, pinsLength, setsLength}
 use Rattle.split.specs.OneToOne.{metTwice, isOneToOne, dropped, keptEntries, badList}
 use Rattle.split.specs.Drops.{isDropped, completed}
 use Rattle.split.specs.Split.{isSplit}
-use Rattle.split.specs.Pins.{isPinned, movesPinned}
+use Rattle.split.specs.Pins.{movesPinned}
+use Rattle.split.specs.PinFirst.{movesPinnedKept}
 use Rattle.split.specs.Rule.{source, destination, blockAt, lowestUnused, pagesMet, setsGiven, splitByRule}
 use Rattle.split.specs.Request.{Request}
 use Rattle.split.specs.Answer.{splitAnswer}
@@ -55,15 +56,14 @@ Completes =
     × ((i j : ℕ) → i < j → j < length list → isDropped list i ≡ true → isDropped list j ≡ true
     → getD (completed list) i 0 < getD (completed list) j 0)
 
--- Of a list that drops no page all is as it was: it is complete, an entry out of range or met twice is 3, and a pinned page sent elsewhere is 11.
+-- Of a list that drops no page all is as it was: it is complete, and an entry out of range or met twice is 3.
 abbrev pub NoDrops : Type 0
 NoDrops =
     (list : List ℕ) → any (eqb dropped) list ≡ false
     → (completed list ≡ list)
     × ((originals : ℕ) → badList originals list ≡ (any (leb originals) list || metTwice list))
-    × ((pins : List ℕ) → movesPinned pins list ≡ any (λ k. isPinned pins k && not (eqb (getD list k 0) k)) (range 0 (length list)))
 
--- Two pages of four are dropped, and both of two. Page 0 is pinned and dropped, and its place goes to page 1; kept, it is refused as 11.
+-- Two pages of four are dropped, and both of two. Page 0 is pinned: dropped or sent elsewhere it is refused as 11; once only the latter was.
 abbrev pub DropCases : Type 0
 DropCases =
     (completed (65535 ∷ 2 ∷ 65535 ∷ 0 ∷ []) ≡ 1 ∷ 2 ∷ 3 ∷ 0 ∷ [])
@@ -71,7 +71,8 @@ DropCases =
     × (badList 2 (65535 ∷ 65535 ∷ []) ≡ false)
     × (badList 3 (1 ∷ 65535 ∷ 1 ∷ []) ≡ true)
     × (completed (65535 ∷ 0 ∷ []) ≡ 1 ∷ 0 ∷ [])
-    × (movesPinned (1 ∷ 0 ∷ []) (65535 ∷ 0 ∷ []) ≡ false)
+    × (movesPinned (1 ∷ 0 ∷ []) (65535 ∷ 0 ∷ []) ≡ true)
+    × (movesPinnedKept (1 ∷ 0 ∷ []) (65535 ∷ 0 ∷ []) ≡ false)
     × (movesPinned (1 ∷ 0 ∷ []) (1 ∷ 0 ∷ []) ≡ true)
 
 -- What a split call filled passes the tests of run and read: their numbers 2, 3, 11 and 4 are not given for it.

@@ -6,5 +6,6 @@ pub mod Rule
 pub mod Pins
 pub mod Request
 pub mod Answer
+pub mod PinFirst
 pub mod Claims
 pub mod inner

@@ -11,6 +11,7 @@ mod rule;
 mod tables;
 
 ghost use Rattle.split.specs.Claims.{SplitEnds, WalkEnds, WalkIsShort, WalkBoundMet, Completes, NoDrops, DropCases, FilledFits};
+ghost use Rattle.split.specs.PinFirst.{SplitPinFirst};
 
 // The theorems about the definitions, as the contract of a function that does nothing: the check demands their proofs.
 pub fn claims()
@@ -22,4 +23,5 @@ pub fn claims()
     ensures no_drops { λ _. ⌜ NoDrops ⌝ }
     ensures drop_cases { λ _. ⌜ DropCases ⌝ }
     ensures filled_fits { λ _. ⌜ FilledFits ⌝ }
+    ensures pin_first { λ _. ⌜ SplitPinFirst ⌝ }
 {}

@@ -19,5 +19,5 @@ drop-cases-hold = record {
   read-dropped = (refl, refl);
   zeros = refl;
   number-3 = ((refl, refl, refl), (refl, refl, refl));
-  pinned = refl;
+  pinned = (refl, refl, refl, refl);
 }

@@ -4,14 +4,13 @@ use Rattle.flash.proofs.Kit.{add-one, zero-add}
 use Rattle.flash.specs.Lists.{range, all, any}
 use Rattle.flash.proofs.Ranges.{any-next, none-is}
 use Rattle.flash.proofs.Searches.{all-at}
-use Rattle.split.specs.Drops.{isDropped}
 use Rattle.split.specs.Pins.{isPinned, movesPinned}
 use Rattle.split.proofs.pins.moves_pinned.Statement.{statement}
 use Rattle.split.proofs.pins.moves_pinned.Tie as tie
 
 abbrev Inv-loop : tie.InvT-loop
 Inv-loop pins list moved₀ k₀ moved k =
-    (k ≤ length list) × (moved ≡ any (λ j. isPinned pins j && not (isDropped list j) && not (eqb (getD list j 0) j)) (range 0 k))
+    (k ≤ length list) × (moved ≡ any (λ j. isPinned pins j && not (eqb (getD list j 0) j)) (range 0 k))
 
 abbrev μ-loop : tie.MeasureT-loop
 μ-loop pins list moved₀ k₀ moved k = length list - k
@@ -26,11 +25,11 @@ unfolding any range
 loop-holds c = (omega arith, refl)
 
 loop-again : tie.Need-loop-again Inv-loop μ-loop
-unfolding isPinned isDropped
+unfolding isPinned
 loop-again c =
     let a = c .before .before .before .before .before .before .before .before .args in
     let l = c .before .before .before .loop in
-    let test : ℕ → Bool = λ j. isPinned (a .pins .now) j && not (isDropped (a .list .now) j) && not (eqb (getD (a .list .now) j 0) j) in
+    let test : ℕ → Bool = λ j. isPinned (a .pins .now) j && not (eqb (getD (a .list .now) j 0) j) in
     let next = rw (zero-add (l .k)) at (any-next test 0 (l .k)) in
     (omega arith, rw (l .inv .1) (sym next ∙ ap (λ (n : ℕ). any test (range 0 n)) (sym (add-one (l .k)))))
 
