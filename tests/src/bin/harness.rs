@@ -1,7 +1,7 @@
 //! Shows that the comparison passes the simulator itself and reports every
 //! seeded fault.
 
-use mover_tests::checks::tally::Tally;
+use mover_tests::checks::tally::{ensure, Tally};
 use mover_tests::faults::all_faults;
 use mover_tests::faults::exports::{calls, Clean};
 use mover_tests::faults::hex::exports::{hex_calls, HexClean};
@@ -10,15 +10,19 @@ use mover_tests::faults::listing::exports::{listing_call, ListingClean};
 use mover_tests::faults::listing::listing_faults;
 use mover_tests::faults::lists;
 use mover_tests::faults::operations::faulty_tellings;
+use mover_tests::faults::pinning::DropFirst;
 use mover_tests::faults::programs::faulty_programs;
 use mover_tests::harness::compare::{
     check_mover, first_broken_demand, first_difference, first_in_lists,
 };
+use mover_tests::harness::families::answers::requests;
 use mover_tests::harness::hex::compare::{check_hex, first_hex_difference};
 use mover_tests::harness::listing::compare::{check_listings, first_listing_difference};
 use mover_tests::harness::operations::compare_operations;
 use mover_tests::harness::programs::compare_program;
 use mover_tests::random::seed_from_environment;
+use mover_tests::simulator::calls::{answer, answer_by};
+use mover_tests::simulator::request::Request;
 use mover_tests::simulator::rules::Correct;
 use mover_tests::simulator::step_program::step_program;
 use std::process::ExitCode;
@@ -44,9 +48,26 @@ fn main() -> ExitCode {
     check_hex(&mut tally, "the simulator itself", &itself, seed);
     let itself = listing_call::<Correct, ListingClean>();
     check_listings(&mut tally, "the simulator itself", itself, seed);
+    tally.check("answers before request (xii)", as_before(seed));
     faults_reported(&mut tally, seed);
     demand_3_reported(&mut tally, seed);
     tally.finish()
+}
+
+const LEAST_ANSWERS: usize = 20_000;
+
+/// The calls whose answers are written to a file have none that request (xii)
+/// changed.
+fn as_before(seed: u64) -> Result<(), String> {
+    let requests = requests(seed);
+    ensure(requests.len() >= LEAST_ANSWERS, || {
+        format!("{} are too few", requests.len())
+    })?;
+    let changed = |request: &&Request| answer_by::<DropFirst>(request) != answer(request);
+    match requests.iter().find(changed) {
+        Some(request) => Err(request.to_string()),
+        None => Ok(()),
+    }
 }
 
 fn faults_reported(tally: &mut Tally, seed: u64) {

@@ -2,7 +2,7 @@
 
 use mover_tests::checks::tally::Tally;
 use mover_tests::checks::{
-    call_lists, drop_cases, hand_cases, hex_cases, listing_cases, pair_cases, papers,
+    call_lists, drop_cases, hand_cases, hex_cases, listing_cases, pair_cases, papers, pin_cases,
 };
 use mover_tests::checks::{
     read_counts, recovery_lines, refusing, small_moves, step_inputs, torn, wear_cases,
@@ -24,6 +24,7 @@ fn main() -> ExitCode {
     step_inputs::check(&mut tally);
     hex_cases::check(&mut tally);
     listing_cases::check(&mut tally, &mut random);
+    pin_cases::check(&mut tally, &mut random);
     read_counts::check(&mut tally, &mut random);
     small_moves::check(&mut tally, &mut random);
     pair_cases::check(&mut tally, &mut random);

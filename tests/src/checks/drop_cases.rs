@@ -153,7 +153,7 @@ fn refusals() -> Outcome {
     let calls = [Call::Split, Call::Run, Call::Read];
     let numbers = |scene: &Scene| calls.map(|call| answer(&scene.request(call)).numbers.returned);
     scene.pins = vec![0, 1, 0];
-    same("a pinned page dropped", numbers(&scene), [0; 3])?;
+    same("a pinned page dropped", numbers(&scene), [11; 3])?;
     scene.pins = vec![1, 1, 0];
     same("another pinned page moves", numbers(&scene), [11; 3])?;
     scene.pins = vec![0; 3];

@@ -7,6 +7,7 @@ pub mod hex_cases;
 pub mod listing_cases;
 pub mod pair_cases;
 pub mod papers;
+pub mod pin_cases;
 pub mod read_counts;
 pub mod recovery_lines;
 pub mod refusing;

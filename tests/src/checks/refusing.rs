@@ -57,11 +57,14 @@ const CASES: &[Case] = &[
     case!(3, LIST_CALLS, "an entry twice beside a drop", |r| r
         .parts
         .list
-        .copy_from_slice(&[255, 255, 2, 0, 1, 0, 2, 0])),
-    // Completed to 0 2 1 3: nothing else changes.
-    case!(0, LIST_CALLS, "a pinned page dropped", |r| r.parts.list
-        [..2]
-        .fill(255)),
+        .copy_from_slice(&[255, 255, 1, 0, 1, 0, 3, 0])),
+    // Completed to 0 2 1 3, but the pin is looked at first.
+    case!(
+        11,
+        &[Call::Split, Call::Run, Call::Read],
+        "a pinned page dropped",
+        |r| r.parts.list[6..].fill(255)
+    ),
     case!(3, LIST_CALLS, "a high byte", |r| r.parts.list[1] = 1),
     case!(11, LIST_CALLS, "a pinned page that moves", |r| r
         .parts
@@ -139,6 +142,8 @@ pub fn check(tally: &mut Tally) {
 fn number_due(case: &Case, call: Call) -> u32 {
     match (case.number, call) {
         (number, call) if case.calls.contains(&call) => number,
+        // No page can be dropped here, pinned or not.
+        (11, Call::Rebuild) => 3,
         // Marks that fit no moment are those of no place.
         (6, Call::Run) => 5,
         _ => 0,
@@ -211,7 +216,7 @@ fn wrong_length(call: Call, part: Part, due: u32) -> Outcome {
 fn two_flaws(call: Call) -> Outcome {
     let mine: Vec<&Case> = CASES
         .iter()
-        .filter(|case| case.number != 0 && case.calls.contains(&call))
+        .filter(|case| case.calls.contains(&call))
         .collect();
     for first in &mine {
         let place = place_in_order(first.number);

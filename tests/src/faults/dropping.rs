@@ -34,8 +34,7 @@ pub fn faults() -> Vec<Fault> {
         fault::<Above<65534>>("an entry of 65534 drops its page"),
         fault::<Above<32768>>("entries with the highest bit set drop their pages"),
         fault::<LowByte>("an entry with a low byte of 255 drops its page"),
-        fault::<PinFirst>("a pinned page that is dropped is refused as 11"),
-        fault::<PinOfPaired>("a pinned page that is dropped must be paired with its place"),
+        fault::<PinOfPaired>("a pinned page may be dropped if it is paired with its place"),
         fault::<SetsOfKept>("the sets of dropped pages are not looked at"),
         fault::<LeftBlank>("a page of 255s is left unmarked"),
     ];
@@ -231,17 +230,6 @@ struct LowByte;
 impl Rules for LowByte {
     fn is_dropped(entry: usize) -> bool {
         entry % 256 == 255
-    }
-}
-
-/// Request (xii) will have it so.
-struct PinFirst;
-
-impl Rules for PinFirst {
-    fn moves_pinned(request: &Request) -> bool {
-        let entries = request.entries();
-        let mut pages = entries.iter().zip(&request.parts.pins).enumerate();
-        pages.any(|(k, (&entry, &pin))| pin != 0 && entry != k)
     }
 }
 

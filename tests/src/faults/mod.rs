@@ -9,7 +9,7 @@ pub mod lists;
 mod manners;
 pub mod operations;
 mod pairing;
-mod pinning;
+pub mod pinning;
 pub mod programs;
 mod reading;
 mod reads;

@@ -22,6 +22,9 @@ pub fn faults() -> Vec<Fault> {
         fault::<NotBySplit>("split leaves the pins out"),
         fault::<NotByRun>("run leaves the pins out"),
         fault::<NotByRead>("read leaves the pins out"),
+        fault::<DropFirst>("the drop of a pinned page is looked at before its pin"),
+        fault::<SplitDropFirst>("split alone takes a pinned page that is dropped"),
+        fault::<ReadDropFirst>("read alone takes a pinned page that is dropped"),
         fault::<OnlyOnes>("only pin bytes of 1 are taken"),
         fault::<LowestBit>("only the lowest bit of a pin is looked at"),
         fault::<Signed>("pin bytes above 127 are taken for none"),
@@ -102,12 +105,42 @@ impl Rules for Signed {
     }
 }
 
-/// Is some page pinned, and not dropped, of which this is so, by its number and
-/// where it goes?
+/// Is some page pinned of which this is so, by its number and its entry?
 fn some_pinned(request: &Request, so: impl Fn(usize, usize) -> bool) -> bool {
     let numbers = request.entries();
     let mut pages = numbers.iter().zip(&request.parts.pins).enumerate();
-    pages.any(|(k, (&number, &pin))| pin != 0 && number != DROPPED && so(k, number))
+    pages.any(|(k, (&number, &pin))| pin != 0 && so(k, number))
+}
+
+/// As it was before request (xii).
+pub struct DropFirst;
+
+impl Rules for DropFirst {
+    fn moves_pinned(request: &Request) -> bool {
+        some_pinned(request, |k, number| k != number && number != DROPPED)
+    }
+}
+
+struct SplitDropFirst;
+
+impl Rules for SplitDropFirst {
+    fn moves_pinned(request: &Request) -> bool {
+        match request.call {
+            Call::Split => DropFirst::moves_pinned(request),
+            _ => Correct::moves_pinned(request),
+        }
+    }
+}
+
+struct ReadDropFirst;
+
+impl Rules for ReadDropFirst {
+    fn moves_pinned(request: &Request) -> bool {
+        match request.call {
+            Call::Read => DropFirst::moves_pinned(request),
+            _ => Correct::moves_pinned(request),
+        }
+    }
 }
 
 struct StayingRefused;

@@ -46,8 +46,9 @@ pub struct Comparer<'a> {
     /// Runs that read no page for those they wrote, at most as many as they wrote, and
     /// more.
     reads: [u64; 3],
-    /// Calls with pinned pages that were carried out, and that were refused for them.
-    pinned: [u64; 2],
+    /// Calls with pinned pages that were carried out, that were refused for them, and
+    /// for one that is dropped among these.
+    pinned: [u64; 3],
     /// Calls carried out with a list that drops one page, some pages, or all.
     dropping: [u64; 3],
     /// Reads of dropped pages.
@@ -77,7 +78,7 @@ impl<'a> Comparer<'a> {
             compared: [0; 5],
             counted: [0; 3],
             reads: [0; 3],
-            pinned: [0; 2],
+            pinned: [0; 3],
             dropping: [0; 3],
             dropped_read: 0,
             worn: [0; 3],
@@ -143,7 +144,10 @@ impl<'a> Comparer<'a> {
     fn note_pins(&mut self, request: &Request, numbers: &Numbers) {
         match numbers.returned {
             0 if request.parts.pins.iter().any(|&pin| pin != 0) => self.pinned[0] += 1,
-            11 => self.pinned[1] += 1,
+            11 => {
+                self.pinned[1] += 1;
+                self.pinned[2] += pinned_and_dropped(request) as u64;
+            }
             _ => {}
         }
     }
@@ -207,8 +211,8 @@ impl<'a> Comparer<'a> {
         println!(
             "reads: none in {none} runs that wrote, at most one a page in {few}, more in {more}"
         );
-        let [done, refused] = self.pinned;
-        println!("pins: {done} calls carried out, {refused} refused as 11");
+        let [done, refused, dropped] = self.pinned;
+        println!("pins: {done} calls carried out, {refused} refused as 11, {dropped} of these with a drop");
         let [one, some, all] = self.dropping;
         println!("drops: one page in {one} calls carried out, some in {some}, all in {all}");
         println!("dropped pages read: {}", self.dropped_read);
@@ -222,6 +226,13 @@ impl<'a> Comparer<'a> {
             self.events, self.cuts, self.events_dropping
         );
     }
+}
+
+/// Does the list drop a page that is pinned?
+pub fn pinned_and_dropped(request: &Request) -> bool {
+    let entries = request.entries();
+    let mut pages = entries.iter().zip(&request.parts.pins);
+    pages.any(|(&entry, &pin)| entry == DROPPED && pin != 0)
 }
 
 /// In which number or byte an answer differs from the one due.

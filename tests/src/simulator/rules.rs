@@ -58,13 +58,11 @@ pub trait Rules {
     /// What each byte of a dropped page counts as.
     const DROPPED_BYTE: u8 = 255;
 
-    /// Does the list send a pinned page elsewhere? A dropped one is sent nowhere.
+    /// Has a pinned page another entry than its own number? To drop it is one too.
     fn moves_pinned(request: &Request) -> bool {
         let entries = request.entries();
         let mut pages = entries.iter().zip(&request.parts.pins).enumerate();
-        pages.any(|(k, (&entry, &pin))| {
-            Self::is_pinned(pin) && entry != k && !Self::is_dropped(entry)
-        })
+        pages.any(|(k, (&entry, &pin))| Self::is_pinned(pin) && entry != k)
     }
 
     /// The pages on which the split exchanges sets a and b.

@@ -1,5 +1,6 @@
 //! The families of cases, in the order of the comparison.
 
+pub mod answers;
 mod drops;
 mod events;
 mod every_cut;

@@ -75,11 +75,19 @@ fn one_page(comparer: &mut Comparer, random: &mut Random) -> Outcome {
     Ok(())
 }
 
-/// A list that moves a pinned page, in mid-move, with every other flaw beside it.
+/// A list that moves a pinned page, or drops it, in mid-move, with every other flaw
+/// beside it.
 fn neighbours(comparer: &mut Comparer, random: &mut Random) -> Outcome {
-    for (n, m, bytes) in [(2, 1, 1), (2, 2, 2), (3, 2, 1), (1, 4, 1)] {
+    let shapes = [(2, 1, 1), (2, 2, 2), (3, 2, 1), (1, 4, 1)];
+    for ((n, m, bytes), drops) in shapes
+        .into_iter()
+        .flat_map(|shape| [(shape, false), (shape, true)])
+    {
         let shape = sizes(n, m, bytes, random.below(3));
-        let list = (0..shape.originals() as u16).rev().collect();
+        let mut list: Vec<u16> = (0..shape.originals() as u16).rev().collect();
+        if drops {
+            list[0] = u16::MAX;
+        }
         let mut scene = any_bytes(shape, list, random);
         let place = random.below(shape.steps() + 1) as u32;
         scene.run(0, place);
@@ -98,8 +106,7 @@ fn neighbours(comparer: &mut Comparer, random: &mut Random) -> Outcome {
     Ok(())
 }
 
-/// Whole moves with all pages pinned that stay or are dropped, which travel like
-/// the others.
+/// Whole moves with all pages pinned that stay, which travel like the others.
 fn moves(comparer: &mut Comparer, random: &mut Random) -> Outcome {
     for round in 0..150 {
         let widest = 2 + round / 15;
@@ -108,7 +115,7 @@ fn moves(comparer: &mut Comparer, random: &mut Random) -> Outcome {
         let list = random.keeping(shape.originals());
         let mut scene = any_bytes(shape, random.dropping(list), random);
         for k in 0..shape.originals() {
-            let stays = scene.list[k] as usize == k || scene.is_dropped(k);
+            let stays = scene.list[k] as usize == k;
             scene.pins[k] = if stays { 1 + random.byte() % 255 } else { 0 };
         }
         compare_split(comparer, &scene, random)?;

@@ -141,8 +141,8 @@ fn list_flaws(request: &Request) -> Vec<Flaw> {
     flaws
 }
 
-/// Pins on pages that move; all pinned, which is no flaw if none moves; none
-/// pinned, which is none; and pins on dropped pages, which are none.
+/// Pins on pages that move or are dropped; all pinned, which is no flaw if all stay;
+/// none pinned, which is none.
 fn pin_flaws(request: &Request) -> Vec<Flaw> {
     let numbers = request.entries();
     let moving = |k: &usize| numbers[*k] != *k && numbers[*k] != DROPPED;

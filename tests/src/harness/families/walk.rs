@@ -38,10 +38,10 @@ fn lent(scene: Scene, random: &mut Random) -> Scene {
     worn(pinned(scene, random), random)
 }
 
-/// Some of the pages that the list leaves where they are, or drops, get a pin.
+/// Some of the pages that the list leaves where they are get a pin.
 fn pinned(mut scene: Scene, random: &mut Random) -> Scene {
     for k in 0..scene.pins.len() {
-        if scene.list[k] as usize == k || scene.is_dropped(k) {
+        if scene.list[k] as usize == k {
             let any = random.byte();
             scene.pins[k] = *random.pick(&[0, 1, 255, any]);
         }
