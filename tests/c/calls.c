@@ -346,6 +346,7 @@ int main(void)
     most_bytes_checked();
     tells_checked();
     listing_checked();
+    reach_checked();
     hex_checked();
     printf("%u passed, %u failed\n", passed, failed);
     return failed != 0 || passed == 0;

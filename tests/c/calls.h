@@ -20,6 +20,9 @@ void pages_read_checked(void);
 /* Step listings of other movers. */
 void listing_checked(void);
 
+/* How far one changed page reaches. */
+void reach_checked(void);
+
 /* Intel HEX. */
 void hex_checked(void);
 

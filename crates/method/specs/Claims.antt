@@ -33,11 +33,13 @@ use Rattle.method.specs.HighestCounter.{HighestCounter}
 use Rattle.method.specs.PinsStay.{PinsStay}
 use Rattle.method.specs.PinFirst.{PinFirst}
 use Rattle.method.specs.NoDrops.{NoDrops}
+use Rattle.method.specs.Reach.{ReachOfOne}
 use Rattle.method.specs.Example.{ExampleHolds, BoundsMet}
 use Rattle.method.specs.TwoPages.{TwoPagesHold}
 use Rattle.method.specs.Cases.{CasesHold}
 use Rattle.method.specs.DropCases.{DropCasesHold}
 use Rattle.method.specs.WearCases.{WearCasesHold}
+use Rattle.method.specs.ReachCases.{ReachCasesHold}
 
 -- rule 4.3: there are as many steps as the last place says
 unfoldable pub StepsCounted : Type 0
@@ -148,6 +150,7 @@ pub record Claims : Type 0 where
   pub cases : (byte : ℕ) → CasesHold byte
   pub drop-cases : DropCasesHold
   pub wear-cases : WearCasesHold
+  pub reach-cases : ReachCasesHold
   pub runs : RunsAddUp
   pub states : StatesReached
   pub counts : RunsCount
@@ -169,6 +172,7 @@ pub record Claims : Type 0 where
   pub pins : PinsStay
   pub pin-first : PinFirst
   pub no-drops : NoDrops
+  pub reach : ReachOfOne
   pub bounds : BoundsMet
   pub example : ExampleHolds
   pub two-pages : (byte : ℕ) → TwoPagesHold byte

@@ -12,7 +12,7 @@ use Rattle.method.specs.Runs.{Start}
 use Rattle.method.specs.Cases.{W, E, listing, Reaches, sizes, chip, junk, counts, runs, readsAt, ran, small, three, threeAtRest, ListRefused, refusedRun}
 
 -- page 2 is dropped, and place 0 is free: the completed list is that of `three`
-abbrev thrown : Request
+abbrev pub thrown : Request
 thrown = small 3 (1 ∷ 2 ∷ 65535 ∷ [])
 
 -- page 1 is dropped instead, and place 2 is free

@@ -18,9 +18,11 @@ pub mod WearCounts
 pub mod PinsStay
 pub mod PinFirst
 pub mod NoDrops
+pub mod Reach
 pub mod Cases
 pub mod DropCases
 pub mod WearCases
+pub mod ReachCases
 pub mod HighestCounter
 pub mod Example
 pub mod TwoPages

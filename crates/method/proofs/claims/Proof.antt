@@ -2,6 +2,7 @@
 use Rattle.method.proofs.examples.Cases.{cases-hold}
 use Rattle.method.proofs.examples.DropCases.{drop-cases-hold}
 use Rattle.method.proofs.examples.WearCases.{wear-cases-hold}
+use Rattle.method.proofs.examples.ReachCases.{reach-cases-hold}
 use Rattle.method.proofs.places.StepsCounted.{steps-counted}
 use Rattle.method.proofs.places.PlacesDiffer.{places-differ}
 use Rattle.method.proofs.places.ErasesCounted.{erases-counted}
@@ -20,13 +21,14 @@ use Rattle.method.proofs.wear.WearCounts.{wear-counts}
 use Rattle.method.proofs.wear.HighestKept.{highest-kept}
 use Rattle.method.proofs.demand.PinsKept.{pins-stay}
 use Rattle.method.proofs.refusals.PinFirst.{pin-first}
+use Rattle.method.proofs.reach.RunsApart.{reach-of-one}
 use Rattle.method.proofs.examples.Example.{example-holds, bounds-met}
 use Rattle.method.proofs.examples.TwoPages.{two-pages-hold}
 use Rattle.method.proofs.claims.Statement.{statement}
 use Rattle.method.proofs.claims.Tie as tie
 
 returns : tie.Need-returns
-returns c = record { cases = cases-hold; drop-cases = drop-cases-hold; wear-cases = wear-cases-hold; runs = runs-add-up; states = states-reached; counts = runs-count; reads = reads-counted; steps = steps-counted; places = places-differ; erases = erases-counted; pages = pages-rise; tops = top-is-highest; walks = walks-end; old-cuts = old-cuts; one-unfinished = one-unfinished; lines = lines-agree; erases-next = erases-next; first = first-by-all; demand-3 = demand-3; wear = wear-counts; highest = highest-kept; pins = pins-stay; pin-first = pin-first; no-drops = no-drops; bounds = bounds-met; example = example-holds; two-pages = two-pages-hold }
+returns c = record { cases = cases-hold; drop-cases = drop-cases-hold; wear-cases = wear-cases-hold; reach-cases = reach-cases-hold; runs = runs-add-up; states = states-reached; counts = runs-count; reads = reads-counted; steps = steps-counted; places = places-differ; erases = erases-counted; pages = pages-rise; tops = top-is-highest; walks = walks-end; old-cuts = old-cuts; one-unfinished = one-unfinished; lines = lines-agree; erases-next = erases-next; first = first-by-all; demand-3 = demand-3; wear = wear-counts; highest = highest-kept; pins = pins-stay; pin-first = pin-first; no-drops = no-drops; reach = reach-of-one; bounds = bounds-met; example = example-holds; two-pages = two-pages-hold }
 
 pub claims-spec : {M : Type 1} → statement M
 claims-spec = tie.close (tie.spec returns)

@@ -2,7 +2,8 @@
 use Rattle.flash.proofs.Kit.{_≡_, sym, ap, _∙_, ℕ, _+_, _-_, _*_, _/_, _%_, _<_, div-add-mod', div-lt-iff-lt-mul, mod-lt, arith, eqb, getD, eqb-true}
 use Rattle.flash.proofs.Kit.{eq-eqb}
 use Rattle.flash.specs.declared.sizes.Sizes.{Sizes}
-use Rattle.flash.specs.Geometry.{blockOf, originalCount}
+use Rattle.flash.specs.Geometry.{blockOf, pageOf, slotOf, originalCount, slotCount}
+use Rattle.flash.proofs.Bounds.{slot-in-marks}
 use Rattle.flash.proofs.Ranges.{First, first-hit}
 use Rattle.split.specs.Split.{sourceBlock, destBlock, setOf}
 use Rattle.split.proofs.OneToOneLaws.{entry-lt, entry-same, entry-onto}
@@ -25,6 +26,9 @@ module _ (M : Move) (A : AcceptedMove M) where
 
   pub block-in : (k : ℕ) → k < originalCount (M .sizes) → DataBlock n (blockOf m k)
   block-in k h = let b = block-range n m k h in record { low = b .0; high = b .1 }
+
+  pub slot-in : (k : ℕ) → k < originalCount (M .sizes) → slotOf m k < slotCount (M .sizes)
+  slot-in k h = slot-in-marks (M .sizes) (blockOf m k) (pageOf m k) (block-in k h .high) (mod-lt k (A .ranges .m-low))
 
   module _ (set : ℕ) (set-ok : set < m) where
     -- ---- D(i), rule 3.1

@@ -1,9 +1,9 @@
 -- A store at rest stands at place 0, and its pages are the originals.
 use Rattle.flash.proofs.Kit.{_≡_, sym, ap, _∙_, subst, Bool, true, List, ℕ, zero, suc, _+_, _-_, _*_, _%_, _≤_, _<_, add-zero, mod-eq-of-lt, div-add-mod'}
-use Rattle.flash.proofs.Kit.{mod-lt, add-mul, arith, length, getD, take, drop, length-drop, drop-drop}
+use Rattle.flash.proofs.Kit.{add-mul, arith, length, getD, take, drop, length-drop, drop-drop}
 use Rattle.flash.specs.Lists.{range, all, part}
 use Rattle.flash.specs.declared.sizes.Sizes.{Sizes}
-use Rattle.flash.specs.Geometry.{Bounds, slot, slotOf, blockOf, pageOf, originalCount, slotCount, storeLength, marksLength, letter}
+use Rattle.flash.specs.Geometry.{Bounds, slot, slotOf, originalCount, slotCount, storeLength, marksLength, letter}
 use Rattle.flash.specs.Chip.{Chip, erased, pageAt, markAt, isBlank, isFull}
 use Rattle.flash.proofs.Bools.{and-left, and-right}
 use Rattle.flash.proofs.Bounds.{slot-in-marks}
@@ -18,7 +18,7 @@ use Rattle.method.proofs.basics.AcceptedCalls.{StandsAt}
 use Rattle.method.proofs.basics.Indexes.{each-slot}
 use Rattle.method.proofs.places.PagesHeld.{held-above, held-blank, marks-eq}
 use Rattle.method.proofs.places.StepsAtPlaces.{Stands, stands-at}
-use Rattle.method.proofs.cycles.SetCycles.{block-in, entry-in}
+use Rattle.method.proofs.cycles.SetCycles.{entry-in, slot-in}
 
 -- a part after a front of whole parts
 part-after : (size i t : ℕ) (xs : List ℕ) → part size t (drop (i * size) xs) ≡ part size (i + t) xs
@@ -94,12 +94,8 @@ module _ (M : Move) (A : AcceptedMove M) (chip : Chip) (store-length : length (c
   rest-holds isDropped = record {
     plain = λ k h e. rest-page k;
     code = λ set v q l u e. absurd (omega (arith, only-s (slot m (v - 1) set) (slot-in-marks Z (v - 1) set (omega arith) q) 1 e));
-    final = λ k h e. absurd (omega (arith, only-s (slotOf m (getD (M .list) k 0)) (in-store k h) 2 e));
+    final = λ k h e. absurd (omega (arith, only-s (slotOf m (getD (M .list) k 0)) (slot-in M A (getD (M .list) k 0) (entry-in M A k h)) 2 e));
   }
-    where
-      in-store : (k : ℕ) → k < originalCount Z → slotOf m (getD (M .list) k 0) < slotCount Z
-      in-store k h = (let b = block-in M A (getD (M .list) k 0) (entry-in M A k h) in
-          slot-in-marks Z (blockOf m (getD (M .list) k 0)) (pageOf m (getD (M .list) k 0)) (b .high) (mod-lt (getD (M .list) k 0) (B .m-low)))
 
   pub rest-length : length (originalsIn Z chip) ≡ originalCount Z * P
   unfolding originalsIn

@@ -202,10 +202,10 @@ module _ (R : Request) (chip : Chip) (S : Start R chip) where
       abbrev after : Running
       after = steps (plan R) t 0 (record { chip = chip; work = work })
 
-      after-taken : RunTaken R (after .chip) (after .work) (wornBy (operationsFrom W 0 t) wear) (0 + t) limit
+      pub after-taken : RunTaken R (after .chip) (after .work) (wornBy (operationsFrom W 0 t) wear) (0 + t) limit
       after-taken = still-taken R chip work wear 0 t limit (omega arith) start-taken
 
-      after-holds : Holding (plan R) (originalsIn W chip) (after .chip)
+      pub after-holds : Holding (plan R) (originalsIn W chip) (after .chip)
       after-holds =
           steps-hold (plan R) start-accepted (originalsIn W chip) start-full t 0 (record { chip = chip; work = work }) (omega arith)
           (record { lent = start-taken .lent; stands = start-stands }) start-holds
