@@ -37,6 +37,7 @@
  *   wear         MOVER_WEAR_BYTES: a counter of erases for each of blocks 0 to 64, however many there are, four bytes each, low byte first; then
  *                the highest count, four bytes in the same order, and the lowest block that has it, one byte. It belongs to the chip and not
  *                to the move: keep it as long as the chip
+ *   order        n bytes: the numbers of the data blocks, each once, in the order in which a coding would name them
  *   text         an Intel HEX file; mover_hex_write fills exactly mover_hex_bytes, mover_hex_read takes any length; or a step listing of any length
  *
  * A DROPPED PAGE, whose entry is MOVER_DROPPED, is 255s throughout from the first call that takes the list: read gives them at once, while
@@ -96,7 +97,9 @@ enum mover_refusal {
     MOVER_BAD_WEAR = 12,     /* a move from place 0 would wear a block past the limit; this comes after 5 */
     MOVER_BAD_LINE = 13,     /* a line of a listing of another form, with a wrong number, or after the end line */
     MOVER_BAD_WRITE = 14,    /* a line that writes where the page is not blank, or where a higher one has been written after the last erase */
-    MOVER_LOST_ORIGINAL = 15 /* a line after which an original could no longer be had */
+    MOVER_LOST_ORIGINAL = 15, /* a line after which an original could no longer be had */
+    MOVER_BAD_BLOCKS = 16,   /* n below 3, or above MOVER_MOST_SEARCHED for the search; this comes before 2 */
+    MOVER_BAD_ORDER = 17     /* bytes that are no order: a block comes twice, or there is none of that number; this comes after 3 */
 };
 
 /* The list entry of a page that is thrown away. */
@@ -108,6 +111,11 @@ enum mover_entry {
 enum mover_wear {
     MOVER_COUNTERS = 65,
     MOVER_WEAR_BYTES = 4 * MOVER_COUNTERS + 5
+};
+
+/* The most blocks whose orders mover_best_order tries. */
+enum mover_search {
+    MOVER_MOST_SEARCHED = 7
 };
 
 /* What the step at a place does. */
@@ -220,6 +228,23 @@ uint32_t mover_hex_write(uint32_t n, uint32_t m, uint32_t page_bytes, const uint
 uint32_t mover_check_listing(uint32_t n, uint32_t m, const uint8_t *list, uint64_t list_len, const uint8_t *text, uint64_t text_len,
                              uint32_t *line, uint32_t *accepted);
 
+/* How many erases the papers' coding would spend with its blocks named in this order: n + *y + 1. That coding is not this library's, which takes 2 * n
+ * whatever the order; it asks for large pages and for no block without a page to move. Places in the order are counted from 1. A value y is allowed if no
+ * page goes from the j-th block to the i-th with y < i and i + 2 <= j; dropped pages are left out.
+ *   *y     the least value allowed, 0 to n - 2
+ *   *page  with *y above 0, the lowest original that rules out *y - 1; with 0 it is 0 and means nothing
+ * Changes nothing.
+ * Returns 0, or 1 for n or m, 16, 2, 3 or 17. */
+uint32_t mover_least_y(uint32_t n, uint32_t m, const uint8_t *list, uint64_t list_len, const uint8_t *order, uint64_t order_len,
+                       uint32_t *y, uint32_t *page);
+
+/* The order with the least *y of all, and the first of these in dictionary order: that which has the smaller block where two first differ. What was in
+ * `order` does not matter; it is filled. *y and *page are those of mover_least_y for it. All orders are tried, 5040 of 7 blocks.
+ * Changes only `order`.
+ * Returns 0, or 1 for n or m, 16, 2 or 3. */
+uint32_t mover_best_order(uint32_t n, uint32_t m, const uint8_t *list, uint64_t list_len, uint8_t *order, uint64_t order_len,
+                          uint32_t *y, uint32_t *page);
+
 /* How long the lent parts are, in bytes. */
 static inline uint64_t mover_list_bytes(uint32_t n, uint32_t m)
 {
@@ -234,6 +259,11 @@ static inline uint64_t mover_pins_bytes(uint32_t n, uint32_t m)
 static inline uint64_t mover_sets_bytes(uint32_t n, uint32_t m)
 {
     return (uint64_t)n * m;
+}
+
+static inline uint64_t mover_order_bytes(uint32_t n)
+{
+    return n;
 }
 
 static inline uint64_t mover_marks_bytes(uint32_t n, uint32_t m)
@@ -258,6 +288,12 @@ static inline uint64_t mover_hex_bytes(uint32_t n, uint32_t m, uint32_t page_byt
 static inline uint32_t mover_last_place(uint32_t n, uint32_t m)
 {
     return 2 * n * (m + 1);
+}
+
+/* The erases of the papers' coding with this y. */
+static inline uint32_t mover_coded_erases(uint32_t n, uint32_t y)
+{
+    return n + y + 1;
 }
 
 /* Entry k of a list becomes `number`: original k is to go to page number % m of block number / m + 1, or nowhere if it is MOVER_DROPPED. */

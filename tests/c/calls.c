@@ -347,6 +347,7 @@ int main(void)
     tells_checked();
     listing_checked();
     reach_checked();
+    orders_checked();
     hex_checked();
     printf("%u passed, %u failed\n", passed, failed);
     return failed != 0 || passed == 0;

@@ -23,6 +23,9 @@ void listing_checked(void);
 /* How far one changed page reaches. */
 void reach_checked(void);
 
+/* The least y of an order of blocks, and the best order. */
+void orders_checked(void);
+
 /* Intel HEX. */
 void hex_checked(void);
 

@@ -3,3 +3,4 @@ pub mod BytesLaws
 pub mod WearLaws
 pub mod ExportLaws
 pub mod CheckLaws
+pub mod OrderCallLaws

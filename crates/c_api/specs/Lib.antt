@@ -3,3 +3,4 @@ pub mod Bytes
 pub mod Wear
 pub mod Exports
 pub mod CheckExport
+pub mod OrderExports

@@ -4,6 +4,7 @@ pub mod hex_call;
 mod list;
 pub mod mend;
 pub mod operation;
+pub mod order_call;
 pub mod read;
 pub mod refresh;
 pub mod run;

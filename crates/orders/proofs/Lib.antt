@@ -1,0 +1,14 @@
+pub mod LeastLaws
+pub mod PlaceLaws
+pub mod OrderLaws
+pub mod PlacingLaws
+pub mod DictionaryLaws
+pub mod TableLaws
+pub mod BestLaws
+pub mod RowLaws
+pub mod Claimed
+pub mod CallLaws
+pub mod PutLaws
+pub mod FoundLaws
+pub mod ExportedLaws
+pub mod Exampled
