@@ -2,7 +2,8 @@
 
 use crate::harness::interface::{
     mover_check_listing, mover_hex_read, mover_hex_write, mover_mend, mover_operation, mover_read,
-    mover_run, mover_split, mover_wear_refresh, Calls, HexCalls, ListingCall, OperationCall,
+    mover_rebuild, mover_run, mover_split, mover_wear_refresh, Calls, HexCalls, ListingCall,
+    OperationCall,
 };
 
 pub fn calls() -> Calls {
@@ -12,6 +13,7 @@ pub fn calls() -> Calls {
         mend: mover_mend,
         read: mover_read,
         refresh: mover_wear_refresh,
+        rebuild: mover_rebuild,
     }
 }
 

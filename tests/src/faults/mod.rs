@@ -13,6 +13,7 @@ pub mod pinning;
 pub mod programs;
 mod reading;
 mod reads;
+mod rebuilding;
 mod recovery;
 mod refusing;
 mod running;
@@ -43,6 +44,7 @@ pub fn all_faults() -> Vec<Fault> {
         recovery::faults(),
         counting::faults(),
         reads::faults(),
+        rebuilding::faults(),
         pinning::faults(),
         dropping::faults(),
         wearing::faults(),

@@ -8,6 +8,7 @@ pub mod hex;
 pub mod listing;
 pub mod permutation;
 pub mod reading;
+pub mod rebuilding;
 pub mod recovery;
 pub mod refusals;
 pub mod request;
