@@ -10,6 +10,8 @@ use mover_tests::faults::listing::exports::{listing_call, ListingClean};
 use mover_tests::faults::listing::listing_faults;
 use mover_tests::faults::lists;
 use mover_tests::faults::operations::faulty_tellings;
+use mover_tests::faults::orders::exports::{order_calls, OrderClean};
+use mover_tests::faults::orders::order_faults;
 use mover_tests::faults::pinning::DropFirst;
 use mover_tests::faults::programs::faulty_programs;
 use mover_tests::harness::compare::{
@@ -19,6 +21,7 @@ use mover_tests::harness::families::answers::requests;
 use mover_tests::harness::hex::compare::{check_hex, first_hex_difference};
 use mover_tests::harness::listing::compare::{check_listings, first_listing_difference};
 use mover_tests::harness::operations::compare_operations;
+use mover_tests::harness::orders::compare::{check_orders, first_order_difference};
 use mover_tests::harness::programs::compare_program;
 use mover_tests::random::seed_from_environment;
 use mover_tests::simulator::calls::{answer, answer_by};
@@ -48,6 +51,8 @@ fn main() -> ExitCode {
     check_hex(&mut tally, "the simulator itself", &itself, seed);
     let itself = listing_call::<Correct, ListingClean>();
     check_listings(&mut tally, "the simulator itself", itself, seed);
+    let itself = order_calls::<Correct, OrderClean>();
+    check_orders(&mut tally, "the simulator itself", &itself, seed);
     tally.check("answers before request (xii)", as_before(seed));
     faults_reported(&mut tally, seed);
     demand_3_reported(&mut tally, seed);
@@ -89,6 +94,10 @@ fn faults_reported(tally: &mut Tally, seed: u64) {
     }
     for fault in listing_faults() {
         let found = first_listing_difference(fault.call, seed);
+        reported(tally, fault.name, found);
+    }
+    for fault in order_faults() {
+        let found = first_order_difference(&fault.calls, seed);
         reported(tally, fault.name, found);
     }
     for fault in faulty_programs() {

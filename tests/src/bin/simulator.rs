@@ -2,7 +2,8 @@
 
 use mover_tests::checks::tally::Tally;
 use mover_tests::checks::{
-    call_lists, drop_cases, hand_cases, hex_cases, listing_cases, pair_cases, papers, pin_cases,
+    call_lists, drop_cases, hand_cases, hex_cases, listing_cases, order_cases, pair_cases, papers,
+    pin_cases,
 };
 use mover_tests::checks::{
     read_counts, rebuild_cases, recovery_lines, refusing, small_moves, step_inputs, torn,
@@ -25,6 +26,7 @@ fn main() -> ExitCode {
     step_inputs::check(&mut tally);
     hex_cases::check(&mut tally);
     listing_cases::check(&mut tally, &mut random);
+    order_cases::check(&mut tally, &mut random);
     pin_cases::check(&mut tally, &mut random);
     read_counts::check(&mut tally, &mut random);
     rebuild_cases::check(&mut tally, &mut random);

@@ -5,6 +5,7 @@ pub mod drop_cases;
 pub mod hand_cases;
 pub mod hex_cases;
 pub mod listing_cases;
+pub mod order_cases;
 pub mod pair_cases;
 pub mod papers;
 pub mod pin_cases;

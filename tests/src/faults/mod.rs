@@ -8,6 +8,7 @@ pub mod listing;
 pub mod lists;
 mod manners;
 pub mod operations;
+pub mod orders;
 mod pairing;
 pub mod pinning;
 pub mod programs;

@@ -134,6 +134,26 @@ calls! {
         line: *mut u32,
         accepted: *mut u32,
     );
+    LeastCall, mover_least_y(
+        n: u32,
+        m: u32,
+        list: *const u8,
+        list_len: u64,
+        order: *const u8,
+        order_len: u64,
+        y: *mut u32,
+        page: *mut u32,
+    );
+    BestCall, mover_best_order(
+        n: u32,
+        m: u32,
+        list: *const u8,
+        list_len: u64,
+        order: *mut u8,
+        order_len: u64,
+        y: *mut u32,
+        page: *mut u32,
+    );
     HexReadCall, mover_hex_read(
         n: u32,
         m: u32,
@@ -167,6 +187,13 @@ pub struct Calls {
     pub read: ReadCall,
     pub refresh: RefreshCall,
     pub rebuild: RebuildCall,
+}
+
+/// The calls about block orders.
+#[derive(Clone, Copy)]
+pub struct OrderCalls {
+    pub least: LeastCall,
+    pub best: BestCall,
 }
 
 /// The calls that read and write Intel HEX.

@@ -10,6 +10,7 @@ pub mod interface;
 pub mod lent;
 pub mod listing;
 pub mod operations;
+pub mod orders;
 mod player;
 pub mod programs;
 mod record;

@@ -6,6 +6,7 @@ pub mod dropping;
 pub mod flash;
 pub mod hex;
 pub mod listing;
+pub mod orders;
 pub mod permutation;
 pub mod reading;
 pub mod rebuilding;

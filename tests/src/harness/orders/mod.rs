@@ -1,0 +1,5 @@
+//! Drives the calls about block orders, and compares them with the simulator.
+
+pub mod compare;
+mod drive;
+mod families;
