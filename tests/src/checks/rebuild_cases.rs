@@ -116,9 +116,9 @@ fn every_slot(n: u32, m: u32, list: Vec<u16>, random: &mut Random) -> Outcome {
     Ok(())
 }
 
-/// Each original is lost exactly if two stores at rest that differ in it lead to
-/// the same pages; a rebuilt one is the original, and the other sum is the only
-/// one there is.
+/// An original is lost if, and only if, the same pages come from some pair of
+/// stores at rest that differ in it; a rebuilt one is right, and the other sum is
+/// the only one there is.
 fn right(scene: &Scene, moment: &Flash, place: usize, slot: usize) -> Outcome {
     let shape = &scene.sizes;
     let given = answer(&scene.rebuild_request(slot));
