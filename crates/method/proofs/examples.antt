@@ -4,5 +4,6 @@ pub mod Largest
 pub mod Cases
 pub mod DropCases
 pub mod WearCases
+pub mod RebuildCases
 pub mod Example
 pub mod TwoPages

@@ -9,6 +9,7 @@ pub mod Cut
 pub mod Mend
 pub mod Worn
 pub mod Answers
+pub mod Rebuild
 pub mod Runs
 pub mod Counts
 pub mod Events
@@ -19,6 +20,7 @@ pub mod NoDrops
 pub mod Cases
 pub mod DropCases
 pub mod WearCases
+pub mod RebuildCases
 pub mod HighestCounter
 pub mod Example
 pub mod TwoPages

@@ -2,6 +2,7 @@
 use Rattle.method.proofs.examples.Cases.{cases-hold}
 use Rattle.method.proofs.examples.DropCases.{drop-cases-hold}
 use Rattle.method.proofs.examples.WearCases.{wear-cases-hold}
+use Rattle.method.proofs.examples.RebuildCases.{rebuild-cases-hold}
 use Rattle.method.proofs.places.StepsCounted.{steps-counted}
 use Rattle.method.proofs.places.PlacesDiffer.{places-differ}
 use Rattle.method.proofs.places.ErasesCounted.{erases-counted}
@@ -24,7 +25,7 @@ use Rattle.method.proofs.claims.Statement.{statement}
 use Rattle.method.proofs.claims.Tie as tie
 
 returns : tie.Need-returns
-returns c = record { cases = cases-hold; drop-cases = drop-cases-hold; wear-cases = wear-cases-hold; runs = runs-add-up; states = states-reached; counts = runs-count; steps = steps-counted; places = places-differ; erases = erases-counted; pages = pages-rise; tops = top-is-highest; walks = walks-end; old-cuts = old-cuts; one-unfinished = one-unfinished; lines = lines-agree; erases-next = erases-next; first = first-by-all; demand-3 = demand-3; wear = wear-counts; highest = highest-kept; pins = pins-stay; no-drops = no-drops; bounds = bounds-met; example = example-holds; two-pages = two-pages-hold }
+returns c = record { cases = cases-hold; drop-cases = drop-cases-hold; wear-cases = wear-cases-hold; rebuild-cases = rebuild-cases-hold; runs = runs-add-up; states = states-reached; counts = runs-count; steps = steps-counted; places = places-differ; erases = erases-counted; pages = pages-rise; tops = top-is-highest; walks = walks-end; old-cuts = old-cuts; one-unfinished = one-unfinished; lines = lines-agree; erases-next = erases-next; first = first-by-all; demand-3 = demand-3; wear = wear-counts; highest = highest-kept; pins = pins-stay; no-drops = no-drops; bounds = bounds-met; example = example-holds; two-pages = two-pages-hold }
 
 pub claims-spec : {M : Type 1} → statement M
 claims-spec = tie.close (tie.spec returns)
