@@ -7,5 +7,6 @@ pub mod wear
 pub mod states
 pub mod recovery
 pub mod demand
+pub mod rebuild
 pub mod examples
 pub mod refusals

@@ -14,6 +14,7 @@ pub mod Runs
 pub mod Counts
 pub mod Events
 pub mod Demand3
+pub mod Unreadable
 pub mod WearCounts
 pub mod PinsStay
 pub mod NoDrops

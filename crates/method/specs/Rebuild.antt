@@ -27,6 +27,11 @@ use Rattle.method.specs.Answers.{badChip, fitsNone}
 unfoldable pub apart : (one other : List ℕ) → List ℕ
 apart one other = filter (λ t. not (any (eqb t) other)) one ++ filter (λ t. not (any (eqb t) one)) other
 
+-- the slots of several sums together
+unfoldable pub added : (sums : List (List ℕ)) → List ℕ
+added [] = []
+added (slots ∷ sums) = apart slots (added sums)
+
 module _ (M : Move) where
   open Sizes (M .sizes) using (m)
 
@@ -35,20 +40,19 @@ module _ (M : Move) where
   setPage forward block set = set
   setPage backward block set = pageOf m (getD (M .list) (D M set (pred M set block)) 0)
 
-  -- Rule 14.3. At a place where a block is filled and its successor not yet erased: the page of a set in that block is the sum of the pages that were
-  -- read to write it, by the marks with which the block was begun. All of these are still there, so that together they sum to zeros.
-  unfoldable pub zeroSlots : (place set : ℕ) → List ℕ
-  zeroSlots place set =
-      let pass = passAt (M .sizes) place in
-      let block = filling (M .sizes) place in
+  -- Rule 14.3. The page of a set in a block that was just filled is the sum of the pages that were read to write it, by the marks with which the block
+  -- was begun. Until the next erase all of these are there, so that together they sum to zeros.
+  unfoldable pub zeroSlots : (begun : List ℕ) → Pass → (block set : ℕ) → List ℕ
+  zeroSlots begun pass block set =
       let page = setPage pass block set in
-      concatMap (readSlots M (marksOf (M .sizes) (place - m))) (originalsOf M pass block page) ++ (slot m block page ∷ [])
+      added ((slot m block page ∷ []) ∷ map (readSlots M begun) (originalsOf M pass block page))
 
   -- Rules 14.2 to 14.4: the slots whose pages original k is rebuilt from without slot `bad`, or none where it is lost.
   unfoldable pub rebuiltFrom : (marks : List ℕ) → Reading → (bad k : ℕ) → Option (List ℕ)
   rebuiltFrom marks found bad k =
       let own = readSlots M marks k in
-      let zero = zeroSlots (found .place) (setOf (M .sets) k) in
+      let place = found .place in
+      let zero = zeroSlots (marksOf (M .sizes) (place - m)) (passAt (M .sizes) place) (filling (M .sizes) place) (setOf (M .sets) k) in
       let other : Option (List ℕ) = cond (any (eqb bad) zero) (some (apart own zero)) none in
       cond (any (eqb bad) own) (elim (found .toErase) [ none ↦ other | some block ↦ none ]) (some own)
 

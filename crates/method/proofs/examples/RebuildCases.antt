@@ -1,11 +1,11 @@
 -- The worked cases with a page that the chip has given up hold: each by computing the definitions.
 use Rattle.flash.proofs.Kit.{refl, ℕ}
-use Rattle.method.specs.Rebuild.{apart, setPage, zeroSlots, rebuiltFrom, rebuiltPage, rebuiltFlag, badAreas, rebuildRows, rebuilt, rebuildAnswer}
+use Rattle.method.specs.Rebuild.{apart, added, setPage, zeroSlots, rebuiltFrom, rebuiltPage, rebuiltFlag, badAreas, rebuildRows, rebuilt, rebuildAnswer}
 use Rattle.method.specs.RebuildCases.{RebuildCasesHold}
 use Rattle.method.proofs.basics.Open.{all-open}
 
 pub rebuild-cases-hold : (byte : ℕ) → RebuildCasesHold byte
-unfolding all-open apart setPage zeroSlots rebuiltFrom rebuiltPage rebuiltFlag badAreas rebuildRows rebuilt rebuildAnswer
+unfolding all-open apart added setPage zeroSlots rebuiltFrom rebuiltPage rebuiltFlag badAreas rebuildRows rebuilt rebuildAnswer
 rebuild-cases-hold byte = record {
   other-sum = refl;
   sum-of-three = refl;
