@@ -10,3 +10,7 @@ pub mod CodedSteps
 pub mod SameShape
 pub mod Units
 pub mod States
+pub mod FullReads
+pub mod Lost
+pub mod LastPages
+pub mod LostStores

@@ -28,7 +28,7 @@ use Rattle.method.specs.Rebuild.{rebuildRows}
 use Rattle.method.specs.Runs.{RunsAddUp, StatesReached}
 use Rattle.method.specs.Counts.{RunsCount}
 use Rattle.method.specs.Demand3.{Demand3}
-use Rattle.method.specs.Unreadable.{TornLosesNothing, RebuiltRight}
+use Rattle.method.specs.Unreadable.{TornLosesNothing, RebuiltRight, LostExactly}
 use Rattle.method.specs.WearCounts.{WearCounts}
 use Rattle.method.specs.HighestCounter.{HighestCounter}
 use Rattle.method.specs.PinsStay.{PinsStay}
@@ -169,6 +169,7 @@ pub record Claims : Type 0 where
   pub demand-3 : Demand3
   pub torn-loses-nothing : TornLosesNothing
   pub rebuilt-right : RebuiltRight
+  pub lost-exactly : LostExactly
   pub wear : WearCounts
   pub highest : HighestCounter
   pub pins : PinsStay

@@ -49,3 +49,24 @@ RebuiltRight =
     (R : Request) (chip₀ : Chip) → Start R chip₀ → (events : List Event) → AllAllowed R events (starting chip₀)
     → AtEach (λ h. (area flags : List ℕ) (bad : ℕ) → rebuildAnswer R (h .chip) area flags bad .number ≡ 0
     → (k : ℕ) → k < originalCount (R .sizes) → Rebuilds R chip₀ (h .chip) area flags bad k) (moments events (starting chip₀))
+
+-- ---- which originals are lost
+-- Two stores at rest that differ in original k lead, at a place, to the same pages of the blocks that these marks show full, slot `bad` left out.
+pub record Unseen (R : Request) (marks : List ℕ) (place bad k : ℕ) : Type 0 where
+  pub one : Chip
+  pub other : Chip
+  pub one-starts : Start R one
+  pub other-starts : Start R other
+  pub differ : pageAt (R .sizes .p) one (slotOf (R .sizes .m) k) ≢ pageAt (R .sizes .p) other (slotOf (R .sizes .m) k)
+  pub same : (t : ℕ) → t < slotCount (R .sizes) → t ≢ bad → isUnfinished (R .sizes .m) marks (t / R .sizes .m) ≡ false
+      → pageAt (R .sizes .p) (stateOf (plan R) (originalsIn (R .sizes) one) place) t
+      ≡ pageAt (R .sizes .p) (stateOf (plan R) (originalsIn (R .sizes) other) place) t
+
+-- exactly these are lost, at the place that mend gives for the marks
+pub record LostExactly : Type 0 where
+  pub unseen : (R : Request) (chip : Chip) (area flags : List ℕ) (bad : ℕ) → rebuildAnswer R chip area flags bad .number ≡ 0 → (wear : Wear)
+      → (k : ℕ) → k < originalCount (R .sizes) → flagOf (rebuildAnswer R chip area flags bad) k ≡ 0
+      → Unseen R (chip .marks) (mendAnswer (R .sizes) chip wear .place) bad k
+  pub lost : (R : Request) (chip : Chip) (area flags : List ℕ) (bad : ℕ) → rebuildAnswer R chip area flags bad .number ≡ 0 → (wear : Wear)
+      → (k : ℕ) → k < originalCount (R .sizes) → Unseen R (chip .marks) (mendAnswer (R .sizes) chip wear .place) bad k
+      → flagOf (rebuildAnswer R chip area flags bad) k ≡ 0

@@ -17,6 +17,7 @@ use Rattle.method.proofs.states.Undropped.{no-drops}
 use Rattle.method.proofs.states.RunsCount.{runs-count}
 use Rattle.method.proofs.demand.EveryEvent.{demand-3}
 use Rattle.method.proofs.rebuild.Right.{torn-loses-nothing, rebuilt-right}
+use Rattle.method.proofs.rebuild.LostStores.{lost-exactly}
 use Rattle.method.proofs.wear.WearCounts.{wear-counts}
 use Rattle.method.proofs.wear.HighestKept.{highest-kept}
 use Rattle.method.proofs.demand.PinsKept.{pins-stay}
@@ -26,7 +27,7 @@ use Rattle.method.proofs.claims.Statement.{statement}
 use Rattle.method.proofs.claims.Tie as tie
 
 returns : tie.Need-returns
-returns c = record { cases = cases-hold; drop-cases = drop-cases-hold; wear-cases = wear-cases-hold; rebuild-cases = rebuild-cases-hold; runs = runs-add-up; states = states-reached; counts = runs-count; steps = steps-counted; places = places-differ; erases = erases-counted; pages = pages-rise; tops = top-is-highest; walks = walks-end; old-cuts = old-cuts; one-unfinished = one-unfinished; lines = lines-agree; erases-next = erases-next; first = first-by-all; demand-3 = demand-3; torn-loses-nothing = torn-loses-nothing; rebuilt-right = rebuilt-right; wear = wear-counts; highest = highest-kept; pins = pins-stay; no-drops = no-drops; bounds = bounds-met; example = example-holds; two-pages = two-pages-hold }
+returns c = record { cases = cases-hold; drop-cases = drop-cases-hold; wear-cases = wear-cases-hold; rebuild-cases = rebuild-cases-hold; runs = runs-add-up; states = states-reached; counts = runs-count; steps = steps-counted; places = places-differ; erases = erases-counted; pages = pages-rise; tops = top-is-highest; walks = walks-end; old-cuts = old-cuts; one-unfinished = one-unfinished; lines = lines-agree; erases-next = erases-next; first = first-by-all; demand-3 = demand-3; torn-loses-nothing = torn-loses-nothing; rebuilt-right = rebuilt-right; lost-exactly = lost-exactly; wear = wear-counts; highest = highest-kept; pins = pins-stay; no-drops = no-drops; bounds = bounds-met; example = example-holds; two-pages = two-pages-hold }
 
 pub claims-spec : {M : Type 1} → statement M
 claims-spec = tie.close (tie.spec returns)

@@ -1,5 +1,5 @@
 -- Marks with no block unfinished: the block that was filled last, and the marks with which it was begun.
-use Rattle.flash.proofs.Kit.{_≡_, sym, ap, _∙_, subst, Option, none, some, List, ℕ, suc, _+_, _-_, _*_, _/_, _%_, _≤_, _<_, mul-le-mul-right, add-zero, mod-lt, arith, getD, ⊎-elim}
+use Rattle.flash.proofs.Kit.{_≡_, sym, ap, _∙_, subst, Option, none, some, List, ℕ, suc, _+_, _-_, _*_, _/_, _%_, _≤_, _<_, mul-le-mul-right, suc-mul, add-zero, mod-lt, arith, getD, ⊎-elim}
 use Rattle.flash.specs.Tables.{Row}
 use Rattle.flash.specs.declared.sizes.Sizes.{Sizes}
 use Rattle.flash.specs.Geometry.{Bounds, slot, slotOf, slotCount, letter, originalCount}
@@ -16,7 +16,7 @@ use Rattle.method.proofs.basics.MoveShape.{Shows}
 use Rattle.method.proofs.cycles.SetCycles.{block-in, entry-in}
 use Rattle.method.proofs.places.StepsAtPlaces.{turnOf, Fills, Stands, stands-at, filling-in}
 use Rattle.method.proofs.places.PagesHeld.{edge, marksOf-at, held-blank}
-use Rattle.method.proofs.places.PlaceShape.{letterAbove, shape-filling}
+use Rattle.method.proofs.places.PlaceShape.{letterAbove, shape-filling, shape-full}
 use Rattle.method.proofs.recovery.LinesAgree.{Fit, torn-forth, torn-back, full-forth, full-back}
 use Rattle.method.proofs.recovery.FittingMarks.{torn-shape, filled-shape, read-row}
 
@@ -33,6 +33,7 @@ module _ (Z : Sizes) where
     pub pass : Pass
     pub block : ℕ
     pub stands : Stands Z place pass block m
+    pub in-move : place ≤ lastPlace Z
     pub low : 1 ≤ edge pass block
     pub high : edge pass block ≤ n
     pub full : Shape Z marks (edge pass block) (edge pass block) (letterAbove pass)
@@ -46,7 +47,11 @@ module _ (Z : Sizes) where
   turn-low forward block h = omega arith
   turn-low backward block h = omega arith
 
-  begins : 1 ≤ m → (pass : Pass) (block : ℕ) → edge pass block ≤ n → Begun (turnOf Z pass block * (m + 1) + 0) pass block
+  turn-high : (pass : Pass) (block : ℕ) → 1 ≤ edge pass block → edge pass block ≤ n → suc (turnOf Z pass block) ≤ 2 * n
+  turn-high forward block l h = omega arith
+  turn-high backward block l h = omega arith
+
+  pub begins : 1 ≤ m → (pass : Pass) (block : ℕ) → edge pass block ≤ n → Begun (turnOf Z pass block * (m + 1) + 0) pass block
   unfolding lastPlace heldMark
   begins pages pass block h =
       let start : ℕ = turnOf Z pass block * (m + 1) + 0 in
@@ -64,13 +69,17 @@ module _ (Z : Sizes) where
 
   pub filled-at : 1 ≤ m → (marks : List ℕ) (pass : Pass) (block : ℕ) → 1 ≤ edge pass block → edge pass block ≤ n
       → Shape Z marks (edge pass block) (edge pass block) (letterAbove pass) → JustFilled marks (turnOf Z pass block * (m + 1) + m)
+  unfolding lastPlace
   filled-at pages marks pass block l h S =
       let t : ℕ = turnOf Z pass block * (m + 1) in
+      let far : suc (turnOf Z pass block) * (m + 1) ≤ 2 * n * (m + 1) = mul-le-mul-right (m + 1) (turn-high pass block l h) in
+      let on : suc (turnOf Z pass block) * (m + 1) ≡ t + (m + 1) = suc-mul (turnOf Z pass block) (m + 1) in
       let back : t + 0 ≡ t + m - m = omega arith in
       record {
         pass = pass;
         block = block;
         stands = stands-at Z pass block m (fills pass block h) (omega arith);
+        in-move = omega (arith, far, on);
         low = l;
         high = h;
         full = S;
@@ -108,16 +117,22 @@ module _ (Z : Sizes) (B : Bounds Z) (marks : List ℕ) (found : Reading) (e : re
     pub pass : Pass
     pub shape : Shape Z marks block (suc block) (letterAbove pass)
     pub begun : Begun Z (found .place) pass block
+    pub in-move : found .place ≤ lastPlace Z
 
   pub block-torn : (block : ℕ) → found .toErase ≡ some block → BlockTorn block
-  unfolding forwardTorn backwardTorn forwardFull backwardFull
+  unfolding forwardTorn backwardTorn forwardFull backwardFull lastPlace
   block-torn block torn = (let r = read-row Z (B .m-low) marks found e in go (r .0) (r .1) (r .2))
     where
       tell : (pass : Pass) (b : ℕ) → b ≡ block → edge pass b ≤ n → Shape Z marks b (suc b) (letterAbove pass) → turnOf Z pass b * (m + 1) ≡ found .place → BlockTorn block
       tell pass b is h S at =
           let start : turnOf Z pass b * (m + 1) + 0 ≡ found .place = add-zero (turnOf Z pass b * (m + 1)) ∙ at in
           subst BlockTorn is
-          (record { pass = pass; shape = S; begun = subst (λ (p : ℕ). Begun Z p pass b) start (begins Z (B .m-low) pass b h) })
+          (record {
+            pass = pass;
+            shape = S;
+            begun = subst (λ (p : ℕ). Begun Z p pass b) start (begins Z (B .m-low) pass b h);
+            in-move = rw (← at) (mul-le-mul-right (m + 1) (turn-low Z pass b h));
+          })
 
       -- where block n is torn, both passes tell the same
       last : (b : ℕ) → n ≤ b → Shape Z marks b (suc b) 0 → Shape Z marks b (suc b) 2
@@ -190,3 +205,18 @@ module _ (M : Move) (A : AcceptedMove M) (marks : List ℕ) (place : ℕ) (J : J
     code = λ set v s l u e. H .code set v s l u (stays (slot m (v - 1) set) (slot-in-marks Z (v - 1) set (omega arith) s) 1 e);
     final = λ k h e. H .final k h (stays (slotOf m (getD (M .list) k 0)) (page-slot (getD (M .list) k 0) (entry-in M A k h)) 2 e);
   }
+
+-- the marks of the place itself are such marks
+abbrev pub filled-there : (Z : Sizes) (marks : List ℕ) (place : ℕ) → JustFilled Z marks place → JustFilled Z (marksOf Z place) place
+filled-there Z marks place J = record {
+  pass = J .pass;
+  block = J .block;
+  stands = J .stands;
+  in-move = J .in-move;
+  low = J .low;
+  high = J .high;
+  full = subst (λ (p : Pass). Shape Z (marksOf Z place) (edge p (J .block)) (edge p (J .block)) (letterAbove p)) (J .stands .pass-is)
+      (subst (λ (b : ℕ). Shape Z (marksOf Z place) (edge (passAt Z place) b) (edge (passAt Z place) b) (letterAbove (passAt Z place))) (J .stands .block-is)
+      (shape-full Z place (J .in-move) (marksOf Z place) (marksOf-at Z place) (J .stands .pages-is)));
+  begun = J .begun;
+}

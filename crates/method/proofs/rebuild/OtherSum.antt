@@ -61,16 +61,21 @@ module _ (M : Move) (A : AcceptedMove M) (marks : List ℕ) (place : ℕ) (J : J
   Z = M .sizes
 
   -- the slots of a zero sum are slots of the store
-  pub zero-inside : (set : ℕ) (set-ok : set < m) → EachHas (λ t. t < slotCount Z) (zero M A marks place J set set-ok)
-  zero-inside set set-ok =
-      let T = L M A marks place J set set-ok in
-      let block-in : J .block ≤ n = J .begun .shape .inside in
-      subst (EachHas (λ t. t < slotCount Z)) (sym (zero-is M A marks place J set set-ok))
-      (each-apart (λ t. t < slotCount Z) (lastSlot M A marks place J set set-ok ∷ []) (rest M A marks place J set set-ok)
-      (each-has (λ t. t < slotCount Z) (lastSlot M A marks place J set set-ok ∷ [])
-      (each-one (λ t. t < slotCount Z) (lastSlot M A marks place J set set-ok) (slot-in-marks Z (J .block) (setPage M (J .pass) (J .block) set) block-in (T .page-in))))
-      (each-added (λ t. t < slotCount Z) (readSlots M (marksBegun M A marks place J)) (lastOriginals M A marks place J set set-ok)
-      (λ j h. each-has (λ t. t < slotCount Z) _ (λ i l. reads-begun M A marks place J set set-ok _ (T .known j h) .sited i l .inside))))
+  module _ (set : ℕ) (set-ok : set < m) where
+    pub rest-inside : EachHas (λ t. t < slotCount Z) (rest M A marks place J set set-ok)
+    rest-inside =
+        each-added (λ t. t < slotCount Z) (readSlots M (marksBegun M A marks place J)) (lastOriginals M A marks place J set set-ok)
+        (λ j h. each-has (λ t. t < slotCount Z) _ (λ i l. reads-begun M A marks place J set set-ok _ (L M A marks place J set set-ok .known j h) .sited i l .inside))
+
+    pub zero-inside : EachHas (λ t. t < slotCount Z) (zero M A marks place J set set-ok)
+    zero-inside =
+        let block-in : J .block ≤ n = J .begun .shape .inside in
+        subst (EachHas (λ t. t < slotCount Z)) (sym (zero-is M A marks place J set set-ok))
+        (each-apart (λ t. t < slotCount Z) (lastSlot M A marks place J set set-ok ∷ []) (rest M A marks place J set set-ok)
+        (each-has (λ t. t < slotCount Z) (lastSlot M A marks place J set set-ok ∷ [])
+        (each-one (λ t. t < slotCount Z) (lastSlot M A marks place J set set-ok)
+        (slot-in-marks Z (J .block) (setPage M (J .pass) (J .block) set) block-in (L M A marks place J set set-ok .page-in))))
+        rest-inside)
 
   module _ (k : ℕ) (k-in : k < originalCount Z) where
     abbrev pub own : List ℕ

@@ -35,7 +35,7 @@ pub bit-length : (P : ℕ) (b : Bool) → length (bitPage P b) ≡ P
 unfolding bitPage
 bit-length P b = length-replicate P _
 
-bit-add : (P : ℕ) (a b : Bool) → bitPage P a ⊕ bitPage P b ≡ bitPage P (either a b)
+pub bit-add : (P : ℕ) (a b : Bool) → bitPage P a ⊕ bitPage P b ≡ bitPage P (either a b)
 unfolding bitPage either
 bit-add P true true = ⊕-self P 1
 bit-add P true false = ⊕-comm (replicate P 1) (replicate P 0) ∙ ⊕-zeros P (replicate P 1) (omega (arith, length-replicate {A = ℕ} P 1))

@@ -22,7 +22,7 @@ use Rattle.method.proofs.cycles.Orbits.{DataBlock}
 use Rattle.method.proofs.cycles.SetCycles.{entry-in, D-page, pred-in, dest-pred, sent-entry}
 use Rattle.method.proofs.places.PagesHeld.{edge}
 use Rattle.method.proofs.places.PlaceShape.{letterAbove, which-pass}
-use Rattle.method.proofs.states.PagesWritten.{Originals, originals-one, coded-in}
+use Rattle.method.proofs.states.PagesWritten.{Originals, originals-one, coded-in, coded-some}
 use Rattle.method.proofs.walks.StoredPages.{Reads}
 use Rattle.method.proofs.walks.ReadsOriginals.{reads}
 use Rattle.method.proofs.rebuild.Lists.{mix, sum-byte, apart-distinct, mix-apart, AddedUp, added-up}
@@ -38,6 +38,7 @@ module _ (M : Move) (A : AcceptedMove M) (set : ℕ) (set-ok : set < M .sizes .m
   pub record LastPage (pass : Pass) (block : ℕ) : Type 0 where
     pub page-in : setPage M pass block set < m
     pub known : Originals M (originalsOf M pass block (setPage M pass block set))
+    pub some : 0 < length (originalsOf M pass block (setPage M pass block set))
     pub holds : (marks : List ℕ) (value page : ℕ → List ℕ) → Shows M marks value page → Shape Z marks (edge pass block) (edge pass block) (letterAbove pass)
         → page (slot m block (setPage M pass block set)) ≡ sum value (originalsOf M pass block (setPage M pass block set))
 
@@ -49,6 +50,7 @@ module _ (M : Move) (A : AcceptedMove M) (set : ℕ) (set-ok : set < M .sizes .m
       record {
         page-in = set-ok;
         known = coded-in M A set (block + 1) set-ok up-in;
+        some = coded-some M A set (block + 1);
         holds = λ marks value page H S.
             ap (λ (b : ℕ). page (slot m b set)) (sym down)
             ∙ H .code set (block + 1) set-ok (omega arith) (omega arith)
@@ -69,6 +71,7 @@ module _ (M : Move) (A : AcceptedMove M) (set : ℕ) (set-ok : set < M .sizes .m
       let sent : sentTo M (numberAt m block (pageOf m to)) ≡ k = ap (sentTo M) home ∙ sent-entry M A k k-in in
       record {
         page-in = page-lt;
+        some = omega arith;
         known = originals-one M _ (subst (λ (x : ℕ). x < originalCount Z) (sym sent) k-in);
         holds = λ marks value page H S.
             let here : slotOf m to ≡ slot m block (pageOf m to) = ap (λ (b : ℕ). slot m b (pageOf m to)) goes in
