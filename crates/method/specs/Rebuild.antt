@@ -40,8 +40,8 @@ module _ (M : Move) where
   setPage forward block set = set
   setPage backward block set = pageOf m (getD (M .list) (D M set (pred M set block)) 0)
 
-  -- Rule 14.3. The page of a set in a block that was just filled is the sum of the pages that were read to write it, by the marks with which the block
-  -- was begun. Until the next erase all of these are there, so that together they sum to zeros.
+  -- Rule 14.3. The page of a set in a block that was just filled is the sum of the pages that were read to write it, by the marks with which the
+  -- block was begun. Until the next erase all of these are there, so that together they sum to zeros.
   unfoldable pub zeroSlots : (begun : List ℕ) → Pass → (block set : ℕ) → List ℕ
   zeroSlots begun pass block set =
       let page = setPage pass block set in

@@ -42,7 +42,8 @@ pub record Rebuilds (R : Request) (chip₀ chip : Chip) (area flags : List ℕ) 
   pub right : flagOf (rebuildAnswer R chip area flags bad) k ≡ 1
       → part (R .sizes .p) k (rebuildAnswer R chip area flags bad .area) ≡ pageAt (R .sizes .p) chip₀ (slotOf (R .sizes .m) k)
   pub lost : flagOf (rebuildAnswer R chip area flags bad) k ≢ 1
-      → (flagOf (rebuildAnswer R chip area flags bad) k ≡ 0) × (part (R .sizes .p) k (rebuildAnswer R chip area flags bad .area) ≡ fillerPage (R .sizes .p))
+      → (flagOf (rebuildAnswer R chip area flags bad) k ≡ 0)
+      × (part (R .sizes .p) k (rebuildAnswer R chip area flags bad .area) ≡ fillerPage (R .sizes .p))
 
 unfoldable pub RebuiltRight : Type 0
 RebuiltRight =

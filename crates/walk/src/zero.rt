@@ -97,7 +97,8 @@ pub fn forward_zero(
 ) -> usize
     requires { ⌜ AcceptedMove (moveOf sizes (now list) (now sets)) × (set < sizes .m) × (1 ≤ i) × (i ≤ sizes .n)
         × (length (now zero) ≡ zeroLength) ⌝ }
-    ensures { λ r. ⌜ (r ≤ zeroLength) × ((begun : List ℕ) → Tells (moveOf sizes (now (list .entry)) (now (sets .entry))) begun (momentIn false (sizes .n) (i - 1) i)
+    ensures { λ r. ⌜ (r ≤ zeroLength) × ((begun : List ℕ)
+        → Tells (moveOf sizes (now (list .entry)) (now (sets .entry))) begun (momentIn false (sizes .n) (i - 1) i)
         → take r (now (zero .exit)) ≡ zeroSlots (moveOf sizes (now (list .entry)) (now (sets .entry))) begun forward (i - 1) set) ⌝ }
 {
     let mut pages = [0u8; ROW];
@@ -122,7 +123,8 @@ pub fn backward_zero(
 ) -> usize
     requires { ⌜ AcceptedMove (moveOf sizes (now list) (now sets)) × (set < sizes .m) × (1 ≤ b) × (b ≤ sizes .n)
         × (length (now zero) ≡ zeroLength) ⌝ }
-    ensures { λ r. ⌜ (r ≤ zeroLength) × ((begun : List ℕ) → Tells (moveOf sizes (now (list .entry)) (now (sets .entry))) begun (momentIn true (sizes .n) b (b + 1))
+    ensures { λ r. ⌜ (r ≤ zeroLength) × ((begun : List ℕ)
+        → Tells (moveOf sizes (now (list .entry)) (now (sets .entry))) begun (momentIn true (sizes .n) b (b + 1))
         → take r (now (zero .exit)) ≡ zeroSlots (moveOf sizes (now (list .entry)) (now (sets .entry))) begun backward b set) ⌝ }
 {
     let mut pages = [0u8; ROW];
