@@ -132,7 +132,17 @@ pub fn backward_zero(
     set_rows(sizes, list, sets, set, &mut pages, &mut sources);
     let mut slots = [0usize; SLOTS];
     let moment = moment_in(true, sizes.n, b, b + 1);
-    let count = source_slots(sizes, list, sets, set, &pages, &sources, moment, b, &mut slots);
+    let count = source_slots(
+        sizes,
+        list,
+        sets,
+        set,
+        &pages,
+        &sources,
+        moment,
+        b,
+        &mut slots,
+    );
     let u = wide(sources[b - 1]) - 1;
     let to = entry(list[u * sizes.m + wide(pages[u])]) + sizes.m;
     with_slot(to, &slots, count, zero)

@@ -118,11 +118,13 @@ module _ (M : Move) (A : AcceptedMove M) (marks : List ℕ) (low : ℕ) (pass : 
       code-unit b q h k =
           let inside = S .inside in
           let v-in : DataBlock n (b + 1) = record { low = omega arith; high = omega arith } in
-          let down : b + 1 - 1 ≡ b = omega arith in
-          (q, ap (λ (x : ℕ). page (slot m x q)) (sym down)
-          ∙ H .code q (b + 1) k (omega arith) (omega arith) (ap (λ (x : ℕ). markAt marks (slot m x q)) down ∙ full-at m marks b (letter (M .sizes) 1) q (S .below b h) k)
-          ∙ coded-bit q k (b + 1) v-in (omega arith)
-          ∙ ap (λ (x : ℕ). bitPage P (test q && eqb u (slot m x q))) down)
+          let down : b + 1 - 1 ≡ b = omega arith in (
+            q,
+            ap (λ (x : ℕ). page (slot m x q)) (sym down)
+                ∙ H .code q (b + 1) k (omega arith) (omega arith) (ap (λ (x : ℕ). markAt marks (slot m x q)) down ∙ full-at m marks b (letter (M .sizes) 1) q (S .below b h) k)
+                ∙ coded-bit q k (b + 1) v-in (omega arith)
+                ∙ ap (λ (x : ℕ). bitPage P (test q && eqb u (slot m x q))) down,
+          )
 
       one-slot : (k t : ℕ) → k < originalCount (M .sizes) → readSlots M marks k ≡ t ∷ [] → value k ≡ bitPage P (test (setOf (M .sets) k) && eqb u t)
       unfolding any
@@ -135,9 +137,11 @@ module _ (M : Move) (A : AcceptedMove M) (marks : List ℕ) (low : ℕ) (pass : 
           let j-in = number-in M A b q (omega arith) l k in
           let at = slot-number m b q (omega arith) k in
           let full = rw none at (S .above b h l) in
-          let block : blockOf m j ≡ b = ap (λ (x : ℕ). x + 1) (slot-div m (b - 1) q k) ∙ omega arith in
-          (setOf (M .sets) j, ap page (sym at) ∙ H .plain j j-in (ap (markAt marks) at ∙ full-at m marks b (letter (M .sizes) 0) q full k)
-          ∙ one-slot j (slotOf m j) j-in (rw (block, full)) ∙ ap (λ (t : ℕ). bitPage P (test (setOf (M .sets) j) && eqb u t)) at)
+          let block : blockOf m j ≡ b = ap (λ (x : ℕ). x + 1) (slot-div m (b - 1) q k) ∙ omega arith in (
+            setOf (M .sets) j,
+            ap page (sym at) ∙ H .plain j j-in (ap (markAt marks) at ∙ full-at m marks b (letter (M .sizes) 0) q full k)
+                ∙ one-slot j (slotOf m j) j-in (rw (block, full)) ∙ ap (λ (t : ℕ). bitPage P (test (setOf (M .sets) j) && eqb u t)) at,
+          )
 
       final-unit : letterAbove pass ≡ 2 → (b q : ℕ) → suc low ≤ b → b ≤ n → q < m → UnitPage (slot m b q)
       unfolding readSlots finalSlot letter destBlock fullOf UnitPage
@@ -152,9 +156,11 @@ module _ (M : Move) (A : AcceptedMove M) (marks : List ℕ) (low : ℕ) (pass : 
           let up : b - 1 + 1 ≡ b = omega arith in
           let there : fullOf M marks 2 (dest M (setOf (M .sets) j) (blockOf m j)) ≡ true =
           ap (fullOf M marks 2) (dest-is M A j j-in ∙ ap (blockOf m) to ∙ ap (λ (x : ℕ). x + 1) (slot-div m (b - 1) q k) ∙ up) ∙ full in
-          let gone : fullOf M marks 0 (blockOf m j) ≡ false = not-full M A marks low (suc low) 2 (rw two at S) 0 (blockOf m j) (block-in M A j j-in .high) (λ x. omega arith) (λ x. omega arith) in
-          (setOf (M .sets) j, ap page (sym at) ∙ H .final j j-in (ap (markAt marks) at ∙ full-at m marks b (letter (M .sizes) 2) q full k)
-          ∙ one-slot j (slotOf m (getD (M .list) j 0)) j-in (rw (gone, there)) ∙ ap (λ (t : ℕ). bitPage P (test (setOf (M .sets) j) && eqb u t)) at)
+          let gone : fullOf M marks 0 (blockOf m j) ≡ false = not-full M A marks low (suc low) 2 (rw two at S) 0 (blockOf m j) (block-in M A j j-in .high) (λ x. omega arith) (λ x. omega arith) in (
+            setOf (M .sets) j,
+            ap page (sym at) ∙ H .final j j-in (ap (markAt marks) at ∙ full-at m marks b (letter (M .sizes) 2) q full k)
+                ∙ one-slot j (slotOf m (getD (M .list) j 0)) j-in (rw (gone, there)) ∙ ap (λ (t : ℕ). bitPage P (test (setOf (M .sets) j) && eqb u t)) at,
+          )
 
       pub unit-page : (b q : ℕ) → b ≤ n → q < m → b ≢ low → UnitPage (slot m b q)
       unit-page b q l k ne = ⊎-elim
