@@ -97,7 +97,7 @@ pub fn forward_zero(
 ) -> usize
     requires { ⌜ AcceptedMove (moveOf sizes (now list) (now sets)) × (set < sizes .m) × (1 ≤ i) × (i ≤ sizes .n)
         × (length (now zero) ≡ zeroLength) ⌝ }
-    ensures { λ r. ⌜ (r ≤ zeroLength) × ((begun : List ℕ)
+    ensures { λ r. ⌜ (r ≤ zeroLength) × (length (now (zero .exit)) ≡ zeroLength) × ((begun : List ℕ)
         → Tells (moveOf sizes (now (list .entry)) (now (sets .entry))) begun (momentIn false (sizes .n) (i - 1) i)
         → take r (now (zero .exit)) ≡ zeroSlots (moveOf sizes (now (list .entry)) (now (sets .entry))) begun forward (i - 1) set) ⌝ }
 {
@@ -123,7 +123,7 @@ pub fn backward_zero(
 ) -> usize
     requires { ⌜ AcceptedMove (moveOf sizes (now list) (now sets)) × (set < sizes .m) × (1 ≤ b) × (b ≤ sizes .n)
         × (length (now zero) ≡ zeroLength) ⌝ }
-    ensures { λ r. ⌜ (r ≤ zeroLength) × ((begun : List ℕ)
+    ensures { λ r. ⌜ (r ≤ zeroLength) × (length (now (zero .exit)) ≡ zeroLength) × ((begun : List ℕ)
         → Tells (moveOf sizes (now (list .entry)) (now (sets .entry))) begun (momentIn true (sizes .n) b (b + 1))
         → take r (now (zero .exit)) ≡ zeroSlots (moveOf sizes (now (list .entry)) (now (sets .entry))) begun backward b set) ⌝ }
 {

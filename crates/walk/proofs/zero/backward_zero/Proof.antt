@@ -122,6 +122,7 @@ returns c =
     let w = c .with-slot .ensures in
     let k = D (moves s) (s .args .set) (pred (moves s) (s .args .set) (s .args .b)) in (
       omega (arith, w .1, gathered g .0),
+      omega (arith, c .with-slot .kept .1 .1 .1 .0, s .pre .4),
       λ begun T.
           w .0 ∙ ap (λ (ts : List ℕ). apart ((entry .entry .result + s .args .sizes .m) ∷ []) ts) (g .source-slots .ensures begun (at-moment g begun T) .slots-are)
           ∙ ap (λ (x : ℕ). apart ((x + s .args .sizes .m) ∷ []) (readSlots (moves s) begun k)) (to-is entry)

@@ -78,6 +78,7 @@ returns c =
     let M = moves s in
     let set = s .args .set in (
       omega (arith, two .1, one .1, F .0 .0),
+      omega (arith, c .with-slot2 .kept .1 .1 .1 .0, s .pre .4),
       λ begun T.
           let rest = cond (isTop M set (s .args .i)) [] (readSlots M begun (D M set (pred M set (s .args .i)))) in
           two .0
