@@ -1,6 +1,7 @@
-// The mover: run and read, each proved equal to its definition in crate `method`.
+// The mover: run, read and rebuild, each proved equal to its definition in crate `method`.
 
 pub mod read;
+pub mod rebuild;
 mod refusals;
 pub mod run;
 mod step;
