@@ -2,6 +2,7 @@
 
 pub mod read;
 pub mod rebuild;
+mod rebuild_refusals;
 mod refusals;
 pub mod run;
 mod step;

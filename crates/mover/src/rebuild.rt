@@ -12,7 +12,7 @@ ghost use Rattle.method.specs.Mend.{Reading, seen};
 ghost use Rattle.method.specs.Rebuild.{rebuiltFrom, rebuiltPage, rebuiltFlag, areaLength, flagsLength, rebuildAnswer};
 ghost use Rattle.walk.specs.inner.Slots.{zeroLength};
 ghost use Rattle.mover.specs.inner.Rebuild.{zeroHere, Sees, Seen, Others};
-use crate::refusals::rebuild_refusal;
+use crate::rebuild_refusals::rebuild_refusal;
 use flash::bytes::fill;
 use flash::casts::wide;
 use flash::sizes::Sizes;

@@ -2,8 +2,8 @@
 use Rattle.flash.proofs.Kit.{_≡_, sym, _∙_, cond, _&&_, not, arith, eqb, needs}
 use Rattle.flash.proofs.Bounds.{product-le}
 use Rattle.mover.specs.inner.Refusals.{keptNumber}
-use Rattle.mover.proofs.refusals.kept_refusal.Statement.{statement}
-use Rattle.mover.proofs.refusals.kept_refusal.Tie as tie
+use Rattle.mover.proofs.rebuild_refusals.kept_refusal.Statement.{statement}
+use Rattle.mover.proofs.rebuild_refusals.kept_refusal.Tie as tie
 
 sets-refusal-requires : tie.Need-sets-refusal-requires
 sets-refusal-requires c κs =

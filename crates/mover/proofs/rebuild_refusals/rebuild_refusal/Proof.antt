@@ -9,8 +9,8 @@ use Rattle.split.proofs.Answers.{lengths-are}
 use Rattle.method.specs.Answers.{badChip}
 use Rattle.method.specs.Rebuild.{badAreas}
 use Rattle.mover.specs.inner.Refusals.{rebuildNumber}
-use Rattle.mover.proofs.refusals.rebuild_refusal.Statement.{statement}
-use Rattle.mover.proofs.refusals.rebuild_refusal.Tie as tie
+use Rattle.mover.proofs.rebuild_refusals.rebuild_refusal.Statement.{statement}
+use Rattle.mover.proofs.rebuild_refusals.rebuild_refusal.Tie as tie
 
 abbrev begin : tie.After-in-range → tie.Start
 begin c = c .before .before .before .before .before .before .before .before
