@@ -5,6 +5,7 @@ mod list;
 pub mod mend;
 pub mod operation;
 pub mod read;
+pub mod rebuild;
 pub mod refresh;
 pub mod run;
 mod sizes;
