@@ -196,13 +196,6 @@ pub struct OrderCalls {
     pub best: BestCall,
 }
 
-/// The calls about block orders.
-#[derive(Clone, Copy)]
-pub struct OrderCalls {
-    pub least: LeastCall,
-    pub best: BestCall,
-}
-
 /// The calls that read and write Intel HEX.
 #[derive(Clone, Copy)]
 pub struct HexCalls {
