@@ -11,11 +11,11 @@ static uint8_t torn_mark(uint64_t *random)
     return random_below(random, 2) == 0 ? 255 : (uint8_t)(3 + random_below(random, 252));
 }
 
-/* One fault, or none: a size, a length, an entry, a pin, a set, a mark, a byte, a counter, the limit; or all pinned, beside a fault that comes
+/* One fault, or none: a size, a length, an entry, a pin, a set, a mark, a byte, a counter, the limit, an area; or all pinned, beside a fault that comes
  * before or after. */
 static void spoil(struct scene *z, uint64_t *random)
 {
-    switch (random_below(random, 36)) {
+    switch (random_below(random, 38)) {
     case 0: z->n = random_below(random, 3) * 40; break;
     case 1: z->m = random_below(random, 3) * 40; break;
     case 2: z->page_bytes = random_below(random, 2) * 5000; break;
@@ -44,6 +44,8 @@ static void spoil(struct scene *z, uint64_t *random)
     case 25: mover_set_counter(z->wear, random_below(random, MOVER_COUNTERS), UINT32_MAX - random_below(random, 4)); break;
     case 26: z->wear_limit = random_below(random, 4); break;
     case 27: memset(z->wear, 255, z->wear_len); break;
+    case 28: z->area_len -= 1; break;
+    case 29: z->flags_len -= 1; break;
     default: break;
     }
 }
@@ -55,6 +57,7 @@ static struct answer any_call(const struct mover *mover, struct scene *z, uint32
     case 1: return call_run(mover, z, number, budget);
     case 2: return call_mend(mover, z);
     case 4: return call_refresh(mover, z);
+    case 5: return call_rebuild(mover, z, number);
     default: return call_read(mover, z, number);
     }
 }
@@ -120,13 +123,14 @@ static void wear_some(struct scene *z, uint64_t *random)
         z->wear_limit = most + random_below(random, 3);
 }
 
-/* Makes a move that stands somewhere. */
-static void make_standing(struct scene *z, const struct mover *mover, uint32_t place, uint32_t n, uint32_t m, uint64_t *random)
+/* Makes a move that stands somewhere, with a list that drops pages or surely does not. */
+static void make_standing(struct scene *z, const struct mover *mover, uint32_t place, uint32_t n, uint32_t m, int dropping, uint64_t *random)
 {
     scene_make(z, n, m, any_length(n * m, random), random_below(random, 8) == 0 ? CYCLE_UP : RANDOM, random);
     mix_erased(z, random);
     pin_some(z, random);
-    drop_some(z, random);
+    if (dropping)
+        drop_some(z, random);
     z->s = random_below(random, 3);
     memset(z->marks + m, (int)z->s, (size_t)n * m);
     call_split(mover, z);
@@ -142,19 +146,23 @@ static int agree_once(const struct mover *a, const struct mover *b, uint64_t *ra
     uint32_t big = random_below(random, 64) == 0;
     uint32_t n = 1 + random_below(random, big ? 64 : 6), m = big ? 64 - random_below(random, 3) : 1 + random_below(random, 5);
     uint32_t last = 2 * n * (m + 1);
-    uint32_t place = random_below(random, last + 1), call = random_below(random, 5), budget = random_below(random, last + 3);
-    uint32_t number = call == 3 ? random_below(random, n * m + 1) : random_below(random, 8) == 0 ? random_below(random, last + 3) : place;
+    uint32_t place = random_below(random, last + 1), call = random_below(random, 6), budget = random_below(random, last + 3);
+    uint32_t number = call == 3 ? random_below(random, n * m + 1) : call == 5 ? random_below(random, (n + 1) * m + 1) : random_below(random, 8) == 0 ? random_below(random, last + 3) : place;
     uint64_t same_fault;
     int same;
-    make_standing(&scene, a, place, n, m, random);
+    make_standing(&scene, a, place, n, m, call != 5 || random_below(random, 8) == 0, random);
     scene_copy(&first, &scene);
     scene_copy(&second, &scene);
+    scene_areas(&first);
+    scene_areas(&second);
     same_fault = *random;
     spoil(&first, random);
     spoil(&second, &same_fault);
     one = any_call(a, &first, call, number, budget);
     two = any_call(b, &second, call, number, budget);
     same = memcmp(&one, &two, sizeof one) == 0 && scene_same(&first, &second);
+    scene_free_areas(&first);
+    scene_free_areas(&second);
     scene_free(&scene);
     scene_free(&first);
     scene_free(&second);

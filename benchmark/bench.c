@@ -20,8 +20,8 @@ const double AIM = 1.1;
 static const double MEMCPY_AIM = 1.5, STACK_AIM_KIB = 20;
 
 const struct mover movers[BOTH] = {
-    {"library", mover_split, mover_run, mover_mend, mover_wear_refresh, mover_read, mover_hex_read, mover_hex_write},
-    {"plain C", plain_split, plain_run, plain_mend, plain_wear_refresh, plain_read, plain_hex_read, plain_hex_write},
+    {"library", mover_split, mover_run, mover_mend, mover_wear_refresh, mover_read, mover_rebuild, mover_hex_read, mover_hex_write},
+    {"plain C", plain_split, plain_run, plain_mend, plain_wear_refresh, plain_read, plain_rebuild, plain_hex_read, plain_hex_write},
 };
 
 uint64_t seed = 1;
@@ -228,7 +228,8 @@ static void one_call(void *data)
     case 1: call_run(c->mover, c->scene, 4160, 200); break;
     case 2: call_mend(c->mover, c->scene); break;
     case 3: call_read(c->mover, c->scene, 77); break;
-    case 4: call_hex_read(c->mover, c->scene); break;
+    case 4: call_rebuild(c->mover, c->scene, 77); break;
+    case 5: call_hex_read(c->mover, c->scene); break;
     default: call_hex_write(c->mover, c->scene); break;
     }
 }
@@ -246,16 +247,18 @@ static double stack_kib(const struct mover *mover, const struct scene *before, i
 
 static void print_stack(void)
 {
-    static const char *const names[] = {"split", "run", "mend", "read", "hex read, of records that do not rise", "hex write"};
+    static const char *const names[] = {"split", "run", "mend", "read", "rebuild", "hex read, of records that do not rise", "hex write"};
     static uint8_t text[4096];
-    struct scene standing, at_rest;
+    struct scene standing, kept, at_rest;
     make_standing(&standing, 64, 64, 4096, DROPPING, 4160);
     make_standing(&at_rest, 1, 1, 1024, RANDOM, 0);
+    make_standing(&kept, 64, 64, 16, CYCLE_UP, 65 * 31 + 64);
+    scene_areas(&kept);
     at_rest.text = text;
     at_rest.text_len = mover_hex_bytes(1, 1, 1024);
     hex_falling(&at_rest, text);
-    for (int call = 0; call < 6; call++) {
-        const struct scene *scene = call < 4 ? &standing : &at_rest;
+    for (int call = 0; call < 7; call++) {
+        const struct scene *scene = call < 4 ? &standing : call == 4 ? &kept : &at_rest;
         double library = stack_kib(&movers[LIBRARY], scene, call), plain = stack_kib(&movers[PLAIN], scene, call);
         printf("  %-50s %6.2f KiB %8.2f KiB%s\n", names[call], library, plain, library >= STACK_AIM_KIB ? "  above the aim" : "");
     }
@@ -264,6 +267,8 @@ static void print_stack(void)
         listing[i] = (double)stack_of(listing_stack, &i) / 1024;
     printf("  %-50s %6.2f KiB %8.2f KiB%s\n", "check of a listing", listing[LIBRARY], listing[PLAIN], listing[LIBRARY] >= STACK_AIM_KIB ? "  above the aim" : "");
     scene_free(&standing);
+    scene_free_areas(&kept);
+    scene_free(&kept);
     scene_free(&at_rest);
 }
 
@@ -308,6 +313,7 @@ int main(int count, char **words)
     line("mend, n = m = 64, P = 4096, a block to erase", 64, 4096, RANDOM, 65 * 30 + 20, 50, mend_job);
     line("mend, no block to erase", 64, 4096, RANDOM, 65 * 30 + 64, 2000, mend_job);
     line("highest count made afresh", 64, 1, RANDOM, 65 * 30, 20000, refresh_job);
+    rebuild_lines();
     hex_lines();
     listing_lines();
     printf("\ndeepest stack %46s %12s\n", movers[LIBRARY].name, movers[PLAIN].name);

@@ -26,6 +26,9 @@ void print_ratio(const char *name, double ratio, double aim);
 void hex_lines(void);
 void hex_falling(const struct scene *scene, uint8_t *to);
 
+/* rebuild.c: the lines of what is rebuilt without one page. */
+void rebuild_lines(void);
+
 /* listing.c: the lines of the check of listings, and one check by the mover whose number `data` points to. */
 void listing_lines(void);
 void listing_stack(void *data);

@@ -26,6 +26,11 @@ uint32_t plain_read(uint32_t n, uint32_t m, uint32_t page_bytes, uint32_t s,
                     const uint8_t *store, uint64_t store_len, const uint8_t *marks, uint64_t marks_len,
                     uint8_t *work, uint64_t work_len, uint32_t original, uint32_t *count, uint32_t *written_bytes);
 
+uint32_t plain_rebuild(uint32_t n, uint32_t m, uint32_t page_bytes, uint32_t s,
+                       const uint8_t *list, uint64_t list_len, const uint8_t *pins, uint64_t pins_len, const uint8_t *sets, uint64_t sets_len,
+                       const uint8_t *store, uint64_t store_len, const uint8_t *marks, uint64_t marks_len,
+                       uint8_t *area, uint64_t area_len, uint8_t *flags, uint64_t flags_len, uint32_t slot);
+
 uint32_t plain_hex_read(uint32_t n, uint32_t m, uint32_t page_bytes, const uint8_t *text, uint64_t text_len,
                         uint8_t *store, uint64_t store_len, uint8_t *marks, uint64_t marks_len);
 

@@ -77,7 +77,7 @@ static inline int drops(const struct list *list, uint32_t k)
     return list->whole != list->lent && entry(list->lent, k) == DROPPED;
 }
 
-/* plain_check.c: lists, pins, sets, and the refusals 1, 2, 3, 11 and 4 of run and read, which lends no record. The list is completed, and set_of gets
+/* plain_check.c: lists, pins, sets, and the refusals 1, 2, 3, 11 and 4 of run, read and rebuild; read lends no record, rebuild no work page either. The list is completed, and set_of gets
  * the set of the original that goes to each number. */
 int plain_complete(struct list *list, const uint8_t *lent, uint32_t originals);
 int plain_one_to_one(const uint8_t *list, uint32_t originals);
@@ -100,6 +100,20 @@ int plain_moment(const struct sizes *z, const uint8_t *marks, struct moment *fou
 void plain_erase(const struct sizes *z, uint8_t *store, uint8_t *marks, uint8_t *wear, uint32_t block);
 /* Whether a whole move would wear a block past the limit. */
 int plain_worn(const struct sizes *z, const uint8_t *wear, uint32_t limit);
+
+/* plain_read.c: what a read needs to know of one set, and the pages to sum for its original from block v. */
+struct reading {
+    const uint8_t *store, *pages[BLOCKS + 1];
+    uint32_t n, m, p, set;
+    int turned;                            /* whether 255s are in the sum */
+    const struct list *list;
+    const struct row *row;
+};
+
+uint32_t plain_gather(struct reading *r, const struct moment *at, uint32_t v);
+const uint8_t *plain_coded(const struct reading *r, uint32_t v);
+const uint8_t *plain_own(const struct reading *r, uint32_t v);
+const uint8_t *plain_final(const struct reading *r, uint32_t v);
 
 /* plain_sum.c: `to` becomes the sum of the pages, which lie elsewhere, turned over if 255s are to be added. Returns how many of its bytes
  * are not 255. */

@@ -46,6 +46,14 @@ struct answer call_read(const struct mover *mover, struct scene *z, uint32_t ori
     return a;
 }
 
+struct answer call_rebuild(const struct mover *mover, struct scene *z, uint32_t slot)
+{
+    struct answer a = {0, {0}};
+    a.number = mover->rebuild(z->n, z->m, z->page_bytes, z->s, z->list, z->list_len, z->pins, z->pins_len, z->sets, z->sets_len,
+                              z->store, z->store_len, z->marks, z->marks_len, z->area, z->area_len, z->flags, z->flags_len, slot);
+    return a;
+}
+
 struct answer call_hex_read(const struct mover *mover, struct scene *z)
 {
     struct answer a = {0, {0}};
@@ -119,6 +127,8 @@ void scene_make(struct scene *z, uint32_t n, uint32_t m, uint32_t page_bytes, en
     z->s = 0;
     z->text_len = 0;
     z->text = NULL;
+    z->area_len = z->flags_len = 0;
+    z->area = z->flags = NULL;
     make_parts(z);
     make_list(z, order, random);
     memset(z->pins, 0, z->pins_len);
@@ -156,9 +166,26 @@ void scene_free(struct scene *z)
     free(z->wear);
 }
 
+void scene_areas(struct scene *z)
+{
+    z->area_len = mover_area_bytes(z->n, z->m, z->page_bytes);
+    z->flags_len = mover_flags_bytes(z->n, z->m);
+    z->area = take(z->area_len);
+    z->flags = take(z->flags_len);
+    memset(z->area, 0x5A, z->area_len);
+    memset(z->flags, 0x5A, z->flags_len);
+}
+
+void scene_free_areas(struct scene *z)
+{
+    free(z->area);
+    free(z->flags);
+}
+
 int scene_same(const struct scene *a, const struct scene *b)
 {
     return memcmp(a->sets, b->sets, a->sets_len) == 0 && memcmp(a->store, b->store, a->store_len) == 0
         && memcmp(a->marks, b->marks, a->marks_len) == 0 && memcmp(a->work, b->work, a->work_len) == 0
-        && memcmp(a->wear, b->wear, a->wear_len) == 0;
+        && memcmp(a->wear, b->wear, a->wear_len) == 0
+        && (a->area == NULL || (memcmp(a->area, b->area, a->area_len) == 0 && memcmp(a->flags, b->flags, a->flags_len) == 0));
 }

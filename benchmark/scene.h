@@ -11,6 +11,8 @@ struct scene {
     uint32_t wear_limit;
     uint64_t text_len;                     /* a HEX text, which is not the scene's own: neither copied nor freed with it */
     uint8_t *text;
+    uint64_t area_len, flags_len;          /* where originals are rebuilt, nor is this */
+    uint8_t *area, *flags;
 };
 
 /* The library, or the mover by hand. */
@@ -26,6 +28,8 @@ struct mover {
     uint32_t (*read)(uint32_t, uint32_t, uint32_t, uint32_t, const uint8_t *, uint64_t, const uint8_t *, uint64_t, const uint8_t *,
                      uint64_t, const uint8_t *, uint64_t, const uint8_t *, uint64_t, uint8_t *, uint64_t, uint32_t, uint32_t *,
                      uint32_t *);
+    uint32_t (*rebuild)(uint32_t, uint32_t, uint32_t, uint32_t, const uint8_t *, uint64_t, const uint8_t *, uint64_t, const uint8_t *,
+                        uint64_t, const uint8_t *, uint64_t, const uint8_t *, uint64_t, uint8_t *, uint64_t, uint8_t *, uint64_t, uint32_t);
     uint32_t (*hex_read)(uint32_t, uint32_t, uint32_t, const uint8_t *, uint64_t, uint8_t *, uint64_t, uint8_t *, uint64_t);
     uint32_t (*hex_write)(uint32_t, uint32_t, uint32_t, const uint8_t *, uint64_t, const uint8_t *, uint64_t, uint8_t *, uint64_t);
 };
@@ -40,6 +44,7 @@ struct answer call_run(const struct mover *mover, struct scene *scene, uint32_t 
 struct answer call_mend(const struct mover *mover, struct scene *scene);
 struct answer call_refresh(const struct mover *mover, struct scene *scene);
 struct answer call_read(const struct mover *mover, struct scene *scene, uint32_t original);
+struct answer call_rebuild(const struct mover *mover, struct scene *scene, uint32_t slot);
 struct answer call_hex_read(const struct mover *mover, struct scene *scene);
 struct answer call_hex_write(const struct mover *mover, struct scene *scene);
 
@@ -50,9 +55,13 @@ enum order { RANDOM, DROPPING, CYCLE_UP, CYCLE_DOWN, TRANSPOSED };
 /* Memory; ends the program if there is none. */
 uint8_t *take(uint64_t bytes);
 
-/* A scene at rest with random pages, none of them pinned, no erase counted, no limit, and no text. */
+/* A scene at rest with random pages, none of them pinned, no erase counted, no limit, no text, and no areas. */
 void scene_make(struct scene *scene, uint32_t n, uint32_t m, uint32_t page_bytes, enum order order, uint64_t *random);
 void scene_copy(struct scene *to, const struct scene *from);
+
+/* Takes areas for what is rebuilt, and frees them. */
+void scene_areas(struct scene *scene);
+void scene_free_areas(struct scene *scene);
 void scene_free(struct scene *scene);
 
 /* Whether two scenes hold the same bytes. */

@@ -23,6 +23,7 @@
  *   budget       how many steps to take at most, any number
  *   wear_limit   how many erases a block may have had after the move, any number; UINT32_MAX unless the record nears it
  *   original     an original page, 0 to n * m - 1: number k is page k % m of block k / m + 1 before the move
+ *   slot         a stored page, 0 to (n + 1) * m - 1: number t is page t % m of block t / m, whatever it holds just now
  *
  * Lent parts: a pointer and a length in bytes, which must be exact. NULL goes with length 0.
  *   list         2 * n * m bytes: entry k, two bytes, low byte first, is the page number 0 to n * m - 1 where original k goes, or
@@ -32,11 +33,13 @@
  *   sets         n * m bytes: the set of each original, 0 to m - 1, as mover_split fills them; the same through the whole move
  *   store        (n + 1) * m * page_bytes bytes: the pages, block after block, the spare first
  *   marks        (n + 1) * m bytes, one a page in the same order: 0, 1 or 2 where a page is written, 255 where none is; 3 to 254 only
- *                where a cut left it so: mover_mend and mover_read count it as 255, mover_run refuses it with 5
+ *                where a cut left it so: mover_mend, mover_read and mover_rebuild count it as 255, mover_run refuses it with 5
  *   work         page_bytes bytes to work in
  *   wear         MOVER_WEAR_BYTES: a counter of erases for each of blocks 0 to 64, however many there are, four bytes each, low byte first; then
  *                the highest count, four bytes in the same order, and the lowest block that has it, one byte. It belongs to the chip and not
  *                to the move: keep it as long as the chip
+ *   area         n * m * page_bytes bytes: the originals that mover_rebuild has rebuilt, in the order of their numbers
+ *   flags        n * m bytes: for each original 1 if it is rebuilt, 0 if it is lost
  *   order        n bytes: the numbers of the data blocks, each once, in the order in which a coding would name them
  *   text         an Intel HEX file; mover_hex_write fills exactly mover_hex_bytes, mover_hex_read takes any length; or a step listing of any length
  *
@@ -85,11 +88,12 @@ enum mover_refusal {
     MOVER_DONE = 0,          /* carried out */
     MOVER_BAD_SIZES = 1,     /* n, m, page_bytes or s out of its range */
     MOVER_BAD_LENGTH = 2,    /* the length of a lent part is wrong */
-    MOVER_BAD_LIST = 3,      /* a list entry at or above n * m other than MOVER_DROPPED, or one below n * m met twice */
+    MOVER_BAD_LIST = 3,      /* a list entry at or above n * m other than MOVER_DROPPED, or one below n * m met twice; where no page can be
+                              * dropped, MOVER_DROPPED too */
     MOVER_BAD_SPLIT = 4,     /* the sets aren't a split of the list, each dropped page taken to go where its 255s go */
     MOVER_BAD_PLACE = 5,     /* place above 2 * n * (m + 1), marks other than that place has, or a page marked 255 not blank */
     MOVER_BAD_MARKS = 6,     /* marks fit no moment of the move: see mover_mend */
-    MOVER_BAD_ORIGINAL = 7,  /* original number at or above n * m */
+    MOVER_BAD_ORIGINAL = 7,  /* original number at or above n * m, or a slot at or above (n + 1) * m */
     MOVER_BAD_RECORD = 8,    /* a HEX record of another form or type, or with a wrong checksum */
     MOVER_BAD_ADDRESS = 9,   /* a HEX data byte outside the image, or a record that runs over a 64 KiB span */
     MOVER_BAD_TEXT = 10,     /* a HEX data byte given twice, no end record, or anything after it */
@@ -184,6 +188,21 @@ uint32_t mover_read(uint32_t n, uint32_t m, uint32_t page_bytes, uint32_t s,
                     const uint8_t *store, uint64_t store_len, const uint8_t *marks, uint64_t marks_len,
                     uint8_t *work, uint64_t work_len, uint32_t original, uint32_t *count, uint32_t *written_bytes);
 
+/* Rebuilds the originals without the page of one slot, which the chip's error correction has given up: at any moment of the move, also after a
+ * cut and before recovery. What the store has in that slot is not looked at, and may be anything. Only pages of full blocks are used. `area` is
+ * filled with the pages of all originals, and `flags` says of each:
+ *   1  rebuilt: as mover_read would sum it, if that leaves the slot out; else as the only other sum of stored pages of its set that gives it
+ *   0  lost: no sum of the pages that are left gives it, and its page in `area` is 255s
+ * A slot of the block that is unfinished, if there is one, loses nothing. Any other slot can lose originals of its own set only, so one of each
+ * block at most. A page that is 255s in `area` may be rebuilt: the flag tells.
+ * No page is dropped here: an entry of MOVER_DROPPED is 3. Neither a work page nor the record of erases is lent.
+ * Changes only `area` and `flags`, and all of both: what was in them does not matter.
+ * Returns 0, or 1, 2, 3, 11, 4, 6, or 7 for the slot. */
+uint32_t mover_rebuild(uint32_t n, uint32_t m, uint32_t page_bytes, uint32_t s,
+                       const uint8_t *list, uint64_t list_len, const uint8_t *pins, uint64_t pins_len, const uint8_t *sets, uint64_t sets_len,
+                       const uint8_t *store, uint64_t store_len, const uint8_t *marks, uint64_t marks_len,
+                       uint8_t *area, uint64_t area_len, uint8_t *flags, uint64_t flags_len, uint32_t slot);
+
 /* Tells the step at a place, for a program that has to do it on a chip.
  *   *kind    a mover_kind
  *   *block   the block to write in or to erase, 0 to n
@@ -276,6 +295,16 @@ static inline uint64_t mover_store_bytes(uint32_t n, uint32_t m, uint32_t page_b
     return mover_marks_bytes(n, m) * page_bytes;
 }
 
+static inline uint64_t mover_area_bytes(uint32_t n, uint32_t m, uint32_t page_bytes)
+{
+    return (uint64_t)n * m * page_bytes;
+}
+
+static inline uint64_t mover_flags_bytes(uint32_t n, uint32_t m)
+{
+    return (uint64_t)n * m;
+}
+
 /* A data record has 12 characters beside two for each byte, one of type 04 has 16, and the end record 12. */
 static inline uint64_t mover_hex_bytes(uint32_t n, uint32_t m, uint32_t page_bytes)
 {
@@ -359,23 +388,30 @@ struct mover_step {
     uint32_t kind, block, page, mark;
 };
 
-/* 1 if no two parts of the move overlap, nor one and a text of so many bytes, else 0. A part that is NULL overlaps none; sizes out of range
- * are left for the call to refuse. */
-static inline int mover_apart_from(const struct mover_move *move, const uint8_t *text, uint64_t text_len)
+/* 1 if no two parts of the move overlap, nor one of them and one of two parts more, of so many bytes, nor these two; else 0. A part that is
+ * NULL overlaps none; sizes out of range are left for the call to refuse. */
+static inline int mover_apart_from_both(const struct mover_move *move, const uint8_t *one, uint64_t one_len, const uint8_t *other,
+                                        uint64_t other_len)
 {
-    const uint8_t *const part[8] = {move->list, move->pins, move->sets, move->store, move->marks, move->work, move->wear, text};
-    const uint64_t bytes[8] = {mover_list_bytes(move->n, move->m), mover_pins_bytes(move->n, move->m),
+    const uint8_t *const part[9] = {move->list, move->pins, move->sets, move->store, move->marks, move->work, move->wear, one, other};
+    const uint64_t bytes[9] = {mover_list_bytes(move->n, move->m), mover_pins_bytes(move->n, move->m),
                                mover_sets_bytes(move->n, move->m), mover_store_bytes(move->n, move->m, move->page_bytes),
-                               mover_marks_bytes(move->n, move->m), move->page_bytes, MOVER_WEAR_BYTES, text_len};
+                               mover_marks_bytes(move->n, move->m), move->page_bytes, MOVER_WEAR_BYTES, one_len, other_len};
     int i, j;
     if (move->n - 1 > 63 || move->m - 1 > 63 || move->page_bytes - 1 > 4095)
         return 1;
-    for (i = 0; i < 8; i++)
-        for (j = 0; j < 8; j++)
+    for (i = 0; i < 9; i++)
+        for (j = 0; j < 9; j++)
             if (i != j && part[i] && part[j] && (uintptr_t)part[i] <= (uintptr_t)part[j]
                 && (uintptr_t)part[j] < (uintptr_t)part[i] + bytes[i])
                 return 0;
     return 1;
+}
+
+/* The same with one part more, a text, and with none. */
+static inline int mover_apart_from(const struct mover_move *move, const uint8_t *text, uint64_t text_len)
+{
+    return mover_apart_from_both(move, text, text_len, 0, 0);
 }
 
 static inline int mover_apart(const struct mover_move *move)
@@ -422,6 +458,17 @@ static inline uint32_t mover_read_move(const struct mover_move *move, uint32_t o
                       mover_pins_bytes(move->n, move->m), move->sets, mover_sets_bytes(move->n, move->m), move->store,
                       mover_store_bytes(move->n, move->m, move->page_bytes), move->marks, mover_marks_bytes(move->n, move->m),
                       move->work, move->page_bytes, original, count, written_bytes);
+}
+
+/* As mover_rebuild, into an area of mover_area_bytes and flags of mover_flags_bytes. The move's work page and record may be NULL here. */
+static inline uint32_t mover_rebuild_move(const struct mover_move *move, uint8_t *area, uint8_t *flags, uint32_t slot)
+{
+    uint64_t area_len = mover_area_bytes(move->n, move->m, move->page_bytes), flags_len = mover_flags_bytes(move->n, move->m);
+    assert(mover_apart_from_both(move, area, area_len, flags, flags_len));
+    return mover_rebuild(move->n, move->m, move->page_bytes, move->s, move->list, mover_list_bytes(move->n, move->m), move->pins,
+                         mover_pins_bytes(move->n, move->m), move->sets, mover_sets_bytes(move->n, move->m), move->store,
+                         mover_store_bytes(move->n, move->m, move->page_bytes), move->marks, mover_marks_bytes(move->n, move->m), area,
+                         area_len, flags, flags_len, slot);
 }
 
 /* As mover_hex_read, into the move's store and marks; the move's s has to be 0 from then on. */

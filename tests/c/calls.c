@@ -348,6 +348,7 @@ int main(void)
     listing_checked();
     reach_checked();
     orders_checked();
+    rebuild_checked();
     hex_checked();
     printf("%u passed, %u failed\n", passed, failed);
     return failed != 0 || passed == 0;

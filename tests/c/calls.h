@@ -26,6 +26,9 @@ void reach_checked(void);
 /* The least y of an order of blocks, and the best order. */
 void orders_checked(void);
 
+/* One page unreadable: what is rebuilt, and what is lost. */
+void rebuild_checked(void);
+
 /* Intel HEX. */
 void hex_checked(void);
 

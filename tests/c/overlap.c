@@ -32,6 +32,9 @@ static int wrong_answers(void)
             }
     move = lend(start);
     wrong += !mover_apart_from(&move, text, 32) + mover_apart_from(&move, text - 1, 32) + mover_apart_from(&move, room, 1);
+    wrong += !mover_apart_from_both(&move, text, 4, text + 4, 4) + mover_apart_from_both(&move, text, 5, text + 4, 4)
+             + mover_apart_from_both(&move, text + 4, 4, text - 1, 4) + mover_apart_from_both(&move, text - 1, 1, text, 4)
+             + mover_apart_from_both(&move, text + 3, 4, text, 4);
     move.n = 65;
     wrong += !mover_apart(&move);
     memset(&move, 0, sizeof move);
@@ -58,5 +61,7 @@ int main(int count, char **words)
     move = lend(start);
     if (strcmp(words[1], "hex_read") == 0)
         return (int)mover_hex_read_move(&move, text - 1, 12);
+    if (strcmp(words[1], "rebuild") == 0)
+        return (int)mover_rebuild_move(&move, text, text + 3, 0);
     return (int)mover_hex_write_move(&move, text - 1);
 }

@@ -2,7 +2,7 @@
 
 use crate::harness::interface::{
     mover_best_order, mover_check_listing, mover_hex_read, mover_hex_write, mover_least_y,
-    mover_mend, mover_operation, mover_read, mover_run, mover_split,
+    mover_mend, mover_operation, mover_read, mover_rebuild, mover_run, mover_split,
     mover_wear_refresh, Calls, HexCalls, ListingCall, OperationCall, OrderCalls,
 };
 
@@ -13,6 +13,7 @@ pub fn calls() -> Calls {
         mend: mover_mend,
         read: mover_read,
         refresh: mover_wear_refresh,
+        rebuild: mover_rebuild,
     }
 }
 

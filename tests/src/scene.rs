@@ -3,7 +3,7 @@
 use crate::simulator::calls::answer;
 use crate::simulator::dropping::{completed, DROPPED};
 use crate::simulator::flash::Flash;
-use crate::simulator::request::{Answer, Call, Parts, Request};
+use crate::simulator::request::{Answer, Call, Part, Parts, Request};
 use crate::simulator::rules::Correct;
 use crate::simulator::sizes::Sizes;
 use crate::simulator::wear::WEAR_BYTES;
@@ -22,7 +22,7 @@ pub struct Scene {
     pub wear_limit: u32,
 }
 
-/// What the work page holds before a call.
+/// What the work page and the areas hold before a call.
 pub const WORK_BEFORE: u8 = 0xa5;
 
 impl Scene {
@@ -43,24 +43,11 @@ impl Scene {
         scene
     }
 
-    /// A call with the parts it takes; place, budget and original are 0.
+    /// A call with the parts it takes; place, budget, original and slot are 0.
     pub fn request(&self, call: Call) -> Request {
-        let all = Parts {
-            list: self
-                .list
-                .iter()
-                .flat_map(|entry| entry.to_le_bytes())
-                .collect(),
-            pins: self.pins.clone(),
-            sets: self.sets.clone(),
-            store: self.flash.store.clone(),
-            marks: self.flash.marks.clone(),
-            work: vec![WORK_BEFORE; self.sizes.bytes()],
-            wear: self.wear.clone(),
-        };
         let mut parts = Parts::default();
         for &part in call.parts() {
-            *parts.get_mut(part) = all.get(part).clone();
+            *parts.get_mut(part) = self.part(part);
         }
         Request {
             call,
@@ -70,6 +57,23 @@ impl Scene {
             budget: 0,
             wear_limit: self.wear_limit,
             original: 0,
+            slot: 0,
+        }
+    }
+
+    /// What the caller lends as this part.
+    fn part(&self, part: Part) -> Vec<u8> {
+        let bytes = self.sizes.bytes();
+        match part {
+            Part::List => self.list.iter().flat_map(|e| e.to_le_bytes()).collect(),
+            Part::Pins => self.pins.clone(),
+            Part::Sets => self.sets.clone(),
+            Part::Store => self.flash.store.clone(),
+            Part::Marks => self.flash.marks.clone(),
+            Part::Work => vec![WORK_BEFORE; bytes],
+            Part::Wear => self.wear.clone(),
+            Part::Area => vec![WORK_BEFORE; self.sizes.originals() * bytes],
+            Part::Flags => vec![WORK_BEFORE; self.sizes.originals()],
         }
     }
 
@@ -85,6 +89,13 @@ impl Scene {
         Request {
             original: original as u32,
             ..self.request(Call::Read)
+        }
+    }
+
+    pub fn rebuild_request(&self, slot: usize) -> Request {
+        Request {
+            slot: slot as u32,
+            ..self.request(Call::Rebuild)
         }
     }
 

@@ -11,7 +11,8 @@ use Rattle.split.specs.Answer.{SplitAnswer, splitAnswer}
 use Rattle.split.proofs.Answers.{gives-1, gives-2-list}
 use Rattle.method.specs.Step.{nothingDone}
 use Rattle.method.specs.Answers.{RunAnswer, runRefused, runAnswer, MendAnswer, mendAnswer, ReadAnswer, readRefused, readAnswer}
-use Rattle.method.proofs.refusals.ListRefusals.{run-refuses-list, read-refuses-list}
+use Rattle.method.specs.Rebuild.{RebuildAnswer, rebuildRefused, rebuildAnswer}
+use Rattle.method.proofs.refusals.ListRefusals.{run-refuses-list, read-refuses-list, rebuild-refuses-list}
 use Rattle.method.proofs.wear.WornLaws.{mend-wear-length}
 use Rattle.recovery.specs.declared.mend.MendResult.{MendResult}
 use Rattle.recovery.specs.MarksRead.{answered}
@@ -19,7 +20,7 @@ use Rattle.mover.specs.declared.run.RunResult.{RunResult}
 use Rattle.mover.specs.Answers.{ranAs}
 use Rattle.c_api.specs.Wear.{wearLength, wearOf, wearBytes}
 use Rattle.c_api.specs.Bytes.{entriesWithin}
-use Rattle.c_api.specs.Exports.{onBytes, splitOfBytes, ranBytes, runOfBytes, mendedBytes, mendOfBytes, readOfBytes, RefreshBytes, refreshOfBytes}
+use Rattle.c_api.specs.Exports.{onBytes, splitOfBytes, ranBytes, runOfBytes, mendedBytes, mendOfBytes, readOfBytes, rebuildOfBytes, RefreshBytes, refreshOfBytes}
 use Rattle.c_api.proofs.BytesLaws.{on-bytes}
 use Rattle.c_api.proofs.WearLaws.{counters-length}
 
@@ -53,6 +54,13 @@ module _ (Z : Sizes) (list pins sets entries : List ℕ) (decoded : entries ≡ 
     read-exported original r =
         on-bytes Z (λ number. readRefused number work) (λ list. readAnswer (requestOf Z list pins sets) chip work original)
         (λ list differs. read-refuses-list (requestOf Z list pins sets) chip work differs original) list entries r decoded
+
+  pub rebuild-exported : (chip : Chip) (area flags : List ℕ) (slot : ℕ) (r : RebuildAnswer) → r ≡ rebuildAnswer (requestOf Z entries pins sets) chip area flags slot
+      → r ≡ rebuildOfBytes Z list pins sets chip area flags slot
+  unfolding rebuildOfBytes
+  rebuild-exported chip area flags slot r =
+      on-bytes Z (λ number. rebuildRefused number area flags) (λ list. rebuildAnswer (requestOf Z list pins sets) chip area flags slot)
+      (λ list differs. rebuild-refuses-list (requestOf Z list pins sets) chip area flags slot differs) list entries r decoded
 
 -- ---- the counters as bytes
 two-or-one : (ranged : Bool) → eqb (cond ranged 2 1) 0 ≡ false

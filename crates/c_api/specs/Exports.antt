@@ -12,6 +12,7 @@ use Rattle.split.specs.Request.{requestOf}
 use Rattle.split.specs.Answer.{SplitAnswer, splitAnswer}
 use Rattle.method.specs.declared.tally.Tally.{Tally}
 use Rattle.method.specs.Answers.{RunAnswer, runRefused, runAnswer, MendAnswer, mendAnswer, ReadAnswer, readRefused, readAnswer}
+use Rattle.method.specs.Rebuild.{RebuildAnswer, rebuildRefused, rebuildAnswer}
 use Rattle.recovery.specs.declared.mend.MendResult.{MendResult}
 use Rattle.mover.specs.declared.run.RunResult.{RunResult}
 use Rattle.c_api.specs.Bytes.{entriesOf, isOdd}
@@ -95,6 +96,11 @@ unfoldable pub readOfBytes : Sizes → (list pins sets : List ℕ) → Chip → 
 readOfBytes Z list pins sets chip work original =
     onBytes Z (λ number. readRefused number work)
     (λ entries. readAnswer (requestOf Z entries pins sets) chip work original) list
+
+unfoldable pub rebuildOfBytes : Sizes → (list pins sets : List ℕ) → Chip → (area flags : List ℕ) → (slot : ℕ) → RebuildAnswer
+rebuildOfBytes Z list pins sets chip area flags slot =
+    onBytes Z (λ number. rebuildRefused number area flags)
+    (λ entries. rebuildAnswer (requestOf Z entries pins sets) chip area flags slot) list
 
 -- the call that makes the pair afresh
 pub record RefreshBytes : Type 0 where

@@ -6,6 +6,7 @@ pub mod mend;
 pub mod operation;
 pub mod order_call;
 pub mod read;
+pub mod rebuild;
 pub mod refresh;
 pub mod run;
 mod sizes;

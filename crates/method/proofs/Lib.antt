@@ -8,5 +8,6 @@ pub mod states
 pub mod recovery
 pub mod demand
 pub mod reach
+pub mod rebuild
 pub mod examples
 pub mod refusals

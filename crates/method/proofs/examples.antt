@@ -5,5 +5,6 @@ pub mod Cases
 pub mod DropCases
 pub mod WearCases
 pub mod ReachCases
+pub mod RebuildCases
 pub mod Example
 pub mod TwoPages

@@ -6,6 +6,7 @@ pub mod StepsKeepPages
 pub mod StepsLeadOn
 pub mod StatesOfPlaces
 pub mod AtRest
+pub mod MadeAtRest
 pub mod StepsAddUp
 pub mod RunsAddUp
 pub mod RunsCount

@@ -24,10 +24,12 @@ use Rattle.method.specs.Step.{isWrite, isErase, erasesBlock}
 use Rattle.method.specs.Cut.{CutLeaves, CutInside}
 use Rattle.method.specs.Mend.{Reading, lines, reading}
 use Rattle.method.specs.Answers.{order, runRows, mendRows, readRows}
+use Rattle.method.specs.Rebuild.{rebuildRows}
 use Rattle.method.specs.Runs.{RunsAddUp, StatesReached}
 use Rattle.method.specs.Counts.{RunsCount}
 use Rattle.method.specs.PagesRead.{ReadsCounted}
 use Rattle.method.specs.Demand3.{Demand3}
+use Rattle.method.specs.Unreadable.{TornLosesNothing, RebuiltRight, LostExactly}
 use Rattle.method.specs.WearCounts.{WearCounts}
 use Rattle.method.specs.HighestCounter.{HighestCounter}
 use Rattle.method.specs.PinsStay.{PinsStay}
@@ -40,6 +42,7 @@ use Rattle.method.specs.Cases.{CasesHold}
 use Rattle.method.specs.DropCases.{DropCasesHold}
 use Rattle.method.specs.WearCases.{WearCasesHold}
 use Rattle.method.specs.ReachCases.{ReachCasesHold}
+use Rattle.method.specs.RebuildCases.{RebuildCasesHold}
 
 -- rule 4.3: there are as many steps as the last place says
 unfoldable pub StepsCounted : Type 0
@@ -145,12 +148,15 @@ pub record FirstReturned : Type 0 where
       → First order (runRows R chip work wear place limit) (refusal (runRows R chip work wear place limit))
   pub by-mend : (Z : Sizes) (chip : Chip) → First order (mendRows Z chip) (refusal (mendRows Z chip))
   pub by-read : (R : Request) (chip : Chip) (work : List ℕ) (k : ℕ) → First order (readRows R chip work k) (refusal (readRows R chip work k))
+  pub by-rebuild : (R : Request) (chip : Chip) (area flags : List ℕ) (bad : ℕ)
+      → First order (rebuildRows R chip area flags bad) (refusal (rebuildRows R chip area flags bad))
 
 pub record Claims : Type 0 where
   pub cases : (byte : ℕ) → CasesHold byte
   pub drop-cases : DropCasesHold
   pub wear-cases : WearCasesHold
   pub reach-cases : ReachCasesHold
+  pub rebuild-cases : (byte : ℕ) → RebuildCasesHold byte
   pub runs : RunsAddUp
   pub states : StatesReached
   pub counts : RunsCount
@@ -167,6 +173,9 @@ pub record Claims : Type 0 where
   pub erases-next : ErasesNext
   pub first : FirstReturned
   pub demand-3 : Demand3
+  pub torn-loses-nothing : TornLosesNothing
+  pub rebuilt-right : RebuiltRight
+  pub lost-exactly : LostExactly
   pub wear : WearCounts
   pub highest : HighestCounter
   pub pins : PinsStay

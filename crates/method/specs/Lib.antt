@@ -9,11 +9,13 @@ pub mod Cut
 pub mod Mend
 pub mod Worn
 pub mod Answers
+pub mod Rebuild
 pub mod Runs
 pub mod Counts
 pub mod PagesRead
 pub mod Events
 pub mod Demand3
+pub mod Unreadable
 pub mod WearCounts
 pub mod PinsStay
 pub mod PinFirst
@@ -23,6 +25,7 @@ pub mod Cases
 pub mod DropCases
 pub mod WearCases
 pub mod ReachCases
+pub mod RebuildCases
 pub mod HighestCounter
 pub mod Example
 pub mod TwoPages

@@ -4,3 +4,7 @@ pub mod RunLaws
 pub mod PlanLaws
 pub mod RefusalLaws
 pub mod ReadLaws
+pub mod RebuildLaws
+pub mod RebuiltLaws
+pub mod RebuiltAll
+pub mod SeesLaws

@@ -1,14 +1,15 @@
 // The refusals that run and read share, in the table's order.
 ghost use mathlib.Core.Path.{_≡_};
 ghost use mathlib.Core.List.{[]};
+ghost use mathlib.Core.Bool.{_||_};
 ghost use Prim.Native.Nat.{_≤_};
 ghost use lib.ListN.{replicate};
-ghost use Rattle.split.specs.Request.{requestOf};
+ghost use Rattle.split.specs.Request.{requestOf, badRequest};
 ghost use Rattle.flash.specs.Tables.{refusal};
 ghost use Rattle.split.specs.Drops.{listLeft};
 ghost use Rattle.split.specs.inner.Dropping.{DropsTold};
 ghost use Rattle.split.specs.inner.Rows.{ByDestination};
-ghost use Rattle.method.specs.Answers.{badParts, moveRows};
+ghost use Rattle.method.specs.Answers.{badChip, badParts, moveRows};
 use flash::sizes::Sizes;
 use flash::sizes::in_range;
 use flash::sizes::original_count;
@@ -22,7 +23,27 @@ use split::pins::moves_pinned;
 use split::rows::sets_refusal;
 use walk::rows::TABLE;
 
-// Number 2: whether a lent part is not of its exact length.
+// Whether a part that run, read and rebuild are lent is not of its exact length.
+pub fn bad_lent(
+    sizes: Sizes,
+    list: &[u16],
+    pins: &[u8],
+    sets: &[u8],
+    store: &[u8],
+    marks: &[u8],
+) -> bool
+    requires { ⌜ (sizes .n ≤ 64) × (sizes .m ≤ 64) × (sizes .p ≤ 4096) ⌝ }
+    ensures { λ r. ⌜ r ≡ (badRequest (requestOf sizes (now (list .entry)) (now (pins .entry)) (now (sets .entry)))
+        || badChip sizes (record { store = now (store .entry); marks = now (marks .entry) })) ⌝ }
+{
+    let originals = original_count(sizes);
+    let slots = slot_count(sizes);
+    let bytes = store_length(sizes);
+    ((list.len() != originals) | (pins.len() != originals) | (sets.len() != originals))
+        | ((store.len() != bytes) | (marks.len() != slots))
+}
+
+// Number 2 of run and read: whether a lent part is not of its exact length.
 fn bad_parts(
     sizes: Sizes,
     list: &[u16],
@@ -36,12 +57,7 @@ fn bad_parts(
     ensures { λ r. ⌜ r ≡ badParts (requestOf sizes (now (list .entry)) (now (pins .entry)) (now (sets .entry)))
         (record { store = now (store .entry); marks = now (marks .entry) }) (now (work .entry)) ⌝ }
 {
-    let originals = original_count(sizes);
-    let slots = slot_count(sizes);
-    let bytes = store_length(sizes);
-    ((list.len() != originals) | (pins.len() != originals) | (sets.len() != originals))
-        | ((store.len() != bytes) | (marks.len() != slots))
-        | (work.len() != sizes.p)
+    bad_lent(sizes, list, pins, sets, store, marks) | (work.len() != sizes.p)
 }
 
 // Numbers 1, 2, 3, 11 and 4, or 0 where none of them is given; then the table has the sets by destination. Before number 4 is looked for, the list is completed

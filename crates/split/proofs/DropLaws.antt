@@ -11,7 +11,7 @@ use Rattle.flash.proofs.Searches.{all-of, none-at, none-of, any-of, count-none}
 use Rattle.flash.proofs.Ranges.{length-range, one-counted}
 use Rattle.flash.proofs.Loops.{any-more}
 use Rattle.flash.proofs.Filters.{length-filter, filter-passes, filter-all, any-filter, count-not, count-or, filter-in, filter-ascends}
-use Rattle.split.proofs.OneToOneLaws.{Distinct, one-to-one-of}
+use Rattle.split.proofs.OneToOneLaws.{Distinct, one-to-one-of, entry-lt}
 
 -- ---- the entries that are kept
 abbrev isKept : (entry : ℕ) → Bool
@@ -332,3 +332,9 @@ module _ (list : List ℕ) (none : any (eqb dropped) list ≡ false) where
   pub undropped-bad : (originals : ℕ) → badList originals list ≡ not (isOneToOne originals list)
   unfolding badList
   undropped-bad originals = ap (λ (t : List ℕ). not (isOneToOne originals t)) undropped-kept
+
+-- a permutation of few pages drops none
+pub one-to-one-undropped : (originals : ℕ) (list : List ℕ) → originals ≤ dropped → isOneToOne originals list ≡ true
+    → any (eqb dropped) list ≡ false
+one-to-one-undropped originals list few one = none-of (eqb dropped) list 0 (λ k h.
+    ne-eqb dropped (getD list k 0) (λ q. omega (arith, entry-lt originals list one k h)))

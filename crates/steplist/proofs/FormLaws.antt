@@ -1,15 +1,13 @@
 -- When a list is listed by originals: what the check of listings would refuse of it, and the move that is listed.
-use Rattle.flash.proofs.Kit.{_≡_, sym, ap, _∙_, ⊎-elim, Bool, true, false, not, List, ℕ, _*_, _≤_, arith, eqb, length, getD, eq-eqb, ne-eqb, le-leb}
+use Rattle.flash.proofs.Kit.{_≡_, sym, ap, _∙_, ⊎-elim, Bool, true, false, not, List, ℕ, _*_, _≤_, arith, eqb, length, eq-eqb, le-leb}
 use Rattle.flash.specs.Lists.{any}
 use Rattle.flash.specs.Tables.{firstFit, numberOr0, refusal}
 use Rattle.flash.specs.declared.sizes.Sizes.{Sizes}
 use Rattle.flash.proofs.Bools.{bool-cases, fails, never-both}
-use Rattle.flash.proofs.Searches.{none-of}
 use Rattle.split.specs.OneToOne.{dropped, badList, isOneToOne}
 use Rattle.split.specs.Drops.{completed}
 use Rattle.split.specs.Rule.{splitByRule}
-use Rattle.split.proofs.DropLaws.{undropped-completed, undropped-bad}
-use Rattle.split.proofs.OneToOneLaws.{entry-lt}
+use Rattle.split.proofs.DropLaws.{undropped-completed, undropped-bad, one-to-one-undropped}
 use Rattle.split.proofs.RuleLaws.{rule-split, rule-length}
 use Rattle.method.specs.Move.{AcceptedMove}
 use Rattle.listing.specs.Lines.{refusedLine}
@@ -26,17 +24,13 @@ module _ (Z : Sizes) (allowed : isAllowed Z ≡ true) (list : List ℕ) where
   few : n * m ≤ 64
   few = let l = bounded Z allowed in few-originals n m (l .few-blocks) (l .few-pages)
 
-  -- a permutation of few pages drops none
-  one-undropped : isOneToOne (n * m) list ≡ true → any (eqb dropped) list ≡ false
-  one-undropped one = none-of (eqb dropped) list 0 (λ k h. ne-eqb dropped (getD list k 0) (λ q. omega (arith, entry-lt (n * m) list one k h, few)))
-
   -- where a page is dropped, or an entry is bad, the list is no permutation
   pub bad-not-one : badList (n * m) list ≡ true → isOneToOne (n * m) list ≡ false
   bad-not-one bad = fails (λ (one : isOneToOne (n * m) list ≡ true).
-      never-both bad (undropped-bad list (one-undropped one) (n * m) ∙ ap not one))
+      never-both bad (undropped-bad list (one-to-one-undropped (n * m) list (omega (arith, few)) one) (n * m) ∙ ap not one))
 
   pub dropped-not-one : any (eqb dropped) list ≡ true → isOneToOne (n * m) list ≡ false
-  dropped-not-one some = fails (λ (one : isOneToOne (n * m) list ≡ true). never-both some (one-undropped one))
+  dropped-not-one some = fails (λ (one : isOneToOne (n * m) list ≡ true). never-both some (one-to-one-undropped (n * m) list (omega (arith, few)) one))
 
   module _ (size : length list ≡ n * m) where
     sized : areSizes n m ≡ true

@@ -1,4 +1,5 @@
 -- The laws behind the proofs of this crate.
+pub mod ApartLaws
 pub mod BackwardLaws
 pub mod ForwardLaws
 pub mod GatherLaws
@@ -10,3 +11,4 @@ pub mod TableLaws
 pub mod TermLaws
 pub mod LeftLaws
 pub mod WriteLaws
+pub mod ZeroLaws

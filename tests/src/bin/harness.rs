@@ -115,7 +115,8 @@ fn demand_3_reported(tally: &mut Tally, seed: u64) {
     for (name, words) in lists::BREAKING_DEMAND_3 {
         let fault = faults().find(|fault| fault.name == name);
         let found = fault.and_then(|fault| first_broken_demand(&fault.calls, seed));
-        let found = found.filter(|what| what.starts_with("demand 3") && what.contains(words));
+        let as_due = |what: &String| words.split('|').any(|words| what.contains(words));
+        let found = found.filter(|what| what.starts_with("demand 3") && as_due(what));
         reported(tally, name, found.as_deref());
     }
 }

@@ -6,7 +6,8 @@ use mover_tests::checks::{
     pin_cases,
 };
 use mover_tests::checks::{
-    read_counts, recovery_lines, refusing, small_moves, step_inputs, torn, wear_cases,
+    read_counts, rebuild_cases, recovery_lines, refusing, small_moves, step_inputs, torn,
+    wear_cases,
 };
 use mover_tests::random::{seed_from_environment, Random};
 use std::process::ExitCode;
@@ -28,6 +29,7 @@ fn main() -> ExitCode {
     order_cases::check(&mut tally, &mut random);
     pin_cases::check(&mut tally, &mut random);
     read_counts::check(&mut tally, &mut random);
+    rebuild_cases::check(&mut tally, &mut random);
     small_moves::check(&mut tally, &mut random);
     pair_cases::check(&mut tally, &mut random);
     torn::check(&mut tally, &mut random);

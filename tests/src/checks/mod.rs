@@ -10,6 +10,7 @@ pub mod pair_cases;
 pub mod papers;
 pub mod pin_cases;
 pub mod read_counts;
+pub mod rebuild_cases;
 pub mod recovery_lines;
 pub mod refusing;
 pub mod small_moves;

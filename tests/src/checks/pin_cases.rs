@@ -50,7 +50,13 @@ fn every_pin(mut scene: Scene, random: &mut Random) -> Outcome {
             scene.pins[k] = pinned(k) as u8;
         }
         let both = (0..scene.pins.len()).any(|k| pinned(k) && scene.is_dropped(k));
-        for call in [Call::Split, Call::Run, Call::Mend, Call::Read] {
+        for call in [
+            Call::Split,
+            Call::Run,
+            Call::Mend,
+            Call::Read,
+            Call::Rebuild,
+        ] {
             let mut request = scene.request(call);
             (request.place, request.budget) = (place, 2);
             for wrong in [false, true] {
@@ -73,6 +79,7 @@ fn changed(request: &Request, both: bool) -> Outcome {
                 "a lent byte changed".into()
             })
         }
+        (true, Call::Rebuild) => same("the number", after.numbers.returned, 3),
         _ => ensure(before == after, || "another answer".into()),
     }
 }

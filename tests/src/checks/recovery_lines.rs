@@ -125,6 +125,7 @@ fn mends(s: usize, marks: &[u8], returned: u32, place: usize, erases: u32) -> Ou
         budget: 0,
         wear_limit: 0,
         original: 0,
+        slot: 0,
     };
     let numbers = answer(&request).numbers;
     let given = (numbers.returned, numbers.place as usize, numbers.erases);

@@ -4,7 +4,9 @@ use super::tally::{same, Tally};
 use crate::scene::Scene;
 use crate::simulator::calls::answer;
 use crate::simulator::flash::Flash;
-use crate::simulator::request::{Call, Numbers, Part, Request, ALL_PARTS, CALLS, SIZED_CALLS};
+use crate::simulator::request::{
+    Call, Numbers, Part, Parts, Request, ALL_PARTS, CALLS, SIZED_CALLS,
+};
 use crate::simulator::sizes::Sizes;
 
 type Outcome = Result<(), String>;
@@ -18,9 +20,9 @@ struct Case {
     flaw: Flaw,
 }
 
-const LIST_CALLS: &[Call] = &[Call::Split, Call::Run, Call::Read];
-const SET_CALLS: &[Call] = &[Call::Run, Call::Read];
-const MARK_CALLS: &[Call] = &[Call::Mend, Call::Read];
+const LIST_CALLS: &[Call] = &[Call::Split, Call::Run, Call::Read, Call::Rebuild];
+const SET_CALLS: &[Call] = &[Call::Run, Call::Read, Call::Rebuild];
+const MARK_CALLS: &[Call] = &[Call::Mend, Call::Read, Call::Rebuild];
 
 macro_rules! case {
     ($number:expr, $calls:expr, $name:expr, $flaw:expr) => {
@@ -112,6 +114,11 @@ const CASES: &[Case] = &[
     case!(7, &[Call::Read], "original n x m", |r| r.original = 4),
     case!(7, &[Call::Read], "the last original", |r| r.original =
         u32::MAX),
+    case!(7, &[Call::Rebuild], "the slot behind the last", |r| r
+        .slot =
+        6),
+    case!(7, &[Call::Rebuild], "the highest slot", |r| r.slot =
+        u32::MAX),
 ];
 
 pub fn check(tally: &mut Tally) {
@@ -141,7 +148,11 @@ pub fn check(tally: &mut Tally) {
 
 fn number_due(case: &Case, call: Call) -> u32 {
     match (case.number, call) {
+        // No page can be dropped here.
+        (0, Call::Rebuild) => 3,
         (number, call) if case.calls.contains(&call) => number,
+        // No page can be dropped here, pinned or not.
+        (11, Call::Rebuild) => 3,
         // Marks that fit no moment are those of no place.
         (6, Call::Run) => 5,
         _ => 0,
@@ -171,8 +182,11 @@ fn base(call: Call) -> Request {
 /// A flaw in a part that the call does not take changes nothing.
 fn flawed(call: Call, cases: &[&Case]) -> Request {
     let mut request = base(call);
-    let all = base(Call::Run).parts;
-    request.parts = all;
+    request.parts = Parts {
+        area: request.parts.area,
+        flags: request.parts.flags,
+        ..base(Call::Run).parts
+    };
     for case in cases {
         (case.flaw)(&mut request);
     }

@@ -39,6 +39,7 @@ pub fn calls<R: Rules, M: Manners>() -> Calls {
         mend: mend::<R, M>,
         read: read::<R, M>,
         refresh: refresh::<R, M>,
+        rebuild: rebuild::<R, M>,
     }
 }
 
@@ -55,9 +56,17 @@ const NOT_LENT: Raw = Raw {
 };
 
 /// The parts in the order of `ALL_PARTS`.
-type Loan = [Raw; 7];
+type Loan = [Raw; 9];
 
-/// The request with place, budget, wear limit and original 0.
+fn lent<const COUNT: usize>(parts: [(Part, Raw); COUNT]) -> Loan {
+    let mut loan = [NOT_LENT; 9];
+    for (part, raw) in parts {
+        loan[part as usize] = raw;
+    }
+    loan
+}
+
+/// The request with place, budget, wear limit, original and slot 0.
 unsafe fn request_of(call: Call, sizes: [u32; 4], loan: &Loan) -> Request {
     let mut parts = Parts::default();
     for (part, lent) in ALL_PARTS.into_iter().zip(loan) {
@@ -79,6 +88,7 @@ unsafe fn request_of(call: Call, sizes: [u32; 4], loan: &Loan) -> Request {
         budget: 0,
         wear_limit: 0,
         original: 0,
+        slot: 0,
     }
 }
 
@@ -117,15 +127,11 @@ unsafe extern "C" fn split<R: Rules, M: Manners>(
     sets: *mut u8,
     sets_len: u64,
 ) -> u32 {
-    let loan = [
-        raw(list, list_len),
-        raw(pins, pins_len),
-        raw(sets, sets_len),
-        NOT_LENT,
-        NOT_LENT,
-        NOT_LENT,
-        NOT_LENT,
-    ];
+    let loan = lent([
+        (Part::List, raw(list, list_len)),
+        (Part::Pins, raw(pins, pins_len)),
+        (Part::Sets, raw(sets, sets_len)),
+    ]);
     let request = request_of(Call::Split, [n, m, page_bytes, s], &loan);
     serve::<R, M>(request, &loan, &[Part::Sets])
         .numbers
@@ -162,15 +168,15 @@ unsafe extern "C" fn run<R: Rules, M: Manners>(
     written_bytes: *mut u32,
     pages_read: *mut u32,
 ) -> u32 {
-    let loan = [
-        raw(list, list_len),
-        raw(pins, pins_len),
-        raw(sets, sets_len),
-        raw(store, store_len),
-        raw(marks, marks_len),
-        raw(work, work_len),
-        raw(wear, wear_len),
-    ];
+    let loan = lent([
+        (Part::List, raw(list, list_len)),
+        (Part::Pins, raw(pins, pins_len)),
+        (Part::Sets, raw(sets, sets_len)),
+        (Part::Store, raw(store, store_len)),
+        (Part::Marks, raw(marks, marks_len)),
+        (Part::Work, raw(work, work_len)),
+        (Part::Wear, raw(wear, wear_len)),
+    ]);
     let mut request = request_of(Call::Run, [n, m, page_bytes, s], &loan);
     (request.place, request.budget) = (place, budget);
     request.wear_limit = wear_limit;
@@ -203,15 +209,11 @@ unsafe extern "C" fn mend<R: Rules, M: Manners>(
     place: *mut u32,
     erases: *mut u32,
 ) -> u32 {
-    let loan = [
-        NOT_LENT,
-        NOT_LENT,
-        NOT_LENT,
-        raw(store, store_len),
-        raw(marks, marks_len),
-        NOT_LENT,
-        raw(wear, wear_len),
-    ];
+    let loan = lent([
+        (Part::Store, raw(store, store_len)),
+        (Part::Marks, raw(marks, marks_len)),
+        (Part::Wear, raw(wear, wear_len)),
+    ]);
     let request = request_of(Call::Mend, [n, m, page_bytes, s], &loan);
     let changed = [Part::Store, Part::Marks, Part::Wear];
     let numbers = serve::<R, M>(request, &loan, &changed).numbers;
@@ -243,15 +245,14 @@ unsafe extern "C" fn read<R: Rules, M: Manners>(
     count: *mut u32,
     written_bytes: *mut u32,
 ) -> u32 {
-    let loan = [
-        raw(list, list_len),
-        raw(pins, pins_len),
-        raw(sets, sets_len),
-        raw(store, store_len),
-        raw(marks, marks_len),
-        raw(work, work_len),
-        NOT_LENT,
-    ];
+    let loan = lent([
+        (Part::List, raw(list, list_len)),
+        (Part::Pins, raw(pins, pins_len)),
+        (Part::Sets, raw(sets, sets_len)),
+        (Part::Store, raw(store, store_len)),
+        (Part::Marks, raw(marks, marks_len)),
+        (Part::Work, raw(work, work_len)),
+    ]);
     let mut request = request_of(Call::Read, [n, m, page_bytes, s], &loan);
     request.original = original;
     let numbers = serve::<R, M>(request, &loan, &[Part::Work]).numbers;
@@ -264,10 +265,46 @@ unsafe extern "C" fn read<R: Rules, M: Manners>(
 }
 
 unsafe extern "C" fn refresh<R: Rules, M: Manners>(wear: *mut u8, wear_len: u64) -> u32 {
-    let mut loan = [NOT_LENT; 7];
-    loan[Part::Wear as usize] = raw(wear, wear_len);
+    let loan = lent([(Part::Wear, raw(wear, wear_len))]);
     let request = request_of(Call::Refresh, [0; 4], &loan);
     serve::<R, M>(request, &loan, &[Part::Wear])
+        .numbers
+        .returned
+}
+
+unsafe extern "C" fn rebuild<R: Rules, M: Manners>(
+    n: u32,
+    m: u32,
+    page_bytes: u32,
+    s: u32,
+    list: *const u8,
+    list_len: u64,
+    pins: *const u8,
+    pins_len: u64,
+    sets: *const u8,
+    sets_len: u64,
+    store: *const u8,
+    store_len: u64,
+    marks: *const u8,
+    marks_len: u64,
+    area: *mut u8,
+    area_len: u64,
+    flags: *mut u8,
+    flags_len: u64,
+    slot: u32,
+) -> u32 {
+    let loan = lent([
+        (Part::List, raw(list, list_len)),
+        (Part::Pins, raw(pins, pins_len)),
+        (Part::Sets, raw(sets, sets_len)),
+        (Part::Store, raw(store, store_len)),
+        (Part::Marks, raw(marks, marks_len)),
+        (Part::Area, raw(area, area_len)),
+        (Part::Flags, raw(flags, flags_len)),
+    ]);
+    let mut request = request_of(Call::Rebuild, [n, m, page_bytes, s], &loan);
+    request.slot = slot;
+    serve::<R, M>(request, &loan, &[Part::Area, Part::Flags])
         .numbers
         .returned
 }

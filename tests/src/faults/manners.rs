@@ -14,6 +14,9 @@ pub fn faults() -> Vec<Fault> {
         rude::<SplitTouchesList>("split changes the list"),
         rude::<RunTouchesPins>("run changes the pins"),
         rude::<BeforePins>("a byte before the pins is written"),
+        rude::<Past<AREA>>("a byte behind the area is written"),
+        rude::<Past<FLAGS>>("a byte behind the flags is written"),
+        rude::<RebuildTouchesStore>("rebuild changes the store"),
         rude::<UnsetAtRefusal>("a refusal leaves the returned numbers unset"),
     ]
 }
@@ -78,6 +81,29 @@ struct RunTouchesPins;
 impl Manners for RunTouchesPins {
     unsafe fn harm(call: Call, part: Part, raw: Raw) {
         if call == Call::Run && part == Part::Pins && raw.len > 0 {
+            *raw.start ^= 1;
+        }
+    }
+}
+
+const AREA: usize = Part::Area as usize;
+const FLAGS: usize = Part::Flags as usize;
+
+struct Past<const PART: usize>;
+
+impl<const PART: usize> Manners for Past<PART> {
+    unsafe fn harm(_call: Call, part: Part, raw: Raw) {
+        if part as usize == PART {
+            *raw.start.add(raw.len) = 1;
+        }
+    }
+}
+
+struct RebuildTouchesStore;
+
+impl Manners for RebuildTouchesStore {
+    unsafe fn harm(call: Call, part: Part, raw: Raw) {
+        if call == Call::Rebuild && part == Part::Store && raw.len > 0 {
             *raw.start ^= 1;
         }
     }

@@ -14,6 +14,7 @@ pub mod pinning;
 pub mod programs;
 mod reading;
 mod reads;
+mod rebuilding;
 mod recovery;
 mod refusing;
 mod running;
@@ -44,6 +45,7 @@ pub fn all_faults() -> Vec<Fault> {
         recovery::faults(),
         counting::faults(),
         reads::faults(),
+        rebuilding::faults(),
         pinning::faults(),
         dropping::faults(),
         wearing::faults(),

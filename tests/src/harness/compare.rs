@@ -7,8 +7,10 @@ use super::record::{blocks_erased, room_left};
 use super::shrink::shrink;
 use crate::checks::tally::{ensure, Tally};
 use crate::random::{rounds_from_environment, Random};
-use crate::simulator::calls::answer;
-use crate::simulator::dropping::DROPPED;
+use crate::simulator::calls::{answer, move_of};
+use crate::simulator::dropping::{Term, DROPPED};
+use crate::simulator::flash::Flash;
+use crate::simulator::reading::terms_of;
 use crate::simulator::request::{Answer, Call, Numbers, Request, ALL_PARTS, CALLS};
 use crate::simulator::rules::Correct;
 use crate::simulator::wear::{counters, fresh_pair, pair};
@@ -40,7 +42,7 @@ impl fmt::Display for Difference {
 /// A mover under comparison, with the number of calls compared of each kind.
 pub struct Comparer<'a> {
     calls: &'a Calls,
-    compared: [u64; 5],
+    compared: [u64; 6],
     /// Runs and reads that counted none, some and all bytes of their pages.
     counted: [u64; 3],
     /// Runs that read no page for those they wrote, at most as many as they wrote, and
@@ -58,6 +60,10 @@ pub struct Comparer<'a> {
     worn: [u64; 3],
     /// Calls with a right pair, and with a wrong one, that change it.
     pairs: [u64; 2],
+    /// Rebuilds that lost an original, that lost none though a page of a full block
+    /// was named, where another sum than read's was used, and where the page named was
+    /// of no use.
+    rebuilds: [u64; 4],
     /// The events of lists: calls, cut ones among them, and cuts between calls.
     pub events: u64,
     /// Those of lists that drop pages.
@@ -75,7 +81,7 @@ impl<'a> Comparer<'a> {
     pub fn new(calls: &'a Calls) -> Comparer<'a> {
         Comparer {
             calls,
-            compared: [0; 5],
+            compared: [0; 6],
             counted: [0; 3],
             reads: [0; 3],
             pinned: [0; 3],
@@ -83,6 +89,7 @@ impl<'a> Comparer<'a> {
             dropped_read: 0,
             worn: [0; 3],
             pairs: [0; 2],
+            rebuilds: [0; 4],
             events: 0,
             events_dropping: 0,
             cuts: 0,
@@ -114,6 +121,7 @@ impl<'a> Comparer<'a> {
         self.note_wear(request, &due);
         if due.numbers.returned == 0 {
             self.note_drops(request);
+            self.note_rebuild(request, &due);
         }
         Ok(due)
     }
@@ -197,6 +205,29 @@ impl<'a> Comparer<'a> {
         }
     }
 
+    fn note_rebuild(&mut self, request: &Request, due: &Answer) {
+        if request.call != Call::Rebuild {
+            return;
+        }
+        let flash = Flash::new(request.sizes, &request.parts.store, &request.parts.marks);
+        let slot = request.slot as usize;
+        let unfinished = flash.unfinished(slot / request.sizes.pages());
+        let moves = move_of::<Correct>(request);
+        let summed = |k: usize| {
+            let terms = terms_of::<Correct>(&moves, &flash, k);
+            terms.contains(&Term::Stored(slot))
+        };
+        match due.parts.flags.contains(&0) {
+            true => self.rebuilds[0] += 1,
+            false if unfinished => self.rebuilds[3] += 1,
+            false => self.rebuilds[1] += 1,
+        }
+        let rebuilt = |&k: &usize| due.parts.flags[k] == 1;
+        if !unfinished && (0..due.parts.flags.len()).filter(rebuilt).any(summed) {
+            self.rebuilds[2] += 1;
+        }
+    }
+
     fn all_compared(&self) -> u64 {
         self.compared.iter().sum()
     }
@@ -220,6 +251,8 @@ impl<'a> Comparer<'a> {
         println!("wear: {refused} runs refused as 12, {kept} with the limit just kept, {full} erases at full counters");
         let [right, wrong] = self.pairs;
         println!("pairs changed: {right} right ones, {wrong} wrong ones");
+        let [lost, kept, other, unused] = self.rebuilds;
+        println!("rebuilds: {lost} with an original lost, {kept} with none, {other} by another sum, {unused} without a page of no use");
         println!("rounds: {}", self.rounds);
         println!(
             "events: {}, {} of them cut, {} with drops",
@@ -314,6 +347,7 @@ pub fn check_mover(tally: &mut Tally, name: &str, calls: &Calls, seed: u64) {
     often("dropped pages read", &[comparer.dropped_read]);
     often("limits passed and kept, counters full", &comparer.worn);
     often("pairs changed, right and wrong", &comparer.pairs);
+    often("rebuilds of every kind", &comparer.rebuilds);
 }
 
 /// The first difference that one of these families finds, with its name.

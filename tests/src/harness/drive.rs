@@ -13,6 +13,8 @@ struct Loan {
     marks: Lent,
     work: Lent,
     wear: Lent,
+    area: Lent,
+    flags: Lent,
 }
 
 impl Loan {
@@ -30,6 +32,8 @@ impl Loan {
             marks: lend(Part::Marks),
             work: lend(Part::Work),
             wear: lend(Part::Wear),
+            area: lend(Part::Area),
+            flags: lend(Part::Flags),
         }
     }
 
@@ -42,6 +46,8 @@ impl Loan {
             marks: self.marks.take("marks")?,
             work: self.work.take("work")?,
             wear: self.wear.take("wear")?,
+            area: self.area.take("area")?,
+            flags: self.flags.take("flags")?,
         })
     }
 }
@@ -57,6 +63,7 @@ pub fn drive(calls: &Calls, request: &Request) -> Result<Answer, String> {
         Call::Read => drive_read(calls, request, &mut loan, outs.pointers()),
         // A live buffer of the length given.
         Call::Refresh => unsafe { (calls.refresh)(loan.wear.pointer(), loan.wear.length()) },
+        Call::Rebuild => drive_rebuild(calls, request, &mut loan),
     };
     collect(request.call, returned, loan, outs)
 }
@@ -68,7 +75,7 @@ fn collect(call: Call, returned: u32, loan: Loan, outs: Outs) -> Result<Answer, 
         ..Numbers::default()
     };
     match call {
-        Call::Split | Call::Refresh => {}
+        Call::Split | Call::Refresh | Call::Rebuild => {}
         Call::Run => {
             let [place, steps, writes, erases, finished, written_bytes, pages_read] = outs;
             numbers = Numbers {
@@ -190,6 +197,34 @@ fn drive_read(calls: &Calls, request: &Request, loan: &mut Loan, outs: [*mut u32
             request.original,
             outs[0],
             outs[1],
+        )
+    }
+}
+
+fn drive_rebuild(calls: &Calls, request: &Request, loan: &mut Loan) -> u32 {
+    let sizes = &request.sizes;
+    // All parts are live buffers of the lengths given.
+    unsafe {
+        (calls.rebuild)(
+            sizes.n,
+            sizes.m,
+            sizes.page_bytes,
+            sizes.s,
+            loan.list.pointer(),
+            loan.list.length(),
+            loan.pins.pointer(),
+            loan.pins.length(),
+            loan.sets.pointer(),
+            loan.sets.length(),
+            loan.store.pointer(),
+            loan.store.length(),
+            loan.marks.pointer(),
+            loan.marks.length(),
+            loan.area.pointer(),
+            loan.area.length(),
+            loan.flags.pointer(),
+            loan.flags.length(),
+            request.slot,
         )
     }
 }

@@ -93,6 +93,27 @@ calls! {
         wear: *mut u8,
         wear_len: u64,
     );
+    RebuildCall, mover_rebuild(
+        n: u32,
+        m: u32,
+        page_bytes: u32,
+        s: u32,
+        list: *const u8,
+        list_len: u64,
+        pins: *const u8,
+        pins_len: u64,
+        sets: *const u8,
+        sets_len: u64,
+        store: *const u8,
+        store_len: u64,
+        marks: *const u8,
+        marks_len: u64,
+        area: *mut u8,
+        area_len: u64,
+        flags: *mut u8,
+        flags_len: u64,
+        slot: u32,
+    );
     OperationCall, mover_operation(
         n: u32,
         m: u32,
@@ -165,6 +186,7 @@ pub struct Calls {
     pub mend: MendCall,
     pub read: ReadCall,
     pub refresh: RefreshCall,
+    pub rebuild: RebuildCall,
 }
 
 /// The calls about block orders.

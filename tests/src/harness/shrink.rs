@@ -41,6 +41,12 @@ fn plainer(request: &Request) -> Vec<Request> {
             ..request.clone()
         });
     }
+    if request.slot > 0 {
+        tries.push(Request {
+            slot: request.slot / 2,
+            ..request.clone()
+        });
+    }
     tries.extend(zeroed(request));
     tries
 }

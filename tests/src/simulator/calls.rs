@@ -1,9 +1,10 @@
 //! The calls: a request in, an answer out.
 
-use super::dropping::{completed, sum};
+use super::dropping::{completed, stored_in, sum};
 use super::flash::Flash;
 use super::permutation::Move;
 use super::reading::terms_of;
+use super::rebuilding::slots_summed;
 use super::refusals::refusal;
 use super::request::{Answer, Call, Numbers, Parts, Request};
 use super::rules::{Correct, Rules};
@@ -30,6 +31,7 @@ pub fn answer_by<R: Rules>(request: &Request) -> Answer {
             Call::Mend => mend::<R>(request, &mut answer),
             Call::Read => read::<R>(request, &mut answer),
             Call::Refresh => refresh::<R>(&mut answer.parts.wear),
+            Call::Rebuild => rebuild::<R>(request, &mut answer),
         },
     }
     R::amend(request, &mut answer);
@@ -109,4 +111,23 @@ fn read<R: Rules>(request: &Request, answer: &mut Answer) {
     put(&mut answer.parts.work, &page);
     answer.numbers.count = R::pages_summed(&terms);
     answer.numbers.written_bytes = R::written_bytes(&page);
+}
+
+fn rebuild<R: Rules>(request: &Request, answer: &mut Answer) {
+    let flash = flash_of(request);
+    let Some(recovery) = R::recovery(&flash) else {
+        return;
+    };
+    let moves = move_of::<R>(request);
+    let place = recovery.place as usize;
+    let (mut area, mut flags) = (vec![], vec![]);
+    for slots in slots_summed::<R>(&moves, &flash, place, request.slot as usize) {
+        flags.push(R::FLAGS[slots.is_some() as usize]);
+        area.extend(match slots {
+            Some(slots) => sum::<R>(&flash, &stored_in(&slots)),
+            None => vec![R::LOST_BYTE; flash.sizes.bytes()],
+        });
+    }
+    put(&mut answer.parts.area, &area);
+    put(&mut answer.parts.flags, &flags);
 }

@@ -52,3 +52,8 @@ pub fn stored(terms: &[Term]) -> Vec<usize> {
     };
     terms.iter().filter_map(slot).collect()
 }
+
+/// The pages of these slots as terms.
+pub fn stored_in(slots: &[usize]) -> Vec<Term> {
+    slots.iter().map(|&slot| Term::Stored(slot)).collect()
+}

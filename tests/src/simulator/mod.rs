@@ -9,6 +9,7 @@ pub mod listing;
 pub mod orders;
 pub mod permutation;
 pub mod reading;
+pub mod rebuilding;
 pub mod recovery;
 pub mod refusals;
 pub mod request;

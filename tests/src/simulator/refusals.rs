@@ -32,6 +32,7 @@ pub fn order(call: Call) -> &'static [Refusal] {
         Call::Mend => &[Sizes, Lengths, Marks],
         Call::Read => &[Sizes, Lengths, List, Pinned, Split, Marks, Original],
         Call::Refresh => &[Lengths],
+        Call::Rebuild => order(Call::Read),
     }
 }
 
@@ -46,11 +47,11 @@ fn applies<R: Rules>(refusal: Refusal, request: &Request) -> bool {
     match refusal {
         Refusal::Sizes => !R::sizes_fit(&sizes),
         Refusal::Lengths => !lengths_fit::<R>(request),
-        Refusal::List => !R::list_fits(&request.entries()),
+        Refusal::List => !list_fits::<R>(request),
         Refusal::Split => !split_fits::<R>(request),
         Refusal::Place => !place_fits::<R>(&flash(), request.place as usize),
         Refusal::Marks => R::recovery(&flash()).is_none(),
-        Refusal::Original => request.original as usize >= sizes.originals(),
+        Refusal::Original => !R::number_fits(request),
         Refusal::Pinned => R::moves_pinned(request),
         Refusal::Worn => worn_out::<R>(request),
     }
@@ -77,7 +78,16 @@ fn due_length(sizes: &Sizes, part: Part) -> u128 {
         Part::Marks => (n + 1) * m,
         Part::Work => bytes,
         Part::Wear => WEAR_BYTES as u128,
+        Part::Area => n * m * bytes,
+        Part::Flags => n * m,
     }
+}
+
+/// A list that drops a page is none for the call that rebuilds.
+fn list_fits<R: Rules>(request: &Request) -> bool {
+    let entries = request.entries();
+    let drops = || entries.iter().any(|&entry| R::is_dropped(entry));
+    R::list_fits(&entries) && (R::takes_drops(request.call) || !drops())
 }
 
 /// The set bytes have to be a split of the completed list.

@@ -13,18 +13,27 @@ pub enum Call {
     Read,
     /// Makes the pair of the record afresh.
     Refresh,
+    /// Rebuilds all originals that it can without one page.
+    Rebuild,
 }
 
-pub const CALLS: [Call; 5] = [
+pub const CALLS: [Call; 6] = [
     Call::Split,
     Call::Run,
     Call::Mend,
     Call::Read,
     Call::Refresh,
+    Call::Rebuild,
 ];
 
 /// The calls that get sizes.
-pub const SIZED_CALLS: [Call; 4] = [Call::Split, Call::Run, Call::Mend, Call::Read];
+pub const SIZED_CALLS: [Call; 5] = [
+    Call::Split,
+    Call::Run,
+    Call::Mend,
+    Call::Read,
+    Call::Rebuild,
+];
 
 #[derive(Clone, Copy, Debug, PartialEq, Eq)]
 pub enum Part {
@@ -36,6 +45,10 @@ pub enum Part {
     Work,
     /// The record of erases: one counter a block, and the highest.
     Wear,
+    /// A page for each original that is rebuilt, or lost.
+    Area,
+    /// Which it is, one byte an original.
+    Flags,
 }
 
 impl Call {
@@ -44,14 +57,23 @@ impl Call {
         match self {
             Call::Split => &[Part::List, Part::Pins, Part::Sets],
             Call::Mend => &[Part::Store, Part::Marks, Part::Wear],
-            Call::Run => &ALL_PARTS,
+            Call::Run => &ALL_PARTS[..=Part::Wear as usize],
             Call::Read => &ALL_PARTS[..Part::Wear as usize],
             Call::Refresh => &[Part::Wear],
+            Call::Rebuild => &[
+                Part::List,
+                Part::Pins,
+                Part::Sets,
+                Part::Store,
+                Part::Marks,
+                Part::Area,
+                Part::Flags,
+            ],
         }
     }
 }
 
-pub const ALL_PARTS: [Part; 7] = [
+pub const ALL_PARTS: [Part; 9] = [
     Part::List,
     Part::Pins,
     Part::Sets,
@@ -59,6 +81,8 @@ pub const ALL_PARTS: [Part; 7] = [
     Part::Marks,
     Part::Work,
     Part::Wear,
+    Part::Area,
+    Part::Flags,
 ];
 
 /// The memory a caller lends; a part that a call does not take is empty.
@@ -71,6 +95,8 @@ pub struct Parts {
     pub marks: Vec<u8>,
     pub work: Vec<u8>,
     pub wear: Vec<u8>,
+    pub area: Vec<u8>,
+    pub flags: Vec<u8>,
 }
 
 impl Parts {
@@ -83,6 +109,8 @@ impl Parts {
             Part::Marks => &self.marks,
             Part::Work => &self.work,
             Part::Wear => &self.wear,
+            Part::Area => &self.area,
+            Part::Flags => &self.flags,
         }
     }
 
@@ -95,6 +123,8 @@ impl Parts {
             Part::Marks => &mut self.marks,
             Part::Work => &mut self.work,
             Part::Wear => &mut self.wear,
+            Part::Area => &mut self.area,
+            Part::Flags => &mut self.flags,
         }
     }
 }
@@ -109,6 +139,8 @@ pub struct Request {
     pub budget: u32,
     pub wear_limit: u32,
     pub original: u32,
+    /// The one whose page cannot be read.
+    pub slot: u32,
 }
 
 /// The numbers returned; those that a call does not return stay 0.
@@ -156,11 +188,14 @@ impl fmt::Display for Request {
         writeln!(out, "        marks: vec!{:?},", parts.marks)?;
         writeln!(out, "        work: vec!{:?},", parts.work)?;
         writeln!(out, "        wear: vec!{:?},", parts.wear)?;
+        writeln!(out, "        area: vec!{:?},", parts.area)?;
+        writeln!(out, "        flags: vec!{:?},", parts.flags)?;
         writeln!(out, "    }},")?;
         writeln!(out, "    place: {},", self.place)?;
         writeln!(out, "    budget: {},", self.budget)?;
         writeln!(out, "    wear_limit: {},", self.wear_limit)?;
         writeln!(out, "    original: {},", self.original)?;
+        writeln!(out, "    slot: {},", self.slot)?;
         write!(out, "}}")
     }
 }

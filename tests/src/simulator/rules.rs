@@ -55,6 +55,20 @@ pub trait Rules {
         dropped.into_iter().zip(free).collect()
     }
 
+    /// May the list of this call drop pages?
+    fn takes_drops(call: Call) -> bool {
+        call != Call::Rebuild
+    }
+
+    /// Is the original that read gets in the store, or the slot that is not to be
+    /// used?
+    fn number_fits(request: &Request) -> bool {
+        match request.call {
+            Call::Rebuild => (request.slot as usize) < request.sizes.slots(),
+            _ => (request.original as usize) < request.sizes.originals(),
+        }
+    }
+
     /// What each byte of a dropped page counts as.
     const DROPPED_BYTE: u8 = 255;
 
@@ -236,6 +250,36 @@ pub trait Rules {
     fn passes(count: u32, erases: u32, limit: u32) -> bool {
         u64::from(count) + u64::from(erases) > u64::from(limit)
     }
+
+    /// The slots whose sum rebuilds an original without this slot, if it is not
+    /// lost: those of read, or else the others that were found.
+    fn rebuilt_from(
+        by_read: Vec<usize>,
+        found: Option<Vec<usize>>,
+        slot: usize,
+    ) -> Option<Vec<usize>> {
+        let found = found?;
+        Some(match by_read.contains(&slot) {
+            true => found,
+            false => by_read,
+        })
+    }
+
+    /// Is this slot left out where that one cannot be read?
+    fn leaves_out(_sizes: &Sizes, named: usize, slot: usize) -> bool {
+        slot == named
+    }
+
+    /// Are the pages of a block used to rebuild others?
+    fn is_used(flash: &Flash, block: usize) -> bool {
+        !flash.unfinished(block)
+    }
+
+    /// What each byte of a lost original becomes.
+    const LOST_BYTE: u8 = 255;
+
+    /// The bytes that tell a lost original, and a rebuilt one.
+    const FLAGS: [u8; 2] = [0, 1];
 
     fn recovery(flash: &Flash) -> Option<Recovery> {
         recovery::find(flash)

@@ -134,6 +134,7 @@ fn steps_text(sizes: Sizes, list: Vec<u32>, originals: &[u8]) -> Result<String, 
         budget: 0,
         wear_limit: 0,
         original: 0,
+        slot: 0,
     };
     let split = answer(&request);
     if split.numbers.returned == 3 {

@@ -132,17 +132,19 @@ module _ (R : Request) (chip₀ : Chip) (S : Start R chip₀) where
   each-map P f start zero p = tt
   each-map P f start (suc count) p = (p start (omega arith) (omega arith), each-map P f (suc start) count (λ i a b. p i (omega arith) (omega arith)))
 
-  all-kept : (events : List Event) (h : History) → Kept X originals h → AllAllowed R events h → AtEach (Keeps R chip₀) (moments events h)
+  -- what follows from what is kept holds at each moment
+  pub along : (Q : History → Type 0) → ((h : History) → Kept X originals h → Q h) → (events : List Event) (h : History) → Kept X originals h → AllAllowed R events h
+      → AtEach Q (moments events h)
   unfolding AllAllowed AtEach moments after
-  all-kept [] h K O = (keeps R chip₀ S h K, tt)
-  all-kept (event ∷ events) h K O =
+  along Q f [] h K O = (f h K, tt)
+  along Q f (event ∷ events) h K O =
       let E = event-kept h K (event .call) (event .cut) (O .0) in
-      each-append (Keeps R chip₀) (map (during h (event .call)) (range 0 (suc (stepsFinished h (event .call) (event .cut))))) (moments events (after event h))
-      (each-map (Keeps R chip₀) (during h (event .call)) 0 (suc (stepsFinished h (event .call) (event .cut))) (λ i a b. keeps R chip₀ S (during h (event .call) i) (E .inside i (omega arith))))
-      (all-kept events (after event h) (E .after) (O .1))
+      each-append Q (map (during h (event .call)) (range 0 (suc (stepsFinished h (event .call) (event .cut))))) (moments events (after event h))
+      (each-map Q (during h (event .call)) 0 (suc (stepsFinished h (event .call) (event .cut))) (λ i a b. f (during h (event .call) i) (E .inside i (omega arith))))
+      (along Q f events (after event h) (E .after) (O .1))
 
   -- ---- the start
-  started : Kept X originals (starting chip₀)
+  pub started : Kept X originals (starting chip₀)
   unfolding starting filled count
   started = record {
     place = 0;
@@ -170,6 +172,6 @@ by-marks R marks k chip same work e = rw (← same) (read-answer R chip work k e
 
 pub demand-3 : Demand3
 demand-3 = record {
-  kept = λ R chip₀ S events O. all-kept R chip₀ S events (starting chip₀) (started R chip₀ S) O;
+  kept = λ R chip₀ S events O. along R chip₀ S (Keeps R chip₀) (keeps R chip₀ S) events (starting chip₀) (started R chip₀ S) O;
   same-slots = λ R marks k. (readTerms (plan R) marks k, by-marks R marks k);
 }

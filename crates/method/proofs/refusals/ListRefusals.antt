@@ -7,6 +7,7 @@ use Rattle.flash.specs.Chip.{Chip}
 use Rattle.flash.proofs.Bools.{bool-cases}
 use Rattle.split.specs.Request.{Request, badRequest}
 use Rattle.method.specs.Answers.{badParts, moveRows, runRows, runRefused, runAnswer, readRows, readRefused, readAnswer}
+use Rattle.method.specs.Rebuild.{rebuildRows, rebuildRefused, rebuildAnswer}
 
 not-zero : (ranged : Bool) → eqb (cond ranged 2 1) 0 ≡ false
 not-zero true = refl
@@ -29,3 +30,15 @@ module _ (R : Request) (chip : Chip) (work : List ℕ) (other : inRange (R .size
   pub read-refuses-list : (k : ℕ) → readAnswer R chip work k ≡ readRefused (cond (inRange (R .sizes)) 2 1) work
   unfolding readAnswer readRows
   read-refuses-list k = rw (list-refused _, not-zero (inRange (R .sizes)))
+
+module _ (R : Request) (chip : Chip) (area flags : List ℕ) (bad : ℕ) (other : inRange (R .sizes) ≡ true → length (R .list) ≢ listLength (R .sizes)) where
+  rebuild-number : refusal (rebuildRows R chip area flags bad) ≡ cond (inRange (R .sizes)) 2 1
+  unfolding badRequest rebuildRows refusal firstFit numberOr0
+  rebuild-number = ⊎-elim
+      (λ (e : inRange (R .sizes) ≡ true). rw (e, ne-eqb (length (R .list)) (listLength (R .sizes)) (other e)))
+      (λ (e : inRange (R .sizes) ≡ false). rw e)
+      (bool-cases (inRange (R .sizes)))
+
+  pub rebuild-refuses-list : rebuildAnswer R chip area flags bad ≡ rebuildRefused (cond (inRange (R .sizes)) 2 1) area flags
+  unfolding rebuildAnswer
+  rebuild-refuses-list = rw (rebuild-number, not-zero (inRange (R .sizes)))

@@ -21,14 +21,14 @@ use Rattle.method.proofs.places.PagesHeld.{HeldCases, coded, ended, res
 use Rattle.method.proofs.states.PagesWritten.{number-in}
 
 -- pages of one size, one after the other
-length-pages : (size : ℕ) (page : ℕ → List ℕ) (start count : ℕ) → ((t : ℕ) → start ≤ t → t < start + count → length (page t) ≡ size) → length (concatMap page (range start count)) ≡ count * size
+pub length-pages : (size : ℕ) (page : ℕ → List ℕ) (start count : ℕ) → ((t : ℕ) → start ≤ t → t < start + count → length (page t) ≡ size) → length (concatMap page (range start count)) ≡ count * size
 unfolding concatMap range
 length-pages size page start zero each = omega arith
 length-pages size page start (suc count) each =
     length-append (page start) (concatMap page (range (suc start) count))
     ∙ omega (arith, each start (omega arith) (omega arith), length-pages size page (suc start) count (λ t a b. each t (omega arith) (omega arith)), suc-mul count size)
 
-page-of : (size : ℕ) (page : ℕ → List ℕ) (start count i : ℕ) → ((t : ℕ) → start ≤ t → t < start + count → length (page t) ≡ size) → i < count
+pub page-of : (size : ℕ) (page : ℕ → List ℕ) (start count i : ℕ) → ((t : ℕ) → start ≤ t → t < start + count → length (page t) ≡ size) → i < count
     → part size i (concatMap page (range start count)) ≡ page (start + i)
 unfolding concatMap range part
 page-of size page start zero i each h = absurd (not-suc-le-zero h)

@@ -13,7 +13,7 @@ use Rattle.method.specs.NoDrops.{undropped, NoDrops}
 use Rattle.method.proofs.states.PagesWritten.{sum-concat}
 
 module _ (M : Move) where
-  term-stored : (marks : List ℕ) (t : ℕ) → termAt (undropped M) marks t ≡ stored t
+  pub term-stored : (marks : List ℕ) (t : ℕ) → termAt (undropped M) marks t ≡ stored t
   unfolding termAt
   term-stored marks t = rw and-false
 

@@ -28,12 +28,12 @@ module _ (M : Move) (A : AcceptedMove M) (marks : List ℕ) (low high i : ℕ) (
   open Sizes (M .sizes) using (n, m)
 
   -- a block that is not full of s + i lies below `high`
-  below-high : (b : ℕ) → b ≤ n → fullOf M marks i b ≡ false → b < high
+  pub below-high : (b : ℕ) → b ≤ n → fullOf M marks i b ≡ false → b < high
   unfolding fullOf
   below-high b h e = (let not-above : high ≤ b → ⊥ = λ l. never-both (S .above b l h) e in omega arith)
 
   -- no block is full of another letter than the shape says
-  not-full : (j b : ℕ) → b ≤ n → (b < low → letter (M .sizes) 1 ≢ letter (M .sizes) j) → (high ≤ b → letter (M .sizes) i ≢ letter (M .sizes) j) → fullOf M marks j b ≡ false
+  pub not-full : (j b : ℕ) → b ≤ n → (b < low → letter (M .sizes) 1 ≢ letter (M .sizes) j) → (high ≤ b → letter (M .sizes) i ≢ letter (M .sizes) j) → fullOf M marks j b ≡ false
   unfolding fullOf
   not-full j b h f g = fails (λ e. ⊎-elim
       (λ (l : b < low). f l (full-same m marks b (letter (M .sizes) 1) (letter (M .sizes) j) (A .ranges .m-low) (S .below b l) e))

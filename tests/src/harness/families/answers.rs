@@ -56,6 +56,7 @@ fn along(requests: &mut Vec<Request>, mut scene: Scene, random: &mut Random) {
                 request.place = place as u32;
                 request.budget = *random.pick(&[0, 1, 2, 5, u32::MAX]);
                 request.original = random.below(scene.sizes.originals()) as u32;
+                request.slot = random.below(scene.sizes.slots()) as u32;
                 requests.push(request.clone());
                 // In turn, since those of the lengths come last.
                 let flaws = flaws(&request);

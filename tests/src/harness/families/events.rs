@@ -192,8 +192,14 @@ impl List {
     }
 
     fn flawed(&mut self, player: &mut Player, random: &mut Random) -> Outcome {
-        let calls = [Call::Run, Call::Read, Call::Split, Call::Mend];
-        let calls = &calls[..if self.quiet { 3 } else { 4 }];
+        let calls = [
+            Call::Run,
+            Call::Read,
+            Call::Split,
+            Call::Rebuild,
+            Call::Mend,
+        ];
+        let calls = &calls[..if self.quiet { 4 } else { 5 }];
         let mut request = self.story.scene.request(*random.pick(calls));
         request.place = self.story.place.unwrap_or(0);
         random.pick(&flaws(&request))(&mut request);
@@ -214,7 +220,9 @@ impl List {
         for _ in 0..random.between(1, 3) {
             wrong_mark(&mut scene, random);
         }
-        let mut request = scene.request(*random.pick(&[Call::Run, Call::Mend, Call::Read]));
+        let calls = [Call::Run, Call::Mend, Call::Read, Call::Rebuild];
+        let mut request = scene.request(*random.pick(&calls));
+        request.slot = random.below(scene.sizes.slots()) as u32;
         request.place = self.story.place.unwrap_or(0);
         request.budget = self.budget(random);
         request.original = random.below(scene.sizes.originals()) as u32;

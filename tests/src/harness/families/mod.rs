@@ -13,6 +13,7 @@ mod papers;
 mod pins;
 mod random_moves;
 mod reads;
+mod rebuilds;
 mod refusals;
 mod small_moves;
 mod torn;
@@ -43,7 +44,7 @@ const EVENTS: Family = Family {
 /// The families that look at demand 3 over whole lists.
 pub static LISTS: [Family; 2] = [EVERY_CUT, EVENTS];
 
-pub static FAMILIES: [Family; 19] = [
+pub static FAMILIES: [Family; 20] = [
     Family {
         name: "refusals, one and two at once",
         cases: refusals::cases,
@@ -59,6 +60,10 @@ pub static FAMILIES: [Family; 19] = [
     Family {
         name: "pages read in long cycles",
         cases: reads::cases,
+    },
+    Family {
+        name: "rebuilt without one page",
+        cases: rebuilds::cases,
     },
     Family {
         name: "all lists of n x m up to 6",

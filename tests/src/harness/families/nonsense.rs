@@ -62,7 +62,7 @@ pub fn cases(comparer: &mut Comparer, random: &mut Random) -> Outcome {
 
 /// The marks of a place over bytes that mean nothing; pages not written are
 /// blank, so that a run takes them.
-fn nonsense_bytes(scene: &mut Scene, place: usize, random: &mut Random) {
+pub fn nonsense_bytes(scene: &mut Scene, place: usize, random: &mut Random) {
     scene.flash.marks = marks_at(&scene.sizes, place);
     for slot in 0..scene.sizes.slots() {
         let mark = scene.flash.marks[slot];

@@ -19,6 +19,7 @@ fn compare_calls(comparer: &mut Comparer, scene: &Scene) -> Outcome {
     comparer.compare(&scene.request(Call::Split))?;
     comparer.compare(&scene.run_request(0, 1))?;
     comparer.compare(&scene.read_request(0))?;
+    comparer.compare(&scene.rebuild_request(0))?;
     Ok(())
 }
 
@@ -92,7 +93,7 @@ fn neighbours(comparer: &mut Comparer, random: &mut Random) -> Outcome {
         let place = random.below(shape.steps() + 1) as u32;
         scene.run(0, place);
         scene.pins[0] = *random.pick(&[1, 77, 255]);
-        for call in [Call::Split, Call::Run, Call::Read] {
+        for call in [Call::Split, Call::Run, Call::Read, Call::Rebuild] {
             let mut request = scene.request(call);
             request.place = place;
             comparer.compare(&request)?;

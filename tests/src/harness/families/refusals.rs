@@ -37,7 +37,12 @@ fn at_places(comparer: &mut Comparer, mut scene: Scene, random: &mut Random) -> 
                 // Not the split itself, so that a byte laid there is seen.
                 request.parts.sets = random.bytes(request.parts.sets.len());
             }
-            flawed(comparer, &request)?;
+            request.slot = random.below(scene.sizes.slots()) as u32;
+            // The place is nothing to this call but its marks.
+            match call == Call::Rebuild && place % 2 == 0 {
+                true => comparer.compare(&request).map(|_| ())?,
+                false => flawed(comparer, &request)?,
+            }
         }
     }
     Ok(())
@@ -228,6 +233,12 @@ fn number_flaws(request: &Request) -> Vec<Flaw> {
     if request.call == Call::Read {
         for original in [originals, originals + 1, originals + 65536, u32::MAX] {
             flaws.push(Box::new(move |request| request.original = original));
+        }
+    }
+    if request.call == Call::Rebuild {
+        let slots = request.sizes.slots() as u32;
+        for slot in [slots, slots + 1, slots + 65536, u32::MAX] {
+            flaws.push(Box::new(move |request| request.slot = slot));
         }
     }
     if request.call == Call::Run {
