@@ -63,7 +63,7 @@ pub record Unseen (R : Request) (marks : List ℕ) (place bad k : ℕ) : Type 0 
       → pageAt (R .sizes .p) (stateOf (plan R) (originalsIn (R .sizes) one) place) t
       ≡ pageAt (R .sizes .p) (stateOf (plan R) (originalsIn (R .sizes) other) place) t
 
--- exactly these are lost, at the place that mend gives for the marks
+-- exactly these are lost; the place is mend's
 pub record LostExactly : Type 0 where
   pub unseen : (R : Request) (chip : Chip) (area flags : List ℕ) (bad : ℕ) → rebuildAnswer R chip area flags bad .number ≡ 0 → (wear : Wear)
       → (k : ℕ) → k < originalCount (R .sizes) → flagOf (rebuildAnswer R chip area flags bad) k ≡ 0

@@ -1,4 +1,4 @@
--- An original is lost exactly if two stores at rest that differ in it lead to the same pages.
+-- What is given up cannot be told from the pages that are left, and what can be told is not given up.
 use Rattle.flash.proofs.Kit.{_≡_, refl, sym, ap, _∙_, subst, _⊎_, inl, inr, ⊎-elim, _≢_, Bool, true, false, _&&_, _||_, not, and-false, Option, none, some, List, [], _∷_, ℕ, suc, _+_, _-_, _*_, _/_, _%_, _≤_, _<_}
 use Rattle.flash.proofs.Kit.{div-add-mod', mod-lt, div-lt-iff-lt-mul, arith, eqb, eqb-true, eq-eqb, ne-eqb, length, getD, getD-replicate, replicate}
 use Rattle.flash.specs.Lists.{any, part}
