@@ -12,7 +12,7 @@ use Rattle.split.specs.OneToOne.{isOneToOne}
 use Rattle.split.specs.Split.{isSplit}
 use Rattle.split.specs.Pins.{movesPinned}
 use Rattle.split.specs.Request.{Request, badRequest}
-use Rattle.split.proofs.Answers.{lengths-are}
+use Rattle.method.proofs.basics.AcceptedCalls.{lengths-are}
 use Rattle.method.specs.Move.{AcceptedMove}
 use Rattle.method.specs.Mend.{Reading, reading}
 use Rattle.method.specs.Answers.{badChip, fitsNone}

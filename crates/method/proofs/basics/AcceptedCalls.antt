@@ -15,7 +15,7 @@ use Rattle.flash.proofs.Same.{same-eq, eq-same}
 use Rattle.split.specs.OneToOne.{badList, isOneToOne}
 use Rattle.split.specs.Pins.{movesPinned}
 use Rattle.split.specs.Request.{Request, badRequest}
-use Rattle.split.proofs.Answers.{lengths-are}
+pub use Rattle.split.proofs.Answers.{lengths-are}
 use Rattle.split.proofs.DropLaws.{completed-length, completed-accepted}
 use Rattle.method.specs.Move.{move, AcceptedMove, Lent}
 use Rattle.method.specs.Place.{lastPlace, marksOf}

@@ -5,7 +5,7 @@ use Rattle.flash.specs.Chip.{Chip}
 use Rattle.flash.proofs.Bools.{or-false-left}
 use Rattle.flash.proofs.Bounds.{in-range, product-le}
 use Rattle.split.specs.Request.{Request, requestOf, badRequest}
-use Rattle.split.proofs.Answers.{lengths-are}
+use Rattle.method.proofs.basics.AcceptedCalls.{lengths-are}
 use Rattle.method.specs.Answers.{badChip}
 use Rattle.method.specs.Rebuild.{badAreas}
 use Rattle.mover.specs.inner.Refusals.{rebuildNumber}
