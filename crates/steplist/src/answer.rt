@@ -138,8 +138,8 @@ fn put_move(out: &mut [u8], named: bool, sizes: Sizes, numbers: &[u32; MOST_NUMB
     )
 }
 
-// Answers an input in one form or the other: the answer is written over the front of `out`, and its length is returned. The input's byte behind the limit, if it
-// has one, is overwritten.
+// Answers an input in one form or the other: the answer is written over the front of `out`, and its length is returned. The input's byte
+// behind the limit, if it has one, is overwritten.
 pub fn answer(named: bool, input: &mut [u8], out: &mut [u8; MOST_OUTPUT]) -> usize
     ensures { λ r. ⌜ Written (output named (now (input .entry))) (now (out .entry)) (now (out .exit)) r ⌝ }
     ensures { λ r. ⌜ Counts r (now (out .exit)) ⌝ }

@@ -45,7 +45,8 @@ fn in_order(one: usize, other: usize) -> Originals
 // Those of c(i): D(i), and D(pred(i)) where i is not the top.
 fn coded_originals(sizes: Sizes, list: &[u16], sets: &[u8], set: usize, i: usize) -> Originals
     requires { ⌜ AcceptedMove (moveOf sizes (now list) (now sets)) × (set < sizes .m) × (1 ≤ i) × (i ≤ sizes .n) ⌝ }
-    ensures { λ r. ⌜ (originalsAs r ≡ ascending (coded (moveOf sizes (now (list .entry)) (now (sets .entry))) set i)) × Within (sizes .n * sizes .m) r ⌝ }
+    ensures { λ r. ⌜ (originalsAs r ≡ ascending (coded (moveOf sizes (now (list .entry)) (now (sets .entry))) set i))
+        × Within (sizes .n * sizes .m) r ⌝ }
 {
     let m = sizes.m;
     let mut pages = [0u8; ROW];
