@@ -1,5 +1,5 @@
 -- What an export answers is what the call answers for the entries decoded.
-use Rattle.flash.proofs.Kit.{_≡_, refl, ap, _∙_, ⊎-elim, _≢_, Bool, true, false, cond, List, ℕ, eqb, length, eq-eqb, ne-eqb}
+use Rattle.flash.proofs.Kit.{_≡_, refl, ap, _∙_, ⊎-elim, _≢_, Bool, true, false, cond, List, ℕ, arith, eqb, length, eq-eqb, ne-eqb}
 use Rattle.flash.specs.declared.sizes.Sizes.{Sizes}
 use Rattle.flash.specs.Geometry.{inRange, originalCount}
 use Rattle.flash.specs.Chip.{Chip}
@@ -13,7 +13,7 @@ use Rattle.method.specs.Step.{nothingDone}
 use Rattle.method.specs.Answers.{RunAnswer, runRefused, runAnswer, MendAnswer, mendAnswer, ReadAnswer, readRefused, readAnswer}
 use Rattle.method.specs.Rebuild.{RebuildAnswer, rebuildRefused, rebuildAnswer}
 use Rattle.method.proofs.refusals.ListRefusals.{run-refuses-list, read-refuses-list, rebuild-refuses-list}
-use Rattle.method.proofs.wear.WornLaws.{mend-wear-length}
+use Rattle.method.proofs.wear.WornLaws.{mend-wear}
 use Rattle.recovery.specs.declared.mend.MendResult.{MendResult}
 use Rattle.recovery.specs.MarksRead.{answered}
 use Rattle.mover.specs.declared.run.RunResult.{RunResult}
@@ -67,6 +67,10 @@ two-or-one : (ranged : Bool) → eqb (cond ranged 2 1) 0 ≡ false
 two-or-one true = refl
 two-or-one false = refl
 
+either-way : (b : Bool) (bytes : List ℕ) → bytes ≡ cond b bytes bytes
+either-way true bytes = refl
+either-way false bytes = refl
+
 module _ (Z : Sizes) (list pins sets : List ℕ) (chip : Chip) (work lent : List ℕ) (place budget limit : ℕ) where
   -- another length is refused, and nothing is touched
   pub run-other-length : length lent ≢ wearLength → (ran : RunResult) (wear : Wear)
@@ -94,17 +98,26 @@ module _ (Z : Sizes) (chip : Chip) (lent : List ℕ) where
   mend-other-length ne number wear e = rw (e, ne-eqb (length lent) wearLength ne, two-or-one (inRange Z))
 
   module _ (size : length lent ≡ wearLength) (r : MendResult) (store marks : List ℕ) (is : answered r store marks ≡ mendAnswer Z chip (wearOf lent)) where
-    pub mend-done : (wear : List ℕ) → r .number ≡ 0 → wear ≡ wearBytes (r .wear) → mendedBytes r store marks wear ≡ mendOfBytes Z chip lent
-    unfolding mendOfBytes
-    mend-done wear zero e = rw (eq-eqb (length lent) wearLength size, ← is, e, eq-eqb (r .number) 0 zero)
+    -- what was erased comes back with counters, which are written
+    pub mend-counters : r .erases ≢ 0 → (r .number ≡ 0) × (length (r .wear .counters) ≡ 65)
+    mend-counters ne = ⊎-elim
+        (λ left. absurd (ne (ap (λ (a : MendAnswer). a .erases) is ∙ left .0)))
+        (λ erased. (ap (λ (a : MendAnswer). a .number) is ∙ erased .0, ap (λ (a : MendAnswer). length (a .wear .counters)) is ∙ erased .2 ∙ counters-length lent))
+        (mend-wear Z chip (wearOf lent))
 
-    pub mend-left : r .number ≢ 0 → mendedBytes r store marks lent ≡ mendOfBytes Z chip lent
+    pub mend-done : (wear : List ℕ) → r .erases ≢ 0 → wear ≡ wearBytes (r .wear) → mendedBytes r store marks wear ≡ mendOfBytes Z chip lent
     unfolding mendOfBytes
-    mend-left ne = rw (eq-eqb (length lent) wearLength size, ← is, ne-eqb (r .number) 0 ne)
+    mend-done wear ne e = rw (eq-eqb (length lent) wearLength size, ← is, e, eq-eqb (r .number) 0 (mend-counters ne .0))
 
-    pub mend-counters : length (r .wear .counters) ≡ 65
-    mend-counters =
-        ap (λ (a : MendAnswer). length (a .wear .counters)) is ∙ mend-wear-length Z chip (wearOf lent) ∙ counters-length lent
+    -- and where nothing was, the bytes are those that the counters have
+    pub mend-left : wearBytes (wearOf lent) ≡ lent → r .erases ≡ 0 → mendedBytes r store marks lent ≡ mendOfBytes Z chip lent
+    unfolding mendOfBytes
+    mend-left back none =
+        let kept : wearBytes (r .wear) ≡ lent = ⊎-elim
+        (λ left. ap (λ (a : MendAnswer). wearBytes (a .wear)) is ∙ ap wearBytes (left .1) ∙ back)
+        (λ erased. absurd (omega (arith, none, ap (λ (a : MendAnswer). a .erases) is, erased .1)))
+        (mend-wear Z chip (wearOf lent)) in
+        rw (eq-eqb (length lent) wearLength size, ← is, kept) (ap (mendedBytes r store marks) (either-way (eqb (r .number) 0) lent))
 
 -- ---- the pair made afresh
 module _ (lent : List ℕ) where

@@ -1,9 +1,9 @@
 -- The record of erases as bytes: its counters one by one.
-use Rattle.flash.proofs.Kit.{_≡_, refl, sym, ap, _∙_, List, [], _∷_, _++_, map, ℕ, zero, suc, _+_, _*_, _≤_, _<_, not-suc-le-zero, arith, length, getD, set, take, drop, length-take-le, length-drop, length-append, append-assoc, take-at, drop-at, drop-drop, drop-cons, drop-of-length-le, set-at}
+use Rattle.flash.proofs.Kit.{_≡_, refl, sym, ap, _∙_, List, [], _∷_, _++_, map, ℕ, zero, suc, _+_, _*_, _/_, _%_, _≤_, _<_, not-suc-le-zero, add-one, arith, length, getD, set, take, drop, length-take-le, length-drop, length-append, append-assoc, take-at, drop-at, drop-drop, drop-cons, drop-of-length-le, set-at, take-add, take-append-drop}
 use Rattle.flash.specs.Lists.{range, concatMap}
 use Rattle.flash.specs.declared.wear.Wear.{Wear}
 use Rattle.flash.proofs.Loops.{front-more, front-all, piece-put}
-use Rattle.c_api.specs.Wear.{spelledAt, spelling, wearOf, counterBytes, wearBytes}
+use Rattle.c_api.specs.Wear.{spelled, spelledAt, spelling, wearOf, counterBytes, wearBytes}
 
 map-range-at : (f : ℕ → ℕ) (start size i : ℕ) → i < size → getD (map f (range start size)) i 0 ≡ f (start + i)
 unfolding range
@@ -108,3 +108,46 @@ record-put wear bytes laid four size room e f =
 pub record-length : (wear : Wear) → length (wear .counters) ≡ 65 → length (wearBytes wear) ≡ 265
 unfolding wearBytes spelling
 record-length wear size = length-append (counterBytes wear) _ ∙ omega (arith, counters-laid wear size)
+
+-- ---- the bytes that spell what bytes spell are these
+module _ (bytes : List ℕ) (small : (i : ℕ) → getD bytes i 0 < 256) where
+  spelled-back : (a b c d : ℕ) → a < 256 → b < 256 → c < 256 → d < 256 → spelling (spelled a b c d) ≡ a ∷ b ∷ c ∷ d ∷ []
+  unfolding spelling spelled
+  spelled-back a b c d h₀ h₁ h₂ h₃ =
+      let all : ℕ = a + b * 256 + c * 65536 + d * 16777216 in
+      let q₁ : all / 256 ≡ b + c * 256 + d * 65536 = omega arith in
+      let q₂ : all / 65536 ≡ c + d * 256 = omega arith in
+      let q₃ : all / 16777216 ≡ d = omega arith in
+      let e₀ : all % 256 ≡ a = omega arith in
+      let e₁ : (b + c * 256 + d * 65536) % 256 ≡ b = omega arith in
+      let e₂ : (c + d * 256) % 256 ≡ c = omega arith in
+      let e₃ : d % 256 ≡ d = omega arith in
+      rw (q₁, q₂, q₃, e₀, e₁, e₂, e₃)
+
+  next : (at : ℕ) → at < length bytes → drop at bytes ≡ getD bytes at 0 ∷ drop (at + 1) bytes
+  next at h = rw (add-one at) (drop-cons bytes at 0 h)
+
+  four-back : (at : ℕ) → at + 4 ≤ length bytes → spelling (spelledAt bytes at) ≡ take 4 (drop at bytes)
+  unfolding spelledAt
+  four-back at h =
+      let two : at + 1 + 1 ≡ at + 2 = omega arith in
+      let three : at + 2 + 1 ≡ at + 3 = omega arith in
+      spelled-back _ _ _ _ (small at) (small (at + 1)) (small (at + 2)) (small (at + 3))
+      ∙ rw (next at (omega arith), next (at + 1) (omega arith), two, next (at + 2) (omega arith), three, next (at + 3) (omega arith))
+
+  counters-back : (start size : ℕ) → (start + size) * 4 ≤ length bytes
+      → concatMap spelling (map (λ block. spelledAt bytes (block * 4)) (range start size)) ≡ take (size * 4) (drop (start * 4) bytes)
+  unfolding concatMap range
+  counters-back start zero h = refl
+  counters-back start (suc size) h =
+      let next : suc start * 4 ≡ start * 4 + 4 = omega arith in
+      let more : suc size * 4 ≡ 4 + size * 4 = omega arith in
+      rw (four-back (start * 4) (omega arith), counters-back (suc start) size (omega arith), next, more)
+      (ap (λ (xs : List ℕ). take 4 (drop (start * 4) bytes) ++ take (size * 4) xs) (sym (drop-drop 4 (start * 4) bytes)) ∙ sym (take-add 4 (size * 4) (drop (start * 4) bytes)))
+
+  pub record-back : length bytes ≡ 265 → wearBytes (wearOf bytes) ≡ bytes
+  unfolding wearBytes wearOf counterBytes
+  record-back size =
+      let tail : drop 4 (drop 260 bytes) ≡ getD bytes 264 0 ∷ [] =
+      drop-drop 4 260 bytes ∙ drop-cons bytes 264 0 (omega arith) ∙ ap (λ (l : List ℕ). getD bytes 264 0 ∷ l) (drop-of-length-le bytes {i = 265} (omega arith)) in
+      rw (counters-back 0 65 (omega arith), four-back 260 (omega arith), ← tail, take-append-drop 4 (drop 260 bytes)) (take-append-drop 260 bytes)

@@ -12,7 +12,7 @@ use flash::wear::unworn;
 use recovery::mend::MendResult;
 use recovery::mend::mend;
 
-// The recovery with the counters that bytes spell.
+// The recovery with the counters that bytes spell. They stay as they are where no block was erased.
 fn mend_bytes(sizes: Sizes, store: &mut [u8], marks: &mut [u8], wear: &mut [u8]) -> MendResult
     ensures { λ r. ⌜ mendedBytes r (now (store .exit)) (now (marks .exit)) (now (wear .exit))
         ≡ mendOfBytes sizes (record { store = now (store .entry); marks = now (marks .entry) }) (now (wear .entry)) ⌝ }
@@ -26,7 +26,7 @@ fn mend_bytes(sizes: Sizes, store: &mut [u8], marks: &mut [u8], wear: &mut [u8])
         };
     }
     let mended = mend(sizes, store, marks, decode_wear(wear));
-    if mended.number == 0 {
+    if mended.erases != 0 {
         encode_wear(mended.wear, wear);
     }
     mended

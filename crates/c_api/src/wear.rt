@@ -26,6 +26,7 @@ fn counter(low: u8, second: u8, third: u8, high: u8) -> u32
 pub fn decode_wear(bytes: &[u8]) -> Wear
     requires { ⌜ length (now bytes) ≡ wearLength ⌝ }
     ensures { λ r. ⌜ r ≡ wearOf (now (bytes .entry)) ⌝ }
+    ensures { λ r. ⌜ wearBytes r ≡ now (bytes .entry) ⌝ }
 {
     let mut counters = [0u32; BLOCKS];
     let mut b = 0;

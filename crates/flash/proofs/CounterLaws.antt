@@ -3,6 +3,7 @@ use Rattle.flash.proofs.Kit.{List, _≡_, refl, sym, ap, _∙_, subst, 
 use Rattle.flash.proofs.Kit.{eqb, ltb, length, getD, set, length-set, getD-set-same, getD-set-other, eqb-true, eq-eqb, ltb-true, ltb-false, lt-ltb, le-ltb}
 use Rattle.flash.specs.declared.wear.Wear.{Wear}
 use Rattle.flash.specs.Wear.{counterCount, counterEnd, counterAt, raised, replaces, noted, risen, notedUpTo, refreshed, CorrectFor, PairCorrect}
+use Rattle.flash.specs.inner.Unpaired.{unpaired}
 use Rattle.flash.proofs.Bools.{bool-cases, and-left, and-right, or-false-left, or-false-right, or-cases}
 use Rattle.flash.proofs.Comparisons.{eq-cases, lt-cases}
 
@@ -28,18 +29,6 @@ module _ (wear : Wear) (block count : ℕ) (is : count ≡ raised (counterAt wea
   unfolding risen
   rose-old e = rw (← is, noted-old block count (record { counters = set (wear .counters) block count; highest = wear .highest; block = wear .block }) e)
 
--- one block more
-module _ (wear : Wear) (block highest kept : ℕ) (so-far : _≡_ {A = Wear} (record { counters = wear .counters; highest = highest; block = kept }) (notedUpTo block wear)) where
-  pub pair-replaced : replaces highest kept (counterAt wear block) block ≡ true
-      → _≡_ {A = Wear} (record { counters = wear .counters; highest = counterAt wear block; block = block }) (notedUpTo (block + 1) wear)
-  unfolding notedUpTo
-  pair-replaced e = rw (add-one block, ← so-far, noted-new block (counterAt wear block) (record { counters = wear .counters; highest = highest; block = kept }) e)
-
-  pub pair-kept : replaces highest kept (counterAt wear block) block ≡ false
-      → _≡_ {A = Wear} (record { counters = wear .counters; highest = highest; block = kept }) (notedUpTo (block + 1) wear)
-  unfolding notedUpTo
-  pair-kept e = rw (add-one block, ← so-far, noted-old block (counterAt wear block) (record { counters = wear .counters; highest = highest; block = kept }) e)
-
 -- ---- when a count takes the pair's place
 module _ (highest kept count block : ℕ) where
   pub replaces-when : replaces highest kept count block ≡ true → (highest < count) ⊎ ((count ≡ highest) × (block < kept))
@@ -58,6 +47,25 @@ module _ (highest kept count block : ℕ) where
       let a = or-false-left (ltb highest count) (eqb count highest && ltb block kept) e in
       let b = or-false-right (ltb highest count) (eqb count highest && ltb block kept) e in
       (ltb-false highest count a, λ q. ltb-false block kept (rw (eq-eqb count highest q) at b))
+
+-- the highest of so many counters, once one more is looked at
+noted-highest : (block count : ℕ) (wear : Wear) → ((wear .highest < count) × (noted block count wear .highest ≡ count)) ⊎ ((count ≤ wear .highest) × (noted block count wear .highest ≡ wear .highest))
+noted-highest block count wear = ⊎-elim
+    (λ (e : replaces (wear .highest) (wear .block) count block ≡ true).
+    let new = ap (λ (w : Wear). w .highest) (noted-new block count wear e) in
+    ⊎-elim (λ l. inl (l, new)) (λ l. inr (omega (arith, l .0), new ∙ l .0)) (replaces-when _ _ _ _ e))
+    (λ (e : replaces (wear .highest) (wear .block) count block ≡ false).
+    inr (stays-when _ _ _ _ e .0, ap (λ (w : Wear). w .highest) (noted-old block count wear e)))
+    (bool-cases (replaces (wear .highest) (wear .block) count block))
+
+module _ (wear : Wear) (block highest : ℕ) (so-far : highest ≡ notedUpTo block wear .highest) where
+  pub higher-next : highest < counterAt wear block → counterAt wear block ≡ notedUpTo (block + 1) wear .highest
+  unfolding notedUpTo
+  higher-next h = rw (add-one block) (⊎-elim (λ l. sym (l .1)) (λ l. absurd (omega (arith, l .0))) (noted-highest block (counterAt wear block) (notedUpTo block wear)))
+
+  pub lower-next : counterAt wear block ≤ highest → highest ≡ notedUpTo (block + 1) wear .highest
+  unfolding notedUpTo
+  lower-next h = rw (add-one block) (⊎-elim (λ l. absurd (omega (arith, l .0))) (λ l. so-far ∙ sym (l .1)) (noted-highest block (counterAt wear block) (notedUpTo block wear)))
 
 -- ---- the counters are as they were, but for the one that rises
 pub noted-counters : (block count : ℕ) (wear : Wear) → noted block count wear .counters ≡ wear .counters
@@ -189,3 +197,12 @@ correct-once blocks one other e C D =
     let not-above : other .block < one .block → ⊥ = λ l. C .lowest (other .block) l (at (other .block) ∙ D .has ∙ sym high) in
     let low : one .block ≡ other .block = omega arith in
     λ i. record { counters = e i; highest = high i; block = low i }
+
+-- and it does not matter what the pair was
+pub refreshed-from : (wear : Wear) (highest block : ℕ) → highest ≡ refreshed (unpaired (wear .counters)) .highest → block ≡ refreshed (unpaired (wear .counters)) .block
+    → _≡_ {A = Wear} (record { counters = wear .counters; highest = highest; block = block }) (refreshed wear)
+refreshed-from wear highest block high low =
+    let other : Wear = unpaired (wear .counters) in
+    let same = correct-once counterCount (refreshed other) (refreshed wear) (refreshed-counters other ∙ sym (refreshed-counters wear)) (refreshed-correct other) (refreshed-correct wear) in
+    let back = sym (refreshed-counters other) in
+    (λ i. record { counters = back i; highest = high i; block = low i }) ∙ same

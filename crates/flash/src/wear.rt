@@ -2,6 +2,7 @@
 ghost use mathlib.Core.Path.{_≡_};
 ghost use Prim.Native.Nat.{_<_};
 ghost use Rattle.flash.specs.Wear.{raised, replaces, risen, refreshed, unworn};
+ghost use Rattle.flash.specs.inner.Unpaired.{unpaired};
 
 // The spare and the most data blocks.
 pub const BLOCKS: usize = 65;
@@ -68,21 +69,39 @@ pub fn rise(counters: &mut [u32; BLOCKS], highest: u32, kept: u8, block: usize) 
     }
 }
 
+// The highest count. The block that has it is looked for by itself, as vectors take a loop for the count alone.
+fn highest_of(counters: &[u32; BLOCKS]) -> u32
+    ensures { λ r. ⌜ r ≡ refreshed (unpaired (now (counters .entry))) .highest ⌝ }
+{
+    let mut highest = 0u32;
+    for block in 0..BLOCKS {
+        let count = counters[block];
+        if highest < count {
+            highest = count;
+        }
+    }
+    highest
+}
+
+// The lowest block that has the highest count.
+fn lowest_with(counters: &[u32; BLOCKS], highest: u32) -> u8
+    requires { ⌜ highest ≡ refreshed (unpaired (now counters)) .highest ⌝ }
+    ensures { λ r. ⌜ r ≡ refreshed (unpaired (now (counters .entry))) .block ⌝ }
+{
+    let mut block = 0;
+    while counters[block] != highest {
+        block += 1;
+    }
+    block as u8
+}
+
 // The pair made afresh from all counters.
 pub fn refresh(mut wear: Wear) -> Wear
     ensures { λ r. ⌜ r ≡ refreshed wear ⌝ }
 {
-    let mut highest = 0u32;
-    let mut lowest = 0u8;
-    for block in 0..BLOCKS {
-        let count = wear.counters[block];
-        let named = block as u8;
-        if replaces(highest, lowest, count, named) {
-            highest = count;
-            lowest = named;
-        }
-    }
+    let counters = wear.counters;
+    let highest = highest_of(&counters);
     wear.highest = highest;
-    wear.block = lowest;
+    wear.block = lowest_with(&counters, highest);
     wear
 }

@@ -1,5 +1,5 @@
 -- The counters after operations: of two lists, step by step, and number 12 once the move is under way.
-use Rattle.flash.proofs.Kit.{_≡_, refl, ap, _∙_, ⊎-elim, true, false, _||_, and-false, List, [], _∷_, _++_, Option, none, some, ℕ, zero, suc, _+_, _≤_, _<_, arith, eqb, length, getD, replicate, ne-eqb, le-ltb}
+use Rattle.flash.proofs.Kit.{_≡_, refl, ap, _∙_, _⊎_, inl, inr, ⊎-elim, true, false, _||_, and-false, List, [], _∷_, _++_, Option, none, some, ℕ, zero, suc, _+_, _≤_, _<_, arith, eqb, length, getD, replicate, ne-eqb, le-ltb}
 use Rattle.flash.specs.Tables.{refusal}
 use Rattle.flash.specs.Chip.{Chip}
 use Rattle.flash.specs.Wear.{counterEnd, counterAt, risen, unworn}
@@ -61,23 +61,30 @@ run-wear-length R chip work wear place budget limit = ⊎-elim
     (λ (e : eqb (refusal (runRows R chip work wear place limit)) 0 ≡ false). rw e refl)
     (bool-cases (eqb (refusal (runRows R chip work wear place limit)) 0))
 
-pub mend-wear-length : (Z : Sizes) (chip : Chip) (wear : Wear) → length (mendAnswer Z chip wear .wear .counters) ≡ length (wear .counters)
+-- a mend that erases nothing leaves the record, and one that erases is not refused
+pub mend-wear : (Z : Sizes) (chip : Chip) (wear : Wear)
+    → ((mendAnswer Z chip wear .erases ≡ 0) × (mendAnswer Z chip wear .wear ≡ wear))
+    ⊎ ((mendAnswer Z chip wear .number ≡ 0) × (mendAnswer Z chip wear .erases ≡ 1) × (length (mendAnswer Z chip wear .wear .counters) ≡ length (wear .counters)))
 unfolding mendAnswer mended
-mend-wear-length Z chip wear = ⊎-elim
+mend-wear Z chip wear = ⊎-elim
     (λ (q : eqb number 0 ≡ true). go q (reading Z (chip .marks)) refl)
-    (λ (q : eqb number 0 ≡ false). rw q refl)
+    (λ (q : eqb number 0 ≡ false). rw q (inl (refl, refl)))
     (bool-cases (eqb number 0))
   where
     number : ℕ
     number = refusal (mendRows Z chip)
 
-    found-length : (place : ℕ) (toErase : Option ℕ) → length (mended Z chip wear (record { place = place; toErase = toErase }) .wear .counters) ≡ length (wear .counters)
-    found-length place none = refl
-    found-length place (some b) = risen-length b wear
+    found-wear : (place : ℕ) (toErase : Option ℕ) → (let answer = mended Z chip wear (record { place = place; toErase = toErase }) in
+        ((answer .erases ≡ 0) × (answer .wear ≡ wear))
+        ⊎ ((answer .number ≡ 0) × (answer .erases ≡ 1) × (length (answer .wear .counters) ≡ length (wear .counters))))
+    found-wear place none = inl (refl, refl)
+    found-wear place (some b) = inr (refl, refl, risen-length b wear)
 
-    go : eqb number 0 ≡ true → (found : Option Reading) → reading Z (chip .marks) ≡ found → length (mendAnswer Z chip wear .wear .counters) ≡ length (wear .counters)
-    go q none e = rw (q, e)
-    go q (some found) e = rw (q, e) (found-length (found .place) (found .toErase))
+    go : eqb number 0 ≡ true → (found : Option Reading) → reading Z (chip .marks) ≡ found
+        → ((mendAnswer Z chip wear .erases ≡ 0) × (mendAnswer Z chip wear .wear ≡ wear))
+        ⊎ ((mendAnswer Z chip wear .number ≡ 0) × (mendAnswer Z chip wear .erases ≡ 1) × (length (mendAnswer Z chip wear .wear .counters) ≡ length (wear .counters)))
+    go q none e = rw (q, e) (inl (refl, refl))
+    go q (some found) e = rw (q, e) (found-wear (found .place) (found .toErase))
 
 -- ---- a module that was never erased passes the highest limit
 zeros-at : (count b : ℕ) → _≡_ {A = ℕ} (getD (replicate count 0) b 0) 0

@@ -19,17 +19,18 @@ decode-wear-requires c κs = c .before .before .before .if1 .left
 encode-wear-requires : tie.Need-encode-wear-requires
 encode-wear-requires c κs =
     let m = c .before .before .before .before .before .before .before in
-    (sized m, mend-counters _ _ _ (sized m) _ _ _ (rw (m .before .decode-wear .ensures) at (m .mend .ensures)))
+    (sized m, mend-counters _ _ _ (sized m) _ _ _ (rw (m .before .decode-wear .ensures .0) at (m .mend .ensures)) (c .before .if2 .taken) .1)
 
 returns-2 : tie.Need-returns-2
 returns-2 c =
     let m = c .before .before .before .before .before .before .before .before .before .before in
-    mend-done _ _ _ (sized m) _ _ _ (rw (m .before .decode-wear .ensures) at (m .mend .ensures)) _ (c .before .before .before .before .if2 .taken) (c .before .before .encode-wear .ensures)
+    mend-done _ _ _ (sized m) _ _ _ (rw (m .before .decode-wear .ensures .0) at (m .mend .ensures)) _ (c .before .before .before .before .if2 .taken) (c .before .before .encode-wear .ensures)
 
 returns-3 : tie.Need-returns-3
 returns-3 c =
     let m = c .before .before .before .before .before .before in
-    mend-left _ _ _ (sized m) _ _ _ (rw (m .before .decode-wear .ensures) at (m .mend .ensures)) (c .if2 .left)
+    let d = m .before .decode-wear .ensures in
+    mend-left _ _ _ (sized m) _ _ _ (rw (d .0) at (m .mend .ensures)) (rw (d .0) at (d .1)) (c .if2 .left)
 
 pub mend-bytes-spec : {M : Type 1} → statement M
 mend-bytes-spec =

@@ -12,7 +12,7 @@ returns-2 : tie.Need-returns-2
 returns-2 c =
     let e = c .before .before in
     let r = e .before .before in
-    refresh-done _ (r .before .before .before .if1 .left) _ _ (r .refresh .ensures ∙ ap refreshed (r .before .decode-wear .ensures)) (e .encode-wear .ensures)
+    refresh-done _ (r .before .before .before .if1 .left) _ _ (r .refresh .ensures ∙ ap refreshed (r .before .decode-wear .ensures .0)) (e .encode-wear .ensures)
 
 pub mover-wear-refresh-spec : {M : Type 1} → statement M
 mover-wear-refresh-spec =

@@ -33,14 +33,14 @@ sized c = c .before .before .before .before .before .before .before .before .bef
 encode-wear-requires : tie.Need-encode-wear-requires
 encode-wear-requires c κs =
     let m = c .before .before .before .before .before .before .before .before .before .before in
-    (sized m, ap (λ (a : RunAnswer). length (a .wear .counters)) (m .run .ensures .0) ∙ run-wear-length _ _ _ _ _ _ _ ∙ rw (m .before .decode-wear .ensures) (counters-length _))
+    (sized m, ap (λ (a : RunAnswer). length (a .wear .counters)) (m .run .ensures .0) ∙ run-wear-length _ _ _ _ _ _ _ ∙ rw (m .before .decode-wear .ensures .0) (counters-length _))
 
 returns-2 : tie.Need-returns-2
 returns-2 c =
     let m = c .before .before .before .before .before .before .before .before .before .before .before .before .before in
     let d = m .before .before .before .before .before .before .before .before .decode .ensures in
     run-done _ _ _ _ _ _ _ _ _ _ (sized m) _ _ _ _
-    (run-exported _ _ _ _ _ (front-is _ _ _ _ (d .0) (d .1)) _ _ _ _ _ _ _ (rw (m .before .decode-wear .ensures) at (m .run .ensures .0)))
+    (run-exported _ _ _ _ _ (front-is _ _ _ _ (d .0) (d .1)) _ _ _ _ _ _ _ (rw (m .before .decode-wear .ensures .0) at (m .run .ensures .0)))
     _ (c .before .before .before .before .if2 .taken) (c .before .before .encode-wear .ensures)
 
 returns-3 : tie.Need-returns-3
@@ -48,7 +48,7 @@ returns-3 c =
     let m = c .before .before .before .before .before .before .before .before .before in
     let d = m .before .before .before .before .before .before .before .before .decode .ensures in
     run-left _ _ _ _ _ _ _ _ _ _ (sized m) _ _ _ _
-    (run-exported _ _ _ _ _ (front-is _ _ _ _ (d .0) (d .1)) _ _ _ _ _ _ _ (rw (m .before .decode-wear .ensures) at (m .run .ensures .0))) (c .if2 .left)
+    (run-exported _ _ _ _ _ (front-is _ _ _ _ (d .0) (d .1)) _ _ _ _ _ _ _ (rw (m .before .decode-wear .ensures .0) at (m .run .ensures .0))) (c .if2 .left)
 
 pub run-bytes-spec : {M : Type 1} → statement M
 run-bytes-spec =

@@ -1,7 +1,7 @@
 -- `decode_wear` reads a counter a turn, and then the pair.
-use Rattle.flash.proofs.Kit.{_≡_, refl, _++_, _-_, _≤_, arith, needs, length, take, drop}
-use Rattle.c_api.specs.Wear.{spelledAt, wearOf}
-use Rattle.c_api.proofs.WearLaws.{read-more, read-all}
+use Rattle.flash.proofs.Kit.{_≡_, refl, ap, _∙_, _++_, _-_, _≤_, arith, needs, length, take, drop}
+use Rattle.c_api.specs.Wear.{spelledAt, wearOf, wearBytes}
+use Rattle.c_api.proofs.WearLaws.{read-more, read-all, record-back}
 use Rattle.c_api.proofs.wear.decode_wear.Statement.{statement}
 use Rattle.c_api.proofs.wear.decode_wear.Tie as tie
 
@@ -26,7 +26,9 @@ returns : tie.Need-returns Inv-loop μ-loop
 unfolding spelledAt
 returns c =
     let l = c .before .before .before .before .before .before .before in
-    read-all (l .before .before .args .bytes .now) _ (l .loop .counters) (l .loop .b) _ (l .loop .inv .2) (omega arith) (l .loop .inv .0) (c .before .counter2 .ensures)
+    let bytes = l .before .before .args .bytes .now in
+    let is = read-all bytes _ (l .loop .counters) (l .loop .b) _ (l .loop .inv .2) (omega arith) (l .loop .inv .0) (c .before .counter2 .ensures) in
+    (is, ap wearBytes is ∙ record-back bytes (λ i. omega (arith, c .shared-slice-known10 .given i)) (l .before .before .pre))
 
 pub decode-wear-spec : {M : Type 1} → statement M
 decode-wear-spec =
