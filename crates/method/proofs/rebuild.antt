@@ -8,8 +8,10 @@ pub mod Taken
 pub mod Right
 pub mod CodedSteps
 pub mod SameShape
+pub mod PageSets
 pub mod Units
 pub mod States
+pub mod UnitStores
 pub mod FullReads
 pub mod Lost
 pub mod LastPages

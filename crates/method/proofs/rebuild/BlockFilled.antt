@@ -25,6 +25,7 @@ module _ (Z : Sizes) where
 
   -- the marks of a place where a block is begun
   pub record Begun (start : ℕ) (pass : Pass) (block : ℕ) : Type 0 where
+    pub stands : Stands Z start pass block 0
     pub shape : Shape Z (marksOf Z start) block (suc block) (letterAbove pass)
     pub empty : (q : ℕ) → q < m → markAt (marksOf Z start) (slot m block q) ≡ erased
 
@@ -60,6 +61,7 @@ module _ (Z : Sizes) where
       let A = marksOf-at Z start in
       let T = shape-filling Z start in-move (marksOf Z start) A (omega (arith, S .pages-is)) in
       record {
+        stands = S;
         shape = subst (λ (p : Pass). Shape Z (marksOf Z start) block (suc block) (letterAbove p)) (S .pass-is)
             (subst (λ (b : ℕ). Shape Z (marksOf Z start) b (suc b) (letterAbove (passAt Z start))) (S .block-is) T);
         empty = λ q k.

@@ -8,20 +8,20 @@ use Rattle.flash.specs.Chip.{isFull}
 use Rattle.flash.proofs.Bools.{bool-cases, never-both, fails}
 use Rattle.split.specs.Split.{destBlock, setOf}
 use Rattle.method.specs.Move.{Move, AcceptedMove}
-use Rattle.method.specs.Cycle.{D, dest, pred, isTop, coded, sentTo}
-use Rattle.method.specs.Place.{Pass, forward, backward, written}
+use Rattle.method.specs.Cycle.{D, dest, pred, sentTo}
+use Rattle.method.specs.Place.{Pass, forward, backward, code, written}
 use Rattle.method.specs.Read.{readSlots}
 use Rattle.method.specs.State.{heldOriginals}
 use Rattle.method.specs.Step.{originalsOf}
 use Rattle.method.specs.Rebuild.{apart, setPage}
-use Rattle.method.proofs.basics.EachNumber.{Each, each-cons, each-one}
+use Rattle.method.proofs.basics.EachNumber.{Each, each-one}
 use Rattle.method.proofs.basics.Indexes.{slot-div, slot-mod}
-use Rattle.method.proofs.cycles.Orbits.{DataBlock}
-use Rattle.method.proofs.cycles.SetCycles.{set-in, block-in, D-page, D-is, dest-is, pred-in, pred-dest, sent-in, entry-sent, sent-entry}
+use Rattle.method.proofs.cycles.SetCycles.{set-in, block-in, D-is, dest-is, pred-dest, sent-in, entry-sent}
 use Rattle.method.proofs.places.PagesHeld.{edge}
 use Rattle.method.proofs.states.PagesWritten.{number-in}
 use Rattle.method.proofs.rebuild.Lists.{has, either, has-apart}
 use Rattle.method.proofs.rebuild.BlockFilled.{JustFilled, marksBegun}
+use Rattle.method.proofs.rebuild.PageSets.{setAt, held-set}
 use Rattle.method.proofs.rebuild.OtherSum.{EachHas, each-has, each-added}
 use Rattle.method.proofs.rebuild.ZeroSum.{LastPage, L, lastSlot, lastOriginals, rest, zero as zeroSum, zero-is, reads-begun}
 
@@ -36,21 +36,13 @@ module _ (M : Move) (A : AcceptedMove M) where
     pub of-set : Each (λ j. setOf (M .sets) j ≡ set) (originalsOf M pass block q)
 
   forth : (block q : ℕ) → suc block ≤ n → q < m → PageSet forward block q
-  unfolding setPage originalsOf heldOriginals written coded
-  forth block q h k =
-      let v-in : DataBlock n (block + 1) = record { low = omega arith; high = omega arith } in
-      let own = D-page M A q k (block + 1) v-in .in-set in
-      let theirs = D-page M A q k (pred M q (block + 1)) (pred-in M A q k (block + 1) v-in) .in-set in
-      let Q : ℕ → Type 0 = λ j. setOf (M .sets) j ≡ q in
-      record {
-        set = q;
-        set-ok = k;
-        page-is = refl;
-        of-set = ⊎-elim
-            (λ (t : isTop M q (block + 1) ≡ true). rw t (each-one Q (D M q (block + 1)) own))
-            (λ (t : isTop M q (block + 1) ≡ false). rw t (each-cons Q (D M q (block + 1)) (D M q (pred M q (block + 1)) ∷ []) own (each-one Q (D M q (pred M q (block + 1))) theirs)))
-            (bool-cases (isTop M q (block + 1)));
-      }
+  unfolding setPage originalsOf heldOriginals written setAt
+  forth block q h k = record {
+    set = q;
+    set-ok = k;
+    page-is = refl;
+    of-set = held-set M A code block q k (λ e. h);
+  }
 
   back : (block q : ℕ) → 1 ≤ block → block ≤ n → q < m → PageSet backward block q
   unfolding setPage originalsOf heldOriginals written destBlock
