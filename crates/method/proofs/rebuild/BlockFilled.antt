@@ -8,7 +8,7 @@ use Rattle.flash.proofs.Blocks.{full-at}
 use Rattle.flash.proofs.Bounds.{slot-in-marks}
 use Rattle.flash.proofs.Comparisons.{lt-cases}
 use Rattle.method.specs.Move.{Move, AcceptedMove}
-use Rattle.method.specs.Place.{Pass, forward, backward, lastPlace, passAt, filling, filled, heldMark, marksOf}
+use Rattle.method.specs.Place.{Pass, forward, backward, lastPlace, passAt, heldMark, marksOf}
 use Rattle.method.specs.Mend.{Reading, forwardTorn, backwardTorn, forwardFull, backwardFull, reading}
 use Rattle.method.specs.inner.Shape.{Shape}
 use Rattle.method.proofs.basics.Indexes.{Order, less, same, more, order, each-slot, clash}

@@ -1,9 +1,7 @@
 -- An original that is lost: a store of zeros, and one with ones where read needs the slot, lead to the same pages.
-use Rattle.flash.proofs.Kit.{_≡_, refl, sym, ap, ap₂, _∙_, subst, _⊎_, inl, inr, ⊎-elim, _≢_, Bool, true, false, cond, _&&_, _||_, not, Option, none, some, List, [], _∷_, ℕ, zero, suc, _+_, _-_, _*_, _/_, _%_, _≤_, _<_}
-use Rattle.flash.proofs.Kit.{div-add-mod', mod-lt, div-lt-iff-lt-mul, arith, eqb, eqb-true, eq-eqb, length, getD, getD-replicate, replicate, length-replicate, ext-getD, not-suc-le-zero, xor-self}
-use Rattle.flash.specs.Lists.{any, part}
+use Rattle.flash.proofs.Kit.{_≡_, refl, sym, ap, ap₂, _∙_, subst, ⊎-elim, _≢_, Bool, true, false, _&&_, some, List, [], _∷_, ℕ, suc, _+_, _-_, _/_, _%_, _≤_, _<_}
+use Rattle.flash.proofs.Kit.{arith, eqb, eqb-true, eq-eqb, length, getD, getD-replicate, replicate, length-replicate, ext-getD, not-suc-le-zero}
 use Rattle.flash.specs.declared.sizes.Sizes.{Sizes}
-use Rattle.flash.specs.declared.wear.Wear.{Wear}
 use Rattle.flash.specs.Geometry.{slot, slotOf, originalCount, slotCount, letter}
 use Rattle.flash.specs.PageSum.{_⊕_, sum}
 use Rattle.flash.specs.Chip.{Chip, pageAt, isFull, isUnfinished}
@@ -13,30 +11,27 @@ use Rattle.flash.proofs.Comparisons.{eq-cases}
 use Rattle.flash.proofs.Sums.{sum-one}
 use Rattle.split.specs.Split.{setOf}
 use Rattle.split.specs.Request.{Request}
-use Rattle.method.specs.Move.{Move, plan, AcceptedMove}
-use Rattle.method.specs.Place.{Pass, lastPlace, marksOf}
+use Rattle.method.specs.Move.{Move, AcceptedMove}
+use Rattle.method.specs.Place.{marksOf}
 use Rattle.method.specs.Read.{readSlots}
-use Rattle.method.specs.State.{originalsIn, atRest, stateOf}
 use Rattle.method.specs.Step.{originalsOf}
-use Rattle.method.specs.Mend.{Reading, seen}
-use Rattle.method.specs.Answers.{mendAnswer}
+use Rattle.method.specs.Mend.{seen}
 use Rattle.method.specs.Runs.{Start}
-use Rattle.method.specs.Rebuild.{setPage, zeroSlots, rebuiltFrom, rebuiltFlag, rebuildAnswer, RebuildAnswer, wholeMove}
+use Rattle.method.specs.Rebuild.{setPage, zeroSlots, rebuiltFrom, rebuiltFlag, RebuildAnswer, wholeMove}
 use Rattle.method.specs.Unreadable.{flagOf, Unseen, LostExactly}
 use Rattle.method.specs.inner.Shape.{Shape}
 use Rattle.method.proofs.basics.EachNumber.{Each}
 use Rattle.method.proofs.basics.Indexes.{clash}
-use Rattle.method.proofs.basics.MoveShape.{Shows}
 use Rattle.method.proofs.cycles.SetCycles.{set-in}
 use Rattle.method.proofs.places.PlaceShape.{letterAbove}
 use Rattle.method.proofs.states.RunsAddUp.{start-page}
 use Rattle.method.proofs.rebuild.Lists.{has, either, mix}
-use Rattle.method.proofs.rebuild.BlockFilled.{JustFilled, BlockTorn, block-torn, filled-there, marksBegun, shows-begun}
+use Rattle.method.proofs.rebuild.BlockFilled.{JustFilled, block-torn, filled-there, marksBegun}
 use Rattle.method.proofs.rebuild.FullReads.{full-reads}
-use Rattle.method.proofs.rebuild.LastPages.{PageSet, page-set, rest-apart, not-last}
-use Rattle.method.proofs.rebuild.OtherSum.{EachHas, has-each, zeroOf, rest-inside}
+use Rattle.method.proofs.rebuild.LastPages.{page-set, rest-apart, not-last}
+use Rattle.method.proofs.rebuild.OtherSum.{has-each, zeroOf, rest-inside}
 use Rattle.method.proofs.rebuild.SameShape.{slots-same}
-use Rattle.method.proofs.rebuild.Taken.{RebuildTaken, rebuild-taken, FromCases, by-own, by-other, lost-torn, lost-full, from-cases, page-length, flag-is}
+use Rattle.method.proofs.rebuild.Taken.{RebuildTaken, rebuild-taken, FromCases, by-own, by-other, lost-torn, lost-full, from-cases, flag-is}
 use Rattle.method.proofs.rebuild.Units.{bitPage, bit-add}
 use Rattle.method.proofs.rebuild.UnitStores.{in-blocks, ButOne, but-torn, but-last, unitValue, unitStore, unit-starts, valueIn, is-value, unitPages, unit-shows, unit-size, zeros-at}
 use Rattle.method.proofs.rebuild.ZeroSum.{L, lastSlot, lastOriginals, rest, rest-bytes}

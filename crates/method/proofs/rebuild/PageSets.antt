@@ -1,5 +1,5 @@
 -- The set of a page, by what it holds.
-use Rattle.flash.proofs.Kit.{_≡_, refl, ap, _∙_, ⊎-elim, true, false, cond, List, [], _∷_, ℕ, _+_, _≤_, _<_, not-suc-le-zero, arith, ltb}
+use Rattle.flash.proofs.Kit.{_≡_, refl, ⊎-elim, true, false, cond, [], _∷_, ℕ, _+_, _<_, not-suc-le-zero, arith, ltb}
 use Rattle.flash.specs.declared.sizes.Sizes.{Sizes}
 use Rattle.flash.specs.Geometry.{numberAt}
 use Rattle.flash.proofs.Bools.{bool-cases}
@@ -25,6 +25,13 @@ module _ (M : Move) where
   setAt code b q = q
   setAt final b q = setOf (M .sets) (sentTo M (numberAt m b q))
 
+  -- code lies below the highest block
+  abbrev pub Within : Held → (b : ℕ) → Type 0
+  Within blank b = Unit
+  Within plain b = Unit
+  Within code b = b < n
+  Within final b = Unit
+
   module _ (A : AcceptedMove M) where
     coded-set : (q v : ℕ) → q < m → DataBlock n v → Each (λ j. setOf (M .sets) j ≡ q) (coded M q v)
     unfolding coded
@@ -38,9 +45,9 @@ module _ (M : Move) where
         (bool-cases (isTop M q v))
 
     -- all that a page holds is of its set
-    pub held-set : (held : Held) (b q : ℕ) → q < m → (held ≡ code → b < n) → Each (λ j. setOf (M .sets) j ≡ setAt held b q) (heldOriginals M held b q)
+    pub held-set : (held : Held) (b q : ℕ) → q < m → Within held b → Each (λ j. setOf (M .sets) j ≡ setAt held b q) (heldOriginals M held b q)
     unfolding heldOriginals setAt
     held-set blank b q k h = λ i l. absurd (not-suc-le-zero l)
     held-set plain b q k h = each-one (λ j. setOf (M .sets) j ≡ setOf (M .sets) (numberAt m b q)) (numberAt m b q) refl
-    held-set code b q k h = coded-set q (b + 1) k (record { low = omega arith; high = omega (arith, h refl) })
+    held-set code b q k h = coded-set q (b + 1) k (record { low = omega arith; high = omega arith })
     held-set final b q k h = each-one (λ j. setOf (M .sets) j ≡ setOf (M .sets) (sentTo M (numberAt m b q))) (sentTo M (numberAt m b q)) refl

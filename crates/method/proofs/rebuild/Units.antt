@@ -1,26 +1,25 @@
 -- While a block is unfinished: the originals whose read has a slot are made ones, all others zeros. Then no page but that of the slot is other than zeros.
-use Rattle.flash.proofs.Kit.{_≡_, refl, sym, ap, ap₂, _∙_, subst, ⊎-elim, _≢_, Bool, true, false, cond, _&&_, _||_, or-false, and-false, List, [], _∷_, ℕ, suc, _+_, _-_, _/_, _≤_, _<_, arith, eqb}
-use Rattle.flash.proofs.Kit.{eqb-true, ne-eqb, lt-ltb, le-ltb, length, getD, replicate, length-replicate}
+use Rattle.flash.proofs.Kit.{_≡_, refl, sym, ap, ap₂, _∙_, subst, ⊎-elim, _≢_, Bool, true, false, cond, _&&_, _||_, or-false, and-false, List, [], _∷_, ℕ, suc, _+_, _-_, _≤_, _<_, arith, eqb}
+use Rattle.flash.proofs.Kit.{eqb-true, ne-eqb, lt-ltb, le-ltb, length, getD, replicate, getD-replicate, length-replicate}
 use Rattle.split.proofs.OneToOneLaws.{Distinct}
 use Rattle.flash.specs.Lists.{any}
 use Rattle.flash.specs.declared.sizes.Sizes.{Sizes}
 use Rattle.flash.specs.Geometry.{slot, slotOf, blockOf, numberAt, originalCount, letter}
 use Rattle.flash.specs.PageSum.{_⊕_, sum}
-use Rattle.flash.specs.Chip.{markAt, isFull}
-use Rattle.flash.proofs.Bools.{bool-cases}
+use Rattle.flash.specs.Chip.{markAt}
 use Rattle.flash.proofs.Blocks.{full-at}
 use Rattle.flash.proofs.Comparisons.{ne-lt}
 use Rattle.flash.proofs.Sums.{⊕-nil, ⊕-comm, ⊕-zeros, ⊕-self, sum-one}
 use Rattle.split.specs.Split.{destBlock, setOf}
 use Rattle.method.specs.Move.{Move, AcceptedMove}
-use Rattle.method.specs.Cycle.{D, dest, pred, isTop, coded, sentTo}
+use Rattle.method.specs.Cycle.{D, dest, pred, coded, sentTo}
 use Rattle.method.specs.Place.{Pass, forward, backward, Held, plain, code, final, above}
 use Rattle.method.specs.Read.{fullOf, codedSlot, plainSlot, finalSlot, readSlots}
 use Rattle.method.specs.inner.Shape.{Shape}
 use Rattle.method.proofs.basics.Indexes.{slot-div}
 use Rattle.method.proofs.basics.MoveShape.{Shows}
 use Rattle.method.proofs.cycles.Orbits.{DataBlock}
-use Rattle.method.proofs.cycles.SetCycles.{set-in, block-in, D-page, pred-in, dest-is, sent-in, entry-sent}
+use Rattle.method.proofs.cycles.SetCycles.{block-in, D-page, pred-in, dest-is, sent-in, entry-sent}
 use Rattle.method.proofs.places.PlaceShape.{letterAbove, which-pass}
 use Rattle.method.proofs.states.PagesWritten.{number-in}
 use Rattle.method.proofs.states.StatesOfPlaces.{slot-number}
@@ -35,6 +34,16 @@ bitPage P b = replicate P (cond b 1 0)
 pub bit-length : (P : ℕ) (b : Bool) → length (bitPage P b) ≡ P
 unfolding bitPage
 bit-length P b = length-replicate P _
+
+pub bit-byte : (P : ℕ) (b : Bool) → 1 ≤ P → getD (bitPage P b) 0 0 ≡ cond b 1 0
+unfolding bitPage
+bit-byte P b h = getD-replicate P 0 (cond b 1 0) 0 h
+
+pub bit-same : (a b : Bool) → _≡_ {A = ℕ} (cond a 1 0) (cond b 1 0) → a ≡ b
+bit-same true true e = refl
+bit-same true false e = absurd (omega (arith, e))
+bit-same false true e = absurd (omega (arith, e))
+bit-same false false e = refl
 
 pub bit-add : (P : ℕ) (a b : Bool) → bitPage P a ⊕ bitPage P b ≡ bitPage P (either a b)
 unfolding bitPage either

@@ -3,7 +3,6 @@ use Rattle.flash.proofs.Kit.{_≡_, _≢_, refl, sym, ap, _∙_, ⊎-elim, Bool
 use Rattle.flash.specs.Tables.{Row, refusal}
 use Rattle.flash.specs.Geometry.{inRange, originalCount, slotCount}
 use Rattle.flash.specs.Chip.{Chip}
-use Rattle.flash.specs.declared.wear.Wear.{Wear}
 use Rattle.flash.proofs.Bools.{bool-cases, both, fails, never-both}
 use Rattle.flash.proofs.Comparisons.{eqb-swap}
 use Rattle.flash.proofs.Ranges.{any-range-find}
