@@ -103,7 +103,7 @@ module _ (R : Request) (chip : Chip) (area flags : List ℕ) (bad : ℕ) (T : Re
           ap (λ (held : Held). setAt M held (t / m) (t % m)) (beside (t / m) (t % m) (reads-beside t e .1))
           ∙ sym (eqb-true (setOf (M .sets) j) s (and-left _ _ (sym bits ∙ yes)))
 
-      pub begun-of-set : (k : ℕ) → setOf (M .sets) j ≡ setOf (M .sets) k → EachHas (λ t. isOfSet R place k t ≡ true) (readSlots M (O .begun) j)
+      begun-of-set : (k : ℕ) → setOf (M .sets) j ≡ setOf (M .sets) k → EachHas (λ t. isOfSet R place k t ≡ true) (readSlots M (O .begun) j)
       begun-of-set k same t e = of-set (O .in-move) k t (reads-beside t e .0) (read-set t e ∙ same)
 
   -- ---- no block is unfinished

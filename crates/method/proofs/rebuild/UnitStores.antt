@@ -110,7 +110,7 @@ module _ (R : Request) (chip : Chip) (area flags : List ℕ) (bad : ℕ) (T : Re
     abbrev pub slotSet : (t : ℕ) → ℕ
     slotSet t = setAt M (heldBeside (O .pass) (O .low) (t / m)) (t / m) (t % m)
 
-    pub unit-at : (t : ℕ) → t < slotCount Z → t / m ≢ O .low → unitPages t ≡ bitPage P (test (slotSet t) && eqb u t)
+    unit-at : (t : ℕ) → t < slotCount Z → t / m ≢ O .low → unitPages t ≡ bitPage P (test (slotSet t) && eqb u t)
     unfolding UnitPage
     unit-at t h ne =
         let b = in-blocks t h in

@@ -83,7 +83,7 @@ module _ (R : Request) (chip : Chip) (area flags : List ℕ) (bad : ℕ) (T : Re
   block-of t h = (let l : t / m < n + 1 = div-lt-iff-lt-mul (T .accepted .ranges .m-low) .1 h in omega arith)
 
   -- with no block unfinished, each is full
-  pub all-finished : JustFilled Z (chip .marks) place → (t : ℕ) → t < slotCount Z → isUnfinished m (chip .marks) (t / m) ≡ false
+  all-finished : JustFilled Z (chip .marks) place → (t : ℕ) → t < slotCount Z → isUnfinished m (chip .marks) (t / m) ≡ false
   unfolding letter
   all-finished J t h = ⊎-elim
       (λ (l : t / m < edge (J .pass) (J .block)). full-finished m (chip .marks) (t / m) (letter Z 1) (omega arith) (J .full .below (t / m) l))
