@@ -1,5 +1,6 @@
 -- One page unreadable: what is rebuilt without it, and what is lost.
 pub mod Lists
+pub mod PageSets
 pub mod BlockFilled
 pub mod Values
 pub mod ZeroSum
@@ -10,7 +11,12 @@ pub mod CodedSteps
 pub mod SameShape
 pub mod Units
 pub mod States
+pub mod UnitStores
 pub mod FullReads
-pub mod Lost
 pub mod LastPages
+pub mod OwnSets
+pub mod UsedSums
+pub mod Lost
 pub mod LostStores
+pub mod OnlySum
+pub mod OnlyOther

@@ -29,7 +29,7 @@ use Rattle.method.specs.Runs.{RunsAddUp, StatesReached}
 use Rattle.method.specs.Counts.{RunsCount}
 use Rattle.method.specs.PagesRead.{ReadsCounted}
 use Rattle.method.specs.Demand3.{Demand3}
-use Rattle.method.specs.Unreadable.{TornLosesNothing, RebuiltRight, LostExactly}
+use Rattle.method.specs.Unreadable.{TornLosesNothing, RebuiltRight, LostExactly, OnlyOther, LostFew}
 use Rattle.method.specs.WearCounts.{WearCounts}
 use Rattle.method.specs.HighestCounter.{HighestCounter}
 use Rattle.method.specs.PinsStay.{PinsStay}
@@ -176,6 +176,8 @@ pub record Claims : Type 0 where
   pub torn-loses-nothing : TornLosesNothing
   pub rebuilt-right : RebuiltRight
   pub lost-exactly : LostExactly
+  pub only-other : OnlyOther
+  pub lost-few : LostFew
   pub wear : WearCounts
   pub highest : HighestCounter
   pub pins : PinsStay

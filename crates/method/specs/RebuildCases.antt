@@ -1,11 +1,12 @@
 -- Worked cases with a page that the chip has given up, as those of Cases.antt: the program's case and P3, at places and after cuts.
 use mathlib.Core.Path.{_≡_}
 use mathlib.Core.List.{List, [], _∷_}
+use mathlib.Core.Option.{none, some}
 use Prim.Native.Nat.{ℕ}
-use lib.ListN.{replicate}
-use Rattle.flash.specs.Chip.{Chip}
+use Rattle.flash.specs.PageSum.{sum}
+use Rattle.flash.specs.Chip.{Chip, pageAt}
 use Rattle.split.specs.Request.{Request, requestOf, unpinned}
-use Rattle.method.specs.Rebuild.{RebuildAnswer, rebuildAnswer}
+use Rattle.method.specs.Rebuild.{rebuiltFrom, wholeMove, rebuildAnswer}
 use Rattle.method.specs.Cases.{chip, junk, sizes, two, three, threeTorn, threeBeforeErase}
 
 -- the call leaves these pages and flags, and returns 0
@@ -34,9 +35,14 @@ threePinned = requestOf (three .sizes) (three .list) (0 ∷ 0 ∷ 1 ∷ []) (0 �
 abbrev twoTorn : (byte : ℕ) → Chip
 twoTorn byte = chip (6 ∷ 1 ∷ byte ∷ 8 ∷ 4 ∷ 8 ∷ []) (1 ∷ 1 ∷ 100 ∷ 1 ∷ 0 ∷ 0 ∷ [])
 
+-- and with block 0 filled, which holds the coded pages of block 1
+abbrev twoFilled : (byte : ℕ) → Chip
+twoFilled byte = chip (6 ∷ 1 ∷ byte ∷ 2 ∷ 4 ∷ 8 ∷ []) (1 ∷ 1 ∷ 0 ∷ 0 ∷ 0 ∷ 0 ∷ [])
+
 pub record RebuildCasesHold (byte : ℕ) : Type 0 where
   -- no block is unfinished: the first original by the other sum, the pages of slots 1 and 2
   pub other-sum : Rebuilds three (threeFilled byte 4) 0 (1 ∷ 2 ∷ 4 ∷ []) (1 ∷ 1 ∷ 1 ∷ [])
+  pub other-slots : rebuiltFrom (wholeMove three) (1 ∷ 1 ∷ 0 ∷ 0 ∷ []) (record { place = 3; toErase = none }) 0 0 ≡ some (1 ∷ 2 ∷ [])
   -- and the third too, as the sum of three
   pub sum-of-three : Rebuilds three (threeFilled 5 byte) 3 (1 ∷ 2 ∷ 4 ∷ []) (1 ∷ 1 ∷ 1 ∷ [])
   -- where the slot is not in read's sum, that is taken, though the bytes are nonsense
@@ -51,6 +57,11 @@ pub record RebuildCasesHold (byte : ℕ) : Type 0 where
   pub torn-slot : Rebuilds three (threeTorn byte) 2 (1 ∷ 2 ∷ 4 ∷ []) (1 ∷ 1 ∷ 1 ∷ [])
   -- two pages a block: only the set of the slot is touched
   pub one-set : rebuildAnswer two (twoTorn byte) (junk 4) (junk 4) 0 ≡ record { number = 0; area = 1 ∷ 255 ∷ 4 ∷ 8 ∷ []; flags = 1 ∷ 0 ∷ 1 ∷ 1 ∷ [] }
+  -- two sets, two zero sums: that of the original's own set is added
+  pub own-zero-sum : rebuildAnswer two (twoFilled byte) (junk 4) (junk 4) 2 ≡ record { number = 0; area = 1 ∷ 2 ∷ 4 ∷ 8 ∷ []; flags = 1 ∷ 1 ∷ 1 ∷ 1 ∷ [] }
+  -- with the other's added too there is a third sum: that there is only one more is so within a set
+  pub other-set : (rebuiltFrom (wholeMove two) (twoFilled byte .marks) (record { place = 2; toErase = none }) 2 0 ≡ some (1 ∷ []))
+      × (sum (pageAt 1 (twoFilled byte)) (1 ∷ []) ≡ 1 ∷ []) × (sum (pageAt 1 (twoFilled byte)) (1 ∷ 0 ∷ 3 ∷ 4 ∷ []) ≡ 1 ∷ [])
   -- refusals: the slot behind the last, marks before it, a drop before pins, pins before sets, and lengths first
   pub number-7 : Refuses three threeBeforeErase 4 7
   pub number-6 : Refuses three (chip (5 ∷ 3 ∷ 2 ∷ 4 ∷ []) (1 ∷ 0 ∷ 1 ∷ 0 ∷ [])) 4 6

@@ -1,10 +1,9 @@
 -- What is claimed of a page that the chip gives up: which originals are lost, by which sum the others are rebuilt, and that they are right.
 use mathlib.Core.Bool.{Bool, true, false}
 use mathlib.Core.Path.{_≡_}
-use mathlib.Core.Logic.{_≢_, _⊎_}
+use mathlib.Core.Logic.{_≢_}
 use mathlib.Core.List.{List}
-use mathlib.Core.Option.{some}
-use Prim.Native.Nat.{ℕ, _*_, _/_, _%_, _<_}
+use Prim.Native.Nat.{ℕ, _/_, _%_, _<_}
 use lib.Dec.{eqb}
 use lib.ListN.{length, getD}
 use Rattle.flash.specs.Lists.{any, all, part}
@@ -15,15 +14,15 @@ use Rattle.flash.specs.Chip.{Chip, pageAt, isUnfinished}
 use Rattle.flash.specs.declared.wear.Wear.{Wear}
 use Rattle.split.specs.Split.{setOf}
 use Rattle.split.specs.Request.{Request}
-use Rattle.method.specs.Move.{Move, plan}
-use Rattle.method.specs.Place.{heldAt}
+use Rattle.method.specs.Move.{plan}
+use Rattle.method.specs.Place.{filling, heldAt}
 use Rattle.method.specs.Read.{readSlots, fillerPage}
 use Rattle.method.specs.State.{originalsIn, heldOriginals, stateOf}
-use Rattle.method.specs.Mend.{Reading, seen, reading}
+use Rattle.method.specs.Mend.{seen}
 use Rattle.method.specs.Answers.{mendAnswer}
-use Rattle.method.specs.Rebuild.{rebuiltFrom, wholeMove, RebuildAnswer, rebuildAnswer}
+use Rattle.method.specs.Rebuild.{wholeMove, RebuildAnswer, rebuildAnswer}
 use Rattle.method.specs.Runs.{Start}
-use Rattle.method.specs.Events.{Event, History, starting, moments}
+use Rattle.method.specs.Events.{Event, starting, moments}
 use Rattle.method.specs.Demand3.{AllAllowed, AtEach}
 
 -- the flag and the page of original k
@@ -71,3 +70,49 @@ pub record LostExactly : Type 0 where
   pub lost : (R : Request) (chip : Chip) (area flags : List ℕ) (bad : ℕ) → rebuildAnswer R chip area flags bad .number ≡ 0 → (wear : Wear)
       → (k : ℕ) → k < originalCount (R .sizes) → Unseen R (chip .marks) (mendAnswer (R .sizes) chip wear .place) bad k
       → flagOf (rebuildAnswer R chip area flags bad) k ≡ 0
+
+-- ---- by which sum an original is rebuilt
+module _ (R : Request) (place : ℕ) where
+  open Sizes (R .sizes) using (m, p as P)
+
+  -- the originals whose sum the page of a slot holds at a place
+  unfoldable pub heldIn : (t : ℕ) → List ℕ
+  heldIn t = heldOriginals (wholeMove R) (heldAt (R .sizes) place (t / m) (t % m)) (t / m) (t % m)
+
+  -- all of them are of the set of original k
+  unfoldable pub isOfSet : (k t : ℕ) → Bool
+  isOfSet k t = all (λ j. eqb (setOf (R .sets) j) (setOf (R .sets) k)) (heldIn t)
+
+  -- Slots of blocks that these marks show full, none twice and `bad` left out, whose pages are of the set of original k and at the place sum to
+  -- it, whatever the store held at rest.
+  pub record SumOf (marks : List ℕ) (bad k : ℕ) (slots : List ℕ) : Type 0 where
+    pub once : (i j : ℕ) → i < length slots → j < length slots → getD slots i 0 ≡ getD slots j 0 → i ≡ j
+    pub inside : (t : ℕ) → any (eqb t) slots ≡ true → t < slotCount (R .sizes)
+    pub full : (t : ℕ) → any (eqb t) slots ≡ true → isUnfinished m marks (t / m) ≡ false
+    pub left-out : any (eqb bad) slots ≡ false
+    pub own-set : (t : ℕ) → any (eqb t) slots ≡ true → isOfSet k t ≡ true
+    pub gives : (chip : Chip) → Start R chip → sum (pageAt P (stateOf (plan R) (originalsIn (R .sizes) chip) place)) slots ≡ pageAt P chip (slotOf m k)
+
+-- A page that is said to be rebuilt is such a sum of stored pages, whatever they are: read's if that leaves the slot out, and else the only one.
+pub record RebuiltBy (R : Request) (chip : Chip) (area flags : List ℕ) (place bad k : ℕ) : Type 0 where
+  pub slots : List ℕ
+  pub page : part (R .sizes .p) k (rebuildAnswer R chip area flags bad .area) ≡ sum (pageAt (R .sizes .p) chip) slots
+  pub gives : SumOf R place (chip .marks) bad k slots
+  pub by-read : any (eqb bad) (readSlots (wholeMove R) (seen (chip .marks)) k) ≡ false → slots ≡ readSlots (wholeMove R) (seen (chip .marks)) k
+  pub only : any (eqb bad) (readSlots (wholeMove R) (seen (chip .marks)) k) ≡ true
+      → (other : List ℕ) → SumOf R place (chip .marks) bad k other → (t : ℕ) → any (eqb t) other ≡ any (eqb t) slots
+
+unfoldable pub OnlyOther : Type 0
+OnlyOther =
+    (R : Request) (chip : Chip) (area flags : List ℕ) (bad : ℕ) → rebuildAnswer R chip area flags bad .number ≡ 0 → (wear : Wear)
+    → (k : ℕ) → k < originalCount (R .sizes) → flagOf (rebuildAnswer R chip area flags bad) k ≡ 1
+    → RebuiltBy R chip area flags (mendAnswer (R .sizes) chip wear .place) bad k
+
+-- ---- a slot loses only originals of its own set, and none if it is of the block that is filled at the place
+pub record LostFew : Type 0 where
+  pub own-set : (R : Request) (chip : Chip) (area flags : List ℕ) (bad : ℕ) → rebuildAnswer R chip area flags bad .number ≡ 0 → (wear : Wear)
+      → (k : ℕ) → k < originalCount (R .sizes) → flagOf (rebuildAnswer R chip area flags bad) k ≡ 0
+      → isOfSet R (mendAnswer (R .sizes) chip wear .place) k bad ≡ true
+  pub filled-last : (R : Request) (chip : Chip) (area flags : List ℕ) (bad : ℕ) → rebuildAnswer R chip area flags bad .number ≡ 0 → (wear : Wear)
+      → filling (R .sizes) (mendAnswer (R .sizes) chip wear .place) ≡ bad / R .sizes .m
+      → (k : ℕ) → k < originalCount (R .sizes) → flagOf (rebuildAnswer R chip area flags bad) k ≡ 1

@@ -8,6 +8,7 @@ pub rebuild-cases-hold : (byte : ℕ) → RebuildCasesHold byte
 unfolding all-open apart added setPage zeroSlots rebuiltFrom rebuiltPage rebuiltFlag badAreas rebuildRows rebuilt rebuildAnswer
 rebuild-cases-hold byte = record {
   other-sum = refl;
+  other-slots = refl;
   sum-of-three = refl;
   own-sum = refl;
   final-page = refl;
@@ -16,6 +17,8 @@ rebuild-cases-hold byte = record {
   all-torn = refl;
   torn-slot = refl;
   one-set = refl;
+  own-zero-sum = refl;
+  other-set = (refl, refl, refl);
   number-7 = refl;
   number-6 = refl;
   number-3 = refl;

@@ -8,7 +8,7 @@ use Rattle.flash.proofs.Blocks.{full-at}
 use Rattle.flash.proofs.Bounds.{slot-in-marks}
 use Rattle.flash.proofs.Comparisons.{lt-cases}
 use Rattle.method.specs.Move.{Move, AcceptedMove}
-use Rattle.method.specs.Place.{Pass, forward, backward, lastPlace, passAt, filling, filled, heldMark, marksOf}
+use Rattle.method.specs.Place.{Pass, forward, backward, lastPlace, passAt, heldMark, marksOf}
 use Rattle.method.specs.Mend.{Reading, forwardTorn, backwardTorn, forwardFull, backwardFull, reading}
 use Rattle.method.specs.inner.Shape.{Shape}
 use Rattle.method.proofs.basics.Indexes.{Order, less, same, more, order, each-slot, clash}
@@ -25,6 +25,7 @@ module _ (Z : Sizes) where
 
   -- the marks of a place where a block is begun
   pub record Begun (start : ℕ) (pass : Pass) (block : ℕ) : Type 0 where
+    pub stands : Stands Z start pass block 0
     pub shape : Shape Z (marksOf Z start) block (suc block) (letterAbove pass)
     pub empty : (q : ℕ) → q < m → markAt (marksOf Z start) (slot m block q) ≡ erased
 
@@ -60,6 +61,7 @@ module _ (Z : Sizes) where
       let A = marksOf-at Z start in
       let T = shape-filling Z start in-move (marksOf Z start) A (omega (arith, S .pages-is)) in
       record {
+        stands = S;
         shape = subst (λ (p : Pass). Shape Z (marksOf Z start) block (suc block) (letterAbove p)) (S .pass-is)
             (subst (λ (b : ℕ). Shape Z (marksOf Z start) b (suc b) (letterAbove (passAt Z start))) (S .block-is) T);
         empty = λ q k.

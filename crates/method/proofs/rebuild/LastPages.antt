@@ -1,29 +1,29 @@
 -- The pages of the block that was filled last: the set of each, and that its slot is in no sum of the others.
-use Rattle.flash.proofs.Kit.{_≡_, refl, sym, ap, ap₂, _∙_, subst, ⊎-elim, _≢_, Bool, true, false, cond, _||_, or-false, List, [], _∷_, map, ℕ, zero, suc, _+_, _-_, _*_, _/_, _%_, _≤_, _<_, arith, eqb}
-use Rattle.flash.proofs.Kit.{eqb-true, eq-eqb, not-suc-le-zero, length, getD}
+use Rattle.flash.proofs.Kit.{_≡_, refl, sym, ap, _∙_, subst, ⊎-elim, _≢_, Bool, true, false, or-false, List, [], _∷_, ℕ, suc, _+_, _-_, _/_, _≤_, _<_, arith, eqb}
+use Rattle.flash.proofs.Kit.{eqb-true, eq-eqb, getD}
 use Rattle.flash.specs.Lists.{any}
 use Rattle.flash.specs.declared.sizes.Sizes.{Sizes}
-use Rattle.flash.specs.Geometry.{slot, blockOf, pageOf, numberAt, originalCount, letter}
+use Rattle.flash.specs.Geometry.{blockOf, pageOf, numberAt, letter}
 use Rattle.flash.specs.Chip.{isFull}
 use Rattle.flash.proofs.Bools.{bool-cases, never-both, fails}
 use Rattle.split.specs.Split.{destBlock, setOf}
 use Rattle.method.specs.Move.{Move, AcceptedMove}
-use Rattle.method.specs.Cycle.{D, dest, pred, isTop, coded, sentTo}
-use Rattle.method.specs.Place.{Pass, forward, backward, written}
+use Rattle.method.specs.Cycle.{D, dest, pred, sentTo}
+use Rattle.method.specs.Place.{Pass, forward, backward, code, written}
 use Rattle.method.specs.Read.{readSlots}
 use Rattle.method.specs.State.{heldOriginals}
 use Rattle.method.specs.Step.{originalsOf}
-use Rattle.method.specs.Rebuild.{apart, setPage}
-use Rattle.method.proofs.basics.EachNumber.{Each, each-cons, each-one}
+use Rattle.method.specs.Rebuild.{setPage}
+use Rattle.method.proofs.basics.EachNumber.{Each, each-one}
 use Rattle.method.proofs.basics.Indexes.{slot-div, slot-mod}
-use Rattle.method.proofs.cycles.Orbits.{DataBlock}
-use Rattle.method.proofs.cycles.SetCycles.{set-in, block-in, D-page, D-is, dest-is, pred-in, pred-dest, sent-in, entry-sent, sent-entry}
+use Rattle.method.proofs.cycles.SetCycles.{set-in, block-in, D-is, dest-is, pred-dest, sent-in, entry-sent}
 use Rattle.method.proofs.places.PagesHeld.{edge}
 use Rattle.method.proofs.states.PagesWritten.{number-in}
 use Rattle.method.proofs.rebuild.Lists.{has, either, has-apart}
 use Rattle.method.proofs.rebuild.BlockFilled.{JustFilled, marksBegun}
+use Rattle.method.proofs.rebuild.PageSets.{setAt, held-set}
 use Rattle.method.proofs.rebuild.OtherSum.{EachHas, each-has, each-added}
-use Rattle.method.proofs.rebuild.ZeroSum.{LastPage, L, lastSlot, lastOriginals, rest, zero as zeroSum, zero-is, reads-begun}
+use Rattle.method.proofs.rebuild.ZeroSum.{L, lastSlot, lastOriginals, rest, zero as zeroSum, zero-is, reads-begun}
 
 -- ---- the set of a page
 module _ (M : Move) (A : AcceptedMove M) where
@@ -36,21 +36,13 @@ module _ (M : Move) (A : AcceptedMove M) where
     pub of-set : Each (λ j. setOf (M .sets) j ≡ set) (originalsOf M pass block q)
 
   forth : (block q : ℕ) → suc block ≤ n → q < m → PageSet forward block q
-  unfolding setPage originalsOf heldOriginals written coded
-  forth block q h k =
-      let v-in : DataBlock n (block + 1) = record { low = omega arith; high = omega arith } in
-      let own = D-page M A q k (block + 1) v-in .in-set in
-      let theirs = D-page M A q k (pred M q (block + 1)) (pred-in M A q k (block + 1) v-in) .in-set in
-      let Q : ℕ → Type 0 = λ j. setOf (M .sets) j ≡ q in
-      record {
-        set = q;
-        set-ok = k;
-        page-is = refl;
-        of-set = ⊎-elim
-            (λ (t : isTop M q (block + 1) ≡ true). rw t (each-one Q (D M q (block + 1)) own))
-            (λ (t : isTop M q (block + 1) ≡ false). rw t (each-cons Q (D M q (block + 1)) (D M q (pred M q (block + 1)) ∷ []) own (each-one Q (D M q (pred M q (block + 1))) theirs)))
-            (bool-cases (isTop M q (block + 1)));
-      }
+  unfolding setPage originalsOf heldOriginals written setAt
+  forth block q h k = record {
+    set = q;
+    set-ok = k;
+    page-is = refl;
+    of-set = held-set M A code block q k h;
+  }
 
   back : (block q : ℕ) → 1 ≤ block → block ≤ n → q < m → PageSet backward block q
   unfolding setPage originalsOf heldOriginals written destBlock
@@ -98,6 +90,10 @@ module _ (M : Move) (A : AcceptedMove M) (marks : List ℕ) (place : ℕ) (J : J
   zero-has u =
       ap (has u) (zero-is M A marks place J set set-ok) ∙ has-apart u (lastSlot M A marks place J set set-ok ∷ []) (rest M A marks place J set set-ok)
       ∙ ap (λ (b : Bool). either b (has u (rest M A marks place J set set-ok))) (or-false (eqb u (lastSlot M A marks place J set set-ok)))
+
+  pub last-in-zero : has (lastSlot M A marks place J set set-ok) (zeroSum M A marks place J set set-ok) ≡ true
+  unfolding either
+  last-in-zero = zero-has (lastSlot M A marks place J set set-ok) ∙ rw (eq-eqb (lastSlot M A marks place J set set-ok) _ refl, rest-off)
 
   -- a slot that the zero sum lacks is neither
   pub not-last : (u : ℕ) → has u (zeroSum M A marks place J set set-ok) ≡ false → (u ≢ lastSlot M A marks place J set set-ok) × (has u (rest M A marks place J set set-ok) ≡ false)

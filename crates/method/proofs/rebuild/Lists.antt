@@ -1,14 +1,13 @@
 -- Lists of slots without repeats, the slots of either list but not of both, and sums over them byte by byte.
-use Rattle.flash.proofs.Kit.{_≡_, refl, sym, ap, ap₂, _∙_, _⊎_, inl, inr, ⊎-elim, _≢_, Bool, true, false, cond, _&&_, _||_, not, List, [], _∷_, _++_, map, ℕ, zero, suc, _<_}
-use Rattle.flash.proofs.Kit.{append-nil, arith, eqb, eqb-true, eq-eqb, ne-eqb, length, getD, bitXor, xor-comm, xor-self, xor-zero-l, xor-zero-r, or-false, and-false}
+use Rattle.flash.proofs.Kit.{_≡_, refl, sym, ap, ap₂, _∙_, ⊎-elim, _≢_, Bool, true, false, cond, _&&_, _||_, not, List, [], _∷_, _++_, map, ℕ, suc, _<_}
+use Rattle.flash.proofs.Kit.{append-nil, arith, eqb, eqb-true, eq-eqb, ne-eqb, length, getD, bitXor, xor-comm, xor-self, xor-zero-l, xor-zero-r, and-false}
 use Rattle.flash.specs.Lists.{any, filter}
-use Rattle.flash.specs.PageSum.{_⊕_, sum}
-use Rattle.flash.proofs.Bools.{bool-cases, never-both, and-left, and-right, or-false-left, or-false-right, fails}
+use Rattle.flash.specs.PageSum.{sum}
+use Rattle.flash.proofs.Bools.{bool-cases, never-both, fails}
 use Rattle.flash.proofs.Comparisons.{eqb-swap}
 use Rattle.flash.proofs.Searches.{any-append, none-of, none-at}
-use Rattle.flash.proofs.Filters.{any-filter}
 use Rattle.flash.proofs.Sums.{⊕-at}
-use Rattle.flash.proofs.Xor.{xor-assoc, xor-cancel}
+use Rattle.flash.proofs.Xor.{xor-assoc}
 use Rattle.split.proofs.OneToOneLaws.{Distinct}
 use Rattle.method.specs.Rebuild.{apart, added}
 use Rattle.method.proofs.basics.EachNumber.{distinct-cons}
@@ -24,6 +23,13 @@ fresh t ts d = none-of (eqb t) ts 0 (λ i h. ne-eqb t (getD ts i 0) (λ e.
 
 pub later : (t : ℕ) (ts : List ℕ) → Distinct (t ∷ ts) → Distinct ts
 later t ts d i j h l e = (let z : suc i ≡ suc j = d (suc i) (suc j) (omega arith) (omega arith) e in omega arith)
+
+has-later : (u t : ℕ) (ts : List ℕ) → has u ts ≡ true → has u (t ∷ ts) ≡ true
+unfolding any
+has-later u t ts h = ⊎-elim
+    (λ (q : eqb u t ≡ true). rw q)
+    (λ (q : eqb u t ≡ false). rw q h)
+    (bool-cases (eqb u t))
 
 distinct-more : (t : ℕ) (ts : List ℕ) → has t ts ≡ false → Distinct ts → Distinct (t ∷ ts)
 distinct-more t ts none d =
@@ -68,18 +74,12 @@ filter-distinct : (test : ℕ → Bool) (ts more : List ℕ) → Distinct ts →
 unfolding filter any
 filter-distinct test [] more d e f = e
 filter-distinct test (t ∷ ts) more d e f =
-    let rest = filter-distinct test ts more (later t ts d) e (λ u h p. f u (in-rest u h) p) in
+    let rest = filter-distinct test ts more (later t ts d) e (λ u h p. f u (has-later u t ts h) p) in
     ⊎-elim
     (λ (p : test t ≡ true). rw p (distinct-more t (filter test ts ++ more) (none p) rest))
     (λ (p : test t ≡ false). rw p rest)
     (bool-cases (test t))
   where
-    in-rest : (u : ℕ) → has u ts ≡ true → has u (t ∷ ts) ≡ true
-    in-rest u h = ⊎-elim
-        (λ (q : eqb u t ≡ true). rw q)
-        (λ (q : eqb u t ≡ false). rw q h)
-        (bool-cases (eqb u t))
-
     here : has t (t ∷ ts) ≡ true
     here = rw (eq-eqb t t refl)
 
@@ -140,10 +140,7 @@ module _ (g : ℕ → ℕ) where
   unfolding mix filter any
   mix-none test [] f = refl
   mix-none test (t ∷ ts) f =
-      rw (f t (rw (eq-eqb t t refl))) (mix-none test ts (λ u h. f u (later-has u h)))
-    where
-      later-has : (u : ℕ) → has u ts ≡ true → (eqb u t || has u ts) ≡ true
-      later-has u h = ⊎-elim (λ (q : eqb u t ≡ true). rw q) (λ (q : eqb u t ≡ false). rw q h) (bool-cases (eqb u t))
+      rw (f t (rw (eq-eqb t t refl))) (mix-none test ts (λ u h. f u (has-later u t ts h)))
 
   -- one element of a list without repeats
   mix-one : (x : ℕ) (ts : List ℕ) → Distinct ts → mix g (filter (λ t. eqb t x) ts) ≡ cond (has x ts) (g x) 0
@@ -160,6 +157,20 @@ module _ (g : ℕ → ℕ) where
       let back : eqb x t ≡ false = eqb-swap x t ∙ e in
       rw (e, back) (mix-one x ts (later t ts d)))
       (bool-cases (eqb t x))
+
+  -- all others add nothing
+  pub mix-alone : (x : ℕ) (ts : List ℕ) → Distinct ts → ((t : ℕ) → has t ts ≡ true → t ≢ x → g t ≡ 0) → mix g ts ≡ cond (has x ts) (g x) 0
+  unfolding mix any
+  mix-alone x [] d f = refl
+  mix-alone x (t ∷ ts) d f =
+      let rest : mix g ts ≡ cond (has x ts) (g x) 0 = mix-alone x ts (later t ts d) (λ u h ne. f u (has-later u t ts h) ne) in
+      ⊎-elim
+      (λ (e : eqb x t ≡ true).
+      let is : x ≡ t = eqb-true x t e in
+      rw e (ap₂ bitXor (ap g (sym is)) (rest ∙ ap (λ (b : Bool). cond b (g x) 0) (ap (λ (y : ℕ). has y ts) is ∙ fresh t ts d)) ∙ xor-zero-r (g x)))
+      (λ (e : eqb x t ≡ false).
+      rw e (ap₂ bitXor (f t (rw (eq-eqb t t refl)) (λ q. never-both (eq-eqb x t (sym q)) e)) rest ∙ xor-zero-l (cond (has x ts) (g x) 0)))
+      (bool-cases (eqb x t))
 
   -- what two lists have in common
   mix-common : (one other : List ℕ) → Distinct one → Distinct other → mix g (filter (λ t. has t other) one) ≡ mix g (filter (λ t. has t one) other)

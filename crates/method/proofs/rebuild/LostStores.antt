@@ -1,9 +1,7 @@
 -- An original that is lost: a store of zeros, and one with ones where read needs the slot, lead to the same pages.
-use Rattle.flash.proofs.Kit.{_≡_, refl, sym, ap, ap₂, _∙_, subst, _⊎_, inl, inr, ⊎-elim, _≢_, Bool, true, false, cond, _&&_, _||_, not, Option, none, some, List, [], _∷_, ℕ, zero, suc, _+_, _-_, _*_, _/_, _%_, _≤_, _<_}
-use Rattle.flash.proofs.Kit.{div-add-mod', mod-lt, div-lt-iff-lt-mul, arith, eqb, eqb-true, eq-eqb, length, getD, getD-replicate, replicate, length-replicate, ext-getD, not-suc-le-zero, xor-self}
-use Rattle.flash.specs.Lists.{any, part}
+use Rattle.flash.proofs.Kit.{_≡_, refl, sym, ap, ap₂, _∙_, subst, ⊎-elim, _≢_, Bool, true, false, _&&_, some, List, [], _∷_, ℕ, suc, _+_, _-_, _/_, _%_, _≤_, _<_}
+use Rattle.flash.proofs.Kit.{arith, eqb, eqb-true, eq-eqb, length, getD, getD-replicate, replicate, length-replicate, ext-getD, not-suc-le-zero}
 use Rattle.flash.specs.declared.sizes.Sizes.{Sizes}
-use Rattle.flash.specs.declared.wear.Wear.{Wear}
 use Rattle.flash.specs.Geometry.{slot, slotOf, originalCount, slotCount, letter}
 use Rattle.flash.specs.PageSum.{_⊕_, sum}
 use Rattle.flash.specs.Chip.{Chip, pageAt, isFull, isUnfinished}
@@ -13,32 +11,29 @@ use Rattle.flash.proofs.Comparisons.{eq-cases}
 use Rattle.flash.proofs.Sums.{sum-one}
 use Rattle.split.specs.Split.{setOf}
 use Rattle.split.specs.Request.{Request}
-use Rattle.method.specs.Move.{Move, plan, AcceptedMove}
-use Rattle.method.specs.Place.{Pass, lastPlace, marksOf}
+use Rattle.method.specs.Move.{Move, AcceptedMove}
+use Rattle.method.specs.Place.{marksOf}
 use Rattle.method.specs.Read.{readSlots}
-use Rattle.method.specs.State.{originalsIn, atRest, stateOf}
 use Rattle.method.specs.Step.{originalsOf}
-use Rattle.method.specs.Mend.{Reading, seen}
-use Rattle.method.specs.Answers.{mendAnswer}
+use Rattle.method.specs.Mend.{seen}
 use Rattle.method.specs.Runs.{Start}
-use Rattle.method.specs.Rebuild.{setPage, zeroSlots, rebuiltFrom, rebuiltFlag, rebuildAnswer, RebuildAnswer, wholeMove}
+use Rattle.method.specs.Rebuild.{setPage, zeroSlots, rebuiltFrom, rebuiltFlag, RebuildAnswer, wholeMove}
 use Rattle.method.specs.Unreadable.{flagOf, Unseen, LostExactly}
 use Rattle.method.specs.inner.Shape.{Shape}
 use Rattle.method.proofs.basics.EachNumber.{Each}
 use Rattle.method.proofs.basics.Indexes.{clash}
-use Rattle.method.proofs.basics.MoveShape.{Shows}
 use Rattle.method.proofs.cycles.SetCycles.{set-in}
 use Rattle.method.proofs.places.PlaceShape.{letterAbove}
 use Rattle.method.proofs.states.RunsAddUp.{start-page}
 use Rattle.method.proofs.rebuild.Lists.{has, either, mix}
-use Rattle.method.proofs.rebuild.BlockFilled.{JustFilled, BlockTorn, block-torn, filled-there, marksBegun, shows-begun}
+use Rattle.method.proofs.rebuild.BlockFilled.{JustFilled, block-torn, filled-there, marksBegun}
 use Rattle.method.proofs.rebuild.FullReads.{full-reads}
-use Rattle.method.proofs.rebuild.LastPages.{PageSet, page-set, rest-apart, not-last}
-use Rattle.method.proofs.rebuild.OtherSum.{EachHas, has-each, zeroOf, rest-inside}
+use Rattle.method.proofs.rebuild.LastPages.{page-set, rest-apart, not-last}
+use Rattle.method.proofs.rebuild.OtherSum.{has-each, zeroOf, rest-inside}
 use Rattle.method.proofs.rebuild.SameShape.{slots-same}
-use Rattle.method.proofs.rebuild.States.{state-size, state-shows, made, made-part, made-starts}
-use Rattle.method.proofs.rebuild.Taken.{RebuildTaken, rebuild-taken, FromCases, by-own, by-other, lost-torn, lost-full, from-cases, page-length, flag-is}
-use Rattle.method.proofs.rebuild.Units.{bitPage, bit-length, bit-add, bitOf, zero-page}
+use Rattle.method.proofs.rebuild.Taken.{RebuildTaken, rebuild-taken, FromCases, by-own, by-other, lost-torn, lost-full, from-cases, flag-is}
+use Rattle.method.proofs.rebuild.Units.{bitPage, bit-add}
+use Rattle.method.proofs.rebuild.UnitStores.{in-blocks, ButOne, but-torn, but-last, unitValue, unitStore, unit-starts, valueIn, is-value, unitPages, unit-shows, unit-size, zeros-at}
 use Rattle.method.proofs.rebuild.ZeroSum.{L, lastSlot, lastOriginals, rest, rest-bytes}
 use Rattle.method.proofs.rebuild.Lost.{mend-place, seen-lost}
 
@@ -73,69 +68,43 @@ module _ (R : Request) (chip : Chip) (area flags : List ℕ) (bad : ℕ) (T : Re
   abbrev place : ℕ
   place = T .found .place
 
-  in-blocks : (t : ℕ) → t < slotCount Z → (t / m ≤ n) × (t % m < m) × (slot m (t / m) (t % m) ≡ t)
-  in-blocks t h = (let l : t / m < n + 1 = div-lt-iff-lt-mul (A .ranges .m-low) .1 h in (omega arith, mod-lt t (A .ranges .m-low), div-add-mod' t m))
+  abbrev nowhere : ℕ → Bool
+  nowhere q = false
 
-  -- ---- the two stores: ones where the test lets a set pass
-  module _ (begun : List ℕ) (low : ℕ) (pass : Pass) (S : Shape Z begun low (suc low) (letterAbove pass)) (in-move : place ≤ lastPlace Z)
-      (back : (value page : ℕ → List ℕ) → Shows M (marksOf Z place) value page → Shows M begun value page) where
-    module _ (test : ℕ → Bool) where
-      abbrev value : (j : ℕ) → List ℕ
-      value j = bitPage P (bitOf M A begun low pass S bad test j)
+  abbrev here : ℕ → Bool
+  here q = eqb q (setOf (M .sets) k)
 
-      abbrev store : Chip
-      store = atRest Z (made Z value (λ j h. bit-length P (bitOf M A begun low pass S bad test j)))
+  -- ---- the two stores: of zeros, and of ones where the set of the original is
+  module _ (O : ButOne R chip area flags bad T) (q : has bad (readSlots M (O .begun) k) ≡ true) where
+    abbrev store : (test : ℕ → Bool) → Chip
+    store = unitStore R chip area flags bad T O bad
 
-      starts : Start R store
-      starts = made-starts Z value (λ j h. bit-length P (bitOf M A begun low pass S bad test j)) R refl (T .undropped) (T .list-accepted) (A .split)
+    starts : (test : ℕ → Bool) → Start R (store test)
+    starts = unit-starts R chip area flags bad T O bad
 
-      abbrev valueIn : (j : ℕ) → List ℕ
-      valueIn j = part P j (originalsIn Z store)
+    abbrev page : (test : ℕ → Bool) (t : ℕ) → List ℕ
+    page = unitPages R chip area flags bad T O bad
 
-      is-value : (j : ℕ) → j < originalCount Z → valueIn j ≡ value j
-      is-value = made-part Z value (λ j h. bit-length P (bitOf M A begun low pass S bad test j))
+    first-page : (test : ℕ → Bool) → pageAt P (store test) (slotOf m k) ≡ unitValue R chip area flags bad T O bad test k
+    first-page test = sym (start-page R (store test) (starts test) k) ∙ is-value R chip area flags bad T O bad test k k-in
 
-      abbrev page : (t : ℕ) → List ℕ
-      page = pageAt P (stateOf (plan R) (originalsIn Z store) place)
+    differs : pageAt P (store nowhere) (slotOf m k) ≢ pageAt P (store here) (slotOf m k)
+    differs e =
+        let bit : (eqb (setOf (M .sets) k) (setOf (M .sets) k) && has bad (readSlots M (O .begun) k)) ≡ true = rw (eq-eqb (setOf (M .sets) k) (setOf (M .sets) k) refl, q) in
+        bit-apart P (A .ranges .p-low) (sym (first-page nowhere) ∙ e ∙ first-page here ∙ ap (bitPage P) bit)
 
-      shows : Shows M (marksOf Z place) valueIn page
-      shows = state-shows R store starts (T .undropped) place in-move
-
-      page-size : (t : ℕ) → t < slotCount Z → length (page t) ≡ P
-      page-size = page-length M A (chip .marks) (T .found) (T .told) bad (stateOf (plan R) (originalsIn Z store) place) (state-size R store starts (T .undropped) place in-move)
-
-      zeros-at : (t : ℕ) → t < slotCount Z → t / m ≢ low → t ≢ bad → page t ≡ bitPage P false
-      zeros-at t h ne other =
-          let b = in-blocks t h in
-          ap page (sym (b .2)) ∙ zero-page M A begun low pass S bad test valueIn is-value page (back valueIn page shows) (t / m) (t % m) (b .0) (b .1) ne (λ e. other (sym (b .2) ∙ e))
-
-    abbrev nowhere : ℕ → Bool
-    nowhere q = false
-
-    abbrev here : ℕ → Bool
-    here q = eqb q (setOf (M .sets) k)
-
-    differs : has bad (readSlots M begun k) ≡ true → pageAt P (store nowhere) (slotOf m k) ≢ pageAt P (store here) (slotOf m k)
-    differs q e =
-        let one : has bad (readSlots M begun k) ≡ true = q in
-        let bit : (eqb (setOf (M .sets) k) (setOf (M .sets) k) && has bad (readSlots M begun k)) ≡ true = rw (eq-eqb (setOf (M .sets) k) (setOf (M .sets) k) refl, q) in
-        bit-apart P (A .ranges .p-low)
-        (sym (is-value nowhere k k-in) ∙ start-page R (store nowhere) (starts nowhere) k ∙ e
-        ∙ sym (start-page R (store here) (starts here) k) ∙ is-value here k k-in ∙ ap (bitPage P) bit)
-
-    unseen-by : has bad (readSlots M begun k) ≡ true
-        → ((t : ℕ) → t < slotCount Z → t ≢ bad → isUnfinished m (chip .marks) (t / m) ≡ false → t / m ≡ low → page nowhere t ≡ page here t)
+    unseen-by : ((t : ℕ) → t < slotCount Z → t ≢ bad → isUnfinished m (chip .marks) (t / m) ≡ false → t / m ≡ O .low → page nowhere t ≡ page here t)
         → Unseen R (chip .marks) place bad k
-    unseen-by q special = record {
+    unseen-by special = record {
       one = store nowhere;
       other = store here;
       one-starts = starts nowhere;
       other-starts = starts here;
-      differ = differs q;
+      differ = differs;
       same = λ t h ne finished. ⊎-elim
-          (λ (e : t / m ≡ low). special t h ne finished e)
-          (λ (off : t / m ≢ low). zeros-at nowhere t h off ne ∙ sym (zeros-at here t h off ne))
-          (eq-cases (t / m) low);
+          (λ (e : t / m ≡ O .low). special t h ne finished e)
+          (λ (off : t / m ≢ O .low). zeros-at R chip area flags bad T O bad nowhere t h off ne ∙ sym (zeros-at R chip area flags bad T O bad here t h off ne))
+          (eq-cases (t / m) (O .low));
     }
 
   -- ---- a block is torn
@@ -152,7 +121,7 @@ module _ (R : Request) (chip : Chip) (area flags : List ℕ) (bad : ℕ) (T : Re
   torn-unseen block t q =
       let B = block-torn Z (A .ranges) (chip .marks) (T .found) (T .told) block t in
       let same = slots-same M A block (suc block) (letterAbove (B .pass)) (chip .marks) (marksOf Z place) (B .shape) (B .begun .shape) k k-in in
-      unseen-by (marksOf Z place) block (B .pass) (B .begun .shape) (B .in-move) (λ value page H. H) (ap (has bad) (sym same) ∙ q)
+      unseen-by (but-torn R chip area flags bad T block B) (ap (has bad) (sym same) ∙ q)
       (λ u h ne finished e. absurd (never-both (open-block block (letterAbove (B .pass)) (B .shape)) (ap (isUnfinished m (chip .marks)) (sym e) ∙ finished)))
 
   -- ---- no block is
@@ -160,18 +129,15 @@ module _ (R : Request) (chip : Chip) (area flags : List ℕ) (bad : ℕ) (T : Re
     abbrev J′ : JustFilled Z (marksOf Z place) place
     J′ = filled-there Z (chip .marks) place J
 
-    abbrev begun : List ℕ
-    begun = marksBegun M A (chip .marks) place J
-
-    abbrev back : (value page : ℕ → List ℕ) → Shows M (marksOf Z place) value page → Shows M begun value page
-    back = shows-begun M A (marksOf Z place) place J′
+    abbrev O : ButOne R chip area flags bad T
+    O = but-last R chip area flags bad T J
 
     module _ (test : ℕ → Bool) (off : (set : ℕ) (set-ok : set < m) → test set ≡ true → has bad (rest M A (marksOf Z place) place J′ set set-ok) ≡ false) where
       abbrev pages : (t : ℕ) → List ℕ
-      pages = page begun (J .block) (J .pass) (J .begun .shape) (J .in-move) back test
+      pages = unitPages R chip area flags bad T O bad test
 
       abbrev values : (j : ℕ) → List ℕ
-      values = valueIn begun (J .block) (J .pass) (J .begun .shape) (J .in-move) back test
+      values = valueIn R chip area flags bad T O bad test
 
       -- the page of a set that passes is the sum of pages of zeros
       passed : (set : ℕ) (set-ok : set < m) → test set ≡ true → pages (lastSlot M A (marksOf Z place) place J′ set set-ok) ≡ bitPage P false
@@ -179,14 +145,14 @@ module _ (R : Request) (chip : Chip) (area flags : List ℕ) (bad : ℕ) (T : Re
       passed set set-ok passes =
           let t : ℕ = lastSlot M A (marksOf Z place) place J′ set set-ok in
           let t-in = slot-in-marks Z (J .block) (setPage M (J .pass) (J .block) set) (J .begun .shape .inside) (L M A (marksOf Z place) place J′ set set-ok .page-in) in
-          let size = page-size begun (J .block) (J .pass) (J .begun .shape) (J .in-move) back test t t-in in
+          let size = unit-size R chip area flags bad T O bad test t t-in in
           ext-getD 0 (pages t) (replicate P 0) (size ∙ sym (length-replicate P 0))
           (λ i h.
-          sym (rest-bytes M A (marksOf Z place) place J′ set set-ok values pages (shows begun (J .block) (J .pass) (J .begun .shape) (J .in-move) back test) i)
+          sym (rest-bytes M A (marksOf Z place) place J′ set set-ok values pages (unit-shows R chip area flags bad T O bad test) i)
           ∙ mix-zeros (λ u. getD (pages u) i 0) (rest M A (marksOf Z place) place J′ set set-ok)
           (has-each (λ u. getD (pages u) i 0 ≡ 0) (rest M A (marksOf Z place) place J′ set set-ok) (λ u e.
           ap (λ (p : List ℕ). getD p i 0)
-          (zeros-at begun (J .block) (J .pass) (J .begun .shape) (J .in-move) back test u (rest-inside M A (marksOf Z place) place J′ set set-ok u e)
+          (zeros-at R chip area flags bad T O bad test u (rest-inside M A (marksOf Z place) place J′ set set-ok u e)
           (rest-apart M A (marksOf Z place) place J′ set set-ok u e)
           (λ s. never-both e (ap (λ (w : ℕ). has w (rest M A (marksOf Z place) place J′ set set-ok)) s ∙ off set set-ok passes)))
           ∙ getD-replicate P i 0 0 (omega (arith, size))))
@@ -196,13 +162,13 @@ module _ (R : Request) (chip : Chip) (area flags : List ℕ) (bad : ℕ) (T : Re
       others : (set : ℕ) (set-ok : set < m) → test set ≡ false → Each (λ j. setOf (M .sets) j ≡ set) (lastOriginals M A (marksOf Z place) place J′ set set-ok)
           → pages (lastSlot M A (marksOf Z place) place J′ set set-ok) ≡ bitPage P false
       others set set-ok fails each =
-          let O = L M A (marksOf Z place) place J′ set set-ok in
-          O .holds (marksOf Z place) values pages (shows begun (J .block) (J .pass) (J .begun .shape) (J .in-move) back test) (J′ .full)
-          ∙ some-false (lastOriginals M A (marksOf Z place) place J′ set set-ok) (O .some)
+          let written = L M A (marksOf Z place) place J′ set set-ok in
+          written .holds (marksOf Z place) values pages (unit-shows R chip area flags bad T O bad test) (J′ .full)
+          ∙ some-false (lastOriginals M A (marksOf Z place) place J′ set set-ok) (written .some)
           (λ i h.
           let j : ℕ = getD (lastOriginals M A (marksOf Z place) place J′ set set-ok) i 0 in
-          is-value begun (J .block) (J .pass) (J .begun .shape) (J .in-move) back test j (O .known i h)
-          ∙ ap (λ (b : Bool). bitPage P (b && has bad (readSlots M begun j))) (ap test (each i h) ∙ fails))
+          is-value R chip area flags bad T O bad test j (written .known i h)
+          ∙ ap (λ (b : Bool). bitPage P (b && has bad (readSlots M (O .begun) j))) (ap test (each i h) ∙ fails))
         where
           some-false : (js : List ℕ) → 0 < length js → Each (λ i. values i ≡ bitPage P false) js → sum values js ≡ bitPage P false
           some-false [] h each = absurd (not-suc-le-zero h)
@@ -210,7 +176,7 @@ module _ (R : Request) (chip : Chip) (area flags : List ℕ) (bad : ℕ) (T : Re
 
       last-zeros : (t : ℕ) → t < slotCount Z → t / m ≡ J .block → pages t ≡ bitPage P false
       last-zeros t h e =
-          let b = in-blocks t h in
+          let b = in-blocks R chip area flags bad T t h in
           let Q = page-set M A (J .pass) (J .block) (t % m) (J .low) (J .high) (b .1) in
           let at : lastSlot M A (marksOf Z place) place J′ (Q .set) (Q .set-ok) ≡ t = ap (slot m (J .block)) (Q .page-is) ∙ ap (λ (x : ℕ). slot m x (t % m)) (sym e) ∙ b .2 in
           ap pages (sym at)
@@ -224,11 +190,11 @@ module _ (R : Request) (chip : Chip) (area flags : List ℕ) (bad : ℕ) (T : Re
         → Unseen R (chip .marks) place bad k
     full-unseen q out =
         let set-ok = set-in M A k k-in in
-        let own : has bad (readSlots M begun k) ≡ true = ⊎-elim
-        (λ (r : has bad (readSlots M begun k) ≡ true). r)
+        let own : has bad (readSlots M (O .begun) k) ≡ true = ⊎-elim
+        (λ (r : has bad (readSlots M (O .begun) k) ≡ true). r)
         (λ s. absurd (out (setOf (M .sets) k) set-ok refl .0 s))
         (full-reads M A (chip .marks) place J k k-in bad q) in
-        unseen-by begun (J .block) (J .pass) (J .begun .shape) (J .in-move) back own
+        unseen-by O own
         (λ t h ne finished e.
         last-zeros (λ q. false) (λ set ok x. absurd (never-both x refl)) t h e
         ∙ sym (last-zeros (λ q. eqb q (setOf (M .sets) k)) (λ set ok x. out set ok (eqb-true set (setOf (M .sets) k) x) .1) t h e))

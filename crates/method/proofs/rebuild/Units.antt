@@ -1,31 +1,31 @@
 -- While a block is unfinished: the originals whose read has a slot are made ones, all others zeros. Then no page but that of the slot is other than zeros.
-use Rattle.flash.proofs.Kit.{_≡_, refl, sym, ap, ap₂, _∙_, subst, ⊎-elim, _≢_, Bool, true, false, cond, _&&_, _||_, or-false, and-false, List, [], _∷_, ℕ, suc, _+_, _-_, _/_, _≤_, _<_, arith, eqb}
-use Rattle.flash.proofs.Kit.{eqb-true, ne-eqb, length, getD, replicate, length-replicate}
+use Rattle.flash.proofs.Kit.{_≡_, refl, sym, ap, ap₂, _∙_, subst, ⊎-elim, _≢_, Bool, true, false, cond, _&&_, _||_, or-false, and-false, List, [], _∷_, ℕ, suc, _+_, _-_, _≤_, _<_, arith, eqb}
+use Rattle.flash.proofs.Kit.{eqb-true, ne-eqb, lt-ltb, le-ltb, length, getD, replicate, getD-replicate, length-replicate}
 use Rattle.split.proofs.OneToOneLaws.{Distinct}
 use Rattle.flash.specs.Lists.{any}
 use Rattle.flash.specs.declared.sizes.Sizes.{Sizes}
 use Rattle.flash.specs.Geometry.{slot, slotOf, blockOf, numberAt, originalCount, letter}
 use Rattle.flash.specs.PageSum.{_⊕_, sum}
-use Rattle.flash.specs.Chip.{markAt, isFull}
-use Rattle.flash.proofs.Bools.{bool-cases}
+use Rattle.flash.specs.Chip.{markAt}
 use Rattle.flash.proofs.Blocks.{full-at}
 use Rattle.flash.proofs.Comparisons.{ne-lt}
 use Rattle.flash.proofs.Sums.{⊕-nil, ⊕-comm, ⊕-zeros, ⊕-self, sum-one}
 use Rattle.split.specs.Split.{destBlock, setOf}
 use Rattle.method.specs.Move.{Move, AcceptedMove}
-use Rattle.method.specs.Cycle.{D, dest, pred, isTop, coded, sentTo}
-use Rattle.method.specs.Place.{Pass, forward, backward}
+use Rattle.method.specs.Cycle.{D, dest, pred, coded, sentTo}
+use Rattle.method.specs.Place.{Pass, forward, backward, Held, plain, code, final, above}
 use Rattle.method.specs.Read.{fullOf, codedSlot, plainSlot, finalSlot, readSlots}
 use Rattle.method.specs.inner.Shape.{Shape}
 use Rattle.method.proofs.basics.Indexes.{slot-div}
 use Rattle.method.proofs.basics.MoveShape.{Shows}
 use Rattle.method.proofs.cycles.Orbits.{DataBlock}
-use Rattle.method.proofs.cycles.SetCycles.{set-in, block-in, D-page, pred-in, dest-is, sent-in, entry-sent}
+use Rattle.method.proofs.cycles.SetCycles.{block-in, D-page, pred-in, dest-is, sent-in, entry-sent}
 use Rattle.method.proofs.places.PlaceShape.{letterAbove, which-pass}
 use Rattle.method.proofs.states.PagesWritten.{number-in}
 use Rattle.method.proofs.states.StatesOfPlaces.{slot-number}
 use Rattle.method.proofs.walks.ReadsOriginals.{reads, not-full}
 use Rattle.method.proofs.rebuild.Lists.{has, either, fresh}
+use Rattle.method.proofs.rebuild.PageSets.{setAt, heldBeside}
 use Rattle.method.proofs.rebuild.CodedSteps.{Coded, alone, from-pred, to-pred, coded-steps}
 
 unfoldable pub bitPage : (P : ℕ) → Bool → List ℕ
@@ -34,6 +34,16 @@ bitPage P b = replicate P (cond b 1 0)
 pub bit-length : (P : ℕ) (b : Bool) → length (bitPage P b) ≡ P
 unfolding bitPage
 bit-length P b = length-replicate P _
+
+pub bit-byte : (P : ℕ) (b : Bool) → 1 ≤ P → getD (bitPage P b) 0 0 ≡ cond b 1 0
+unfolding bitPage
+bit-byte P b h = getD-replicate P 0 (cond b 1 0) 0 h
+
+pub bit-same : (a b : Bool) → _≡_ {A = ℕ} (cond a 1 0) (cond b 1 0) → a ≡ b
+bit-same true true e = refl
+bit-same true false e = absurd (omega (arith, e))
+bit-same false true e = absurd (omega (arith, e))
+bit-same false false e = refl
 
 pub bit-add : (P : ℕ) (a b : Bool) → bitPage P a ⊕ bitPage P b ≡ bitPage P (either a b)
 unfolding bitPage either
@@ -110,41 +120,37 @@ module _ (M : Move) (A : AcceptedMove M) (marks : List ℕ) (low : ℕ) (pass : 
 
     module _ (page : ℕ → List ℕ) (H : Shows M marks value page) where
       -- what the page of a slot is, by the set that it belongs to
-      unfoldable pub UnitPage : (t : ℕ) → Type 0
-      UnitPage t = (set : ℕ) × (page t ≡ bitPage P (test set && eqb u t))
+      unfoldable pub UnitPage : Held → (b q : ℕ) → Type 0
+      UnitPage held b q = page (slot m b q) ≡ bitPage P (test (setAt M held b q) && eqb u (slot m b q))
 
-      code-unit : (b q : ℕ) → b < low → q < m → UnitPage (slot m b q)
-      unfolding codedSlot UnitPage
+      code-unit : (b q : ℕ) → b < low → q < m → UnitPage code b q
+      unfolding codedSlot UnitPage setAt
       code-unit b q h k =
           let inside = S .inside in
           let v-in : DataBlock n (b + 1) = record { low = omega arith; high = omega arith } in
-          let down : b + 1 - 1 ≡ b = omega arith in (
-            q,
-            ap (λ (x : ℕ). page (slot m x q)) (sym down)
-                ∙ H .code q (b + 1) k (omega arith) (omega arith) (ap (λ (x : ℕ). markAt marks (slot m x q)) down ∙ full-at m marks b (letter (M .sizes) 1) q (S .below b h) k)
-                ∙ coded-bit q k (b + 1) v-in (omega arith)
-                ∙ ap (λ (x : ℕ). bitPage P (test q && eqb u (slot m x q))) down,
-          )
+          let down : b + 1 - 1 ≡ b = omega arith in
+          ap (λ (x : ℕ). page (slot m x q)) (sym down)
+          ∙ H .code q (b + 1) k (omega arith) (omega arith) (ap (λ (x : ℕ). markAt marks (slot m x q)) down ∙ full-at m marks b (letter (M .sizes) 1) q (S .below b h) k)
+          ∙ coded-bit q k (b + 1) v-in (omega arith)
+          ∙ ap (λ (x : ℕ). bitPage P (test q && eqb u (slot m x q))) down
 
       one-slot : (k t : ℕ) → k < originalCount (M .sizes) → readSlots M marks k ≡ t ∷ [] → value k ≡ bitPage P (test (setOf (M .sets) k) && eqb u t)
       unfolding any
       one-slot k t h e = is k h ∙ ap (λ (b : Bool). bitPage P (test (setOf (M .sets) k) && b)) (ap (has u) e ∙ or-false (eqb u t))
 
-      plain-unit : letterAbove pass ≡ 0 → (b q : ℕ) → suc low ≤ b → b ≤ n → q < m → UnitPage (slot m b q)
-      unfolding readSlots plainSlot fullOf UnitPage
+      plain-unit : letterAbove pass ≡ 0 → (b q : ℕ) → suc low ≤ b → b ≤ n → q < m → UnitPage plain b q
+      unfolding readSlots plainSlot fullOf UnitPage setAt
       plain-unit none b q h l k =
           let j : ℕ = numberAt m b q in
           let j-in = number-in M A b q (omega arith) l k in
           let at = slot-number m b q (omega arith) k in
           let full = rw none at (S .above b h l) in
-          let block : blockOf m j ≡ b = ap (λ (x : ℕ). x + 1) (slot-div m (b - 1) q k) ∙ omega arith in (
-            setOf (M .sets) j,
-            ap page (sym at) ∙ H .plain j j-in (ap (markAt marks) at ∙ full-at m marks b (letter (M .sizes) 0) q full k)
-                ∙ one-slot j (slotOf m j) j-in (rw (block, full)) ∙ ap (λ (t : ℕ). bitPage P (test (setOf (M .sets) j) && eqb u t)) at,
-          )
+          let block : blockOf m j ≡ b = ap (λ (x : ℕ). x + 1) (slot-div m (b - 1) q k) ∙ omega arith in
+          ap page (sym at) ∙ H .plain j j-in (ap (markAt marks) at ∙ full-at m marks b (letter (M .sizes) 0) q full k)
+          ∙ one-slot j (slotOf m j) j-in (rw (block, full)) ∙ ap (λ (t : ℕ). bitPage P (test (setOf (M .sets) j) && eqb u t)) at
 
-      final-unit : letterAbove pass ≡ 2 → (b q : ℕ) → suc low ≤ b → b ≤ n → q < m → UnitPage (slot m b q)
-      unfolding readSlots finalSlot letter destBlock fullOf UnitPage
+      final-unit : letterAbove pass ≡ 2 → (b q : ℕ) → suc low ≤ b → b ≤ n → q < m → UnitPage final b q
+      unfolding readSlots finalSlot letter destBlock fullOf UnitPage setAt
       final-unit two b q h l k =
           let number : ℕ = numberAt m b q in
           let inside = number-in M A b q (omega arith) l k in
@@ -156,21 +162,24 @@ module _ (M : Move) (A : AcceptedMove M) (marks : List ℕ) (low : ℕ) (pass : 
           let up : b - 1 + 1 ≡ b = omega arith in
           let there : fullOf M marks 2 (dest M (setOf (M .sets) j) (blockOf m j)) ≡ true =
           ap (fullOf M marks 2) (dest-is M A j j-in ∙ ap (blockOf m) to ∙ ap (λ (x : ℕ). x + 1) (slot-div m (b - 1) q k) ∙ up) ∙ full in
-          let gone : fullOf M marks 0 (blockOf m j) ≡ false = not-full M A marks low (suc low) 2 (rw two at S) 0 (blockOf m j) (block-in M A j j-in .high) (λ x. omega arith) (λ x. omega arith) in (
-            setOf (M .sets) j,
-            ap page (sym at) ∙ H .final j j-in (ap (markAt marks) at ∙ full-at m marks b (letter (M .sizes) 2) q full k)
-                ∙ one-slot j (slotOf m (getD (M .list) j 0)) j-in (rw (gone, there)) ∙ ap (λ (t : ℕ). bitPage P (test (setOf (M .sets) j) && eqb u t)) at,
-          )
+          let gone : fullOf M marks 0 (blockOf m j) ≡ false = not-full M A marks low (suc low) 2 (rw two at S) 0 (blockOf m j) (block-in M A j j-in .high) (λ x. omega arith) (λ x. omega arith) in
+          ap page (sym at) ∙ H .final j j-in (ap (markAt marks) at ∙ full-at m marks b (letter (M .sizes) 2) q full k)
+          ∙ one-slot j (slotOf m (getD (M .list) j 0)) j-in (rw (gone, there)) ∙ ap (λ (t : ℕ). bitPage P (test (setOf (M .sets) j) && eqb u t)) at
 
-      pub unit-page : (b q : ℕ) → b ≤ n → q < m → b ≢ low → UnitPage (slot m b q)
+      above-unit : (it : Pass) → pass ≡ it → (b q : ℕ) → suc low ≤ b → b ≤ n → q < m → UnitPage (above it) b q
+      unfolding above
+      above-unit forward e b q h l k = plain-unit (ap letterAbove e) b q h l k
+      above-unit backward e b q h l k = final-unit (ap letterAbove e) b q h l k
+
+      pub unit-page : (b q : ℕ) → b ≤ n → q < m → b ≢ low → UnitPage (heldBeside pass low b) b q
       unit-page b q l k ne = ⊎-elim
-          (λ (h : b < low). code-unit b q h k)
-          (λ (h : low < b). ⊎-elim (λ z. plain-unit z b q h l k) (λ z. final-unit z b q h l k) (which-pass pass))
+          (λ (h : b < low). rw (lt-ltb b low h) (code-unit b q h k))
+          (λ (h : low < b). rw (le-ltb b low (omega arith)) (above-unit pass refl b q h l k))
           (ne-lt b low ne)
 
       -- all but that of the slot are zeros
       pub zero-page : (b q : ℕ) → b ≤ n → q < m → b ≢ low → slot m b q ≢ u → page (slot m b q) ≡ bitPage P false
       unfolding UnitPage
       zero-page b q l k ne other =
-          let r = unit-page b q l k ne in
-          r .1 ∙ ap (bitPage P) (ap (λ (x : Bool). test (r .0) && x) (ne-eqb u (slot m b q) (λ e. other (sym e))) ∙ and-false (test (r .0)))
+          let set : ℕ = setAt M (heldBeside pass low b) b q in
+          unit-page b q l k ne ∙ ap (bitPage P) (ap (λ (x : Bool). test set && x) (ne-eqb u (slot m b q) (λ e. other (sym e))) ∙ and-false (test set))

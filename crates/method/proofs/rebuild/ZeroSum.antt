@@ -1,5 +1,5 @@
 -- Where no block is unfinished, the page of a set in the block that was filled last and the pages that were read to write it sum to zeros.
-use Rattle.flash.proofs.Kit.{_≡_, refl, sym, ap, ap₂, _∙_, subst, Bool, true, List, [], _∷_, map, ℕ, suc, _+_, _-_, _*_, _/_, _%_, _≤_, _<_}
+use Rattle.flash.proofs.Kit.{_≡_, refl, sym, ap, ap₂, _∙_, subst, List, [], _∷_, map, ℕ, suc, _+_, _-_, _*_, _/_, _%_, _≤_, _<_}
 use Rattle.flash.proofs.Kit.{div-add-mod', mod-lt, arith, length, getD, bitXor, xor-self, xor-zero-r}
 use Rattle.flash.specs.declared.sizes.Sizes.{Sizes}
 use Rattle.flash.specs.Geometry.{slot, slotOf, blockOf, pageOf, numberAt, originalCount, letter}
@@ -7,25 +7,27 @@ use Rattle.flash.specs.PageSum.{sum}
 use Rattle.flash.specs.Chip.{markAt}
 use Rattle.flash.proofs.Blocks.{full-at}
 use Rattle.flash.proofs.Sums.{sum-one, sum-same}
-use Rattle.split.specs.Split.{destBlock}
+use Rattle.split.specs.Split.{destBlock, setOf}
 use Rattle.split.proofs.OneToOneLaws.{Distinct}
 use Rattle.method.specs.Move.{Move, AcceptedMove}
-use Rattle.method.specs.Cycle.{D, dest, pred, coded, sentTo}
-use Rattle.method.specs.Place.{Pass, forward, backward, passAt, filling, written}
+use Rattle.method.specs.Cycle.{D, dest, pred, sentTo}
+use Rattle.method.specs.Place.{Pass, forward, backward, code, written}
 use Rattle.method.specs.Read.{readSlots}
 use Rattle.method.specs.State.{heldOriginals}
 use Rattle.method.specs.Step.{originalsOf}
 use Rattle.method.specs.Rebuild.{apart, added, setPage, zeroSlots}
 use Rattle.method.specs.inner.Shape.{Shape}
+use Rattle.method.proofs.basics.EachNumber.{Each, each-one}
 use Rattle.method.proofs.basics.MoveShape.{Shows}
 use Rattle.method.proofs.cycles.Orbits.{DataBlock}
-use Rattle.method.proofs.cycles.SetCycles.{entry-in, D-page, pred-in, dest-pred, sent-entry}
+use Rattle.method.proofs.cycles.SetCycles.{D-page, pred-in, dest-pred, sent-entry}
 use Rattle.method.proofs.places.PagesHeld.{edge}
 use Rattle.method.proofs.places.PlaceShape.{letterAbove, which-pass}
 use Rattle.method.proofs.states.PagesWritten.{Originals, originals-one, coded-in, coded-some}
 use Rattle.method.proofs.walks.StoredPages.{Reads}
 use Rattle.method.proofs.walks.ReadsOriginals.{reads}
-use Rattle.method.proofs.rebuild.Lists.{mix, sum-byte, apart-distinct, mix-apart, AddedUp, added-up}
+use Rattle.method.proofs.rebuild.Lists.{mix, apart-distinct, mix-apart, AddedUp, added-up}
+use Rattle.method.proofs.rebuild.PageSets.{setAt, held-set}
 use Rattle.method.proofs.rebuild.BlockFilled.{JustFilled, marksBegun, shows-begun}
 
 -- the page of a set in a block that a pass has filled
@@ -39,11 +41,12 @@ module _ (M : Move) (A : AcceptedMove M) (set : ℕ) (set-ok : set < M .sizes .m
     pub page-in : setPage M pass block set < m
     pub known : Originals M (originalsOf M pass block (setPage M pass block set))
     pub some : 0 < length (originalsOf M pass block (setPage M pass block set))
+    pub of-set : Each (λ j. setOf (M .sets) j ≡ set) (originalsOf M pass block (setPage M pass block set))
     pub holds : (marks : List ℕ) (value page : ℕ → List ℕ) → Shows M marks value page → Shape Z marks (edge pass block) (edge pass block) (letterAbove pass)
         → page (slot m block (setPage M pass block set)) ≡ sum value (originalsOf M pass block (setPage M pass block set))
 
   forth : (block : ℕ) → suc block ≤ n → LastPage forward block
-  unfolding setPage originalsOf heldOriginals written
+  unfolding setPage originalsOf heldOriginals written setAt
   forth block h =
       let up-in : DataBlock n (block + 1) = record { low = omega arith; high = omega arith } in
       let down : block + 1 - 1 ≡ block = omega arith in
@@ -51,6 +54,7 @@ module _ (M : Move) (A : AcceptedMove M) (set : ℕ) (set-ok : set < M .sizes .m
         page-in = set-ok;
         known = coded-in M A set (block + 1) set-ok up-in;
         some = coded-some M A set (block + 1);
+        of-set = held-set M A code block set set-ok h;
         holds = λ marks value page H S.
             ap (λ (b : ℕ). page (slot m b set)) (sym down)
             ∙ H .code set (block + 1) set-ok (omega arith) (omega arith)
@@ -72,6 +76,7 @@ module _ (M : Move) (A : AcceptedMove M) (set : ℕ) (set-ok : set < M .sizes .m
       record {
         page-in = page-lt;
         some = omega arith;
+        of-set = each-one (λ j. setOf (M .sets) j ≡ set) _ (ap (setOf (M .sets)) sent ∙ D-page M A set set-ok (pred M set block) (pred-in M A set set-ok block b-in) .in-set);
         known = originals-one M _ (subst (λ (x : ℕ). x < originalCount Z) (sym sent) k-in);
         holds = λ marks value page H S.
             let here : slotOf m to ≡ slot m block (pageOf m to) = ap (λ (b : ℕ). slot m b (pageOf m to)) goes in
