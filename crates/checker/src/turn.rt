@@ -6,6 +6,7 @@ ghost use lib.ListN.{length, drop};
 ghost use Rattle.checker.specs.Lines.{readLine};
 ghost use Rattle.checker.specs.Pages.{isBadWrite, pageWritten, blockErased, areDetermined};
 ghost use Rattle.checker.specs.Answer.{turn};
+ghost use Rattle.checker.specs.inner.Pages.{Masks};
 ghost use Rattle.checker.specs.inner.Turns.{Checkable, Standing, finished, turnAs, GoesOn};
 use crate::basis::are_determined;
 use crate::line::Told;
@@ -44,7 +45,7 @@ fn write_page(pages: &mut [u64], m: usize, block: usize, page: usize, mask: u64)
 
 // Erases a block and tells whether all originals are determined still.
 fn erase_block(pages: &mut [u64], count: usize, m: usize, block: usize) -> bool
-    requires { ⌜ (block * m + m ≤ length (now pages)) × (count ≤ 64) ⌝ }
+    requires { ⌜ (block * m + m ≤ length (now pages)) × (count ≤ 64) × Masks count (now pages) ⌝ }
     ensures { λ r. ⌜ (r ≡ areDetermined count (blockErased m (now (pages .entry)) block))
         × (now (pages .exit) ≡ blockErased m (now (pages .entry)) block) ⌝ }
 {

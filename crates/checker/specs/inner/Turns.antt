@@ -9,6 +9,7 @@ use Rattle.checker.specs.declared.turn.Turn as code
 use Rattle.checker.specs.declared.turn.Turn.the-variants.{On, Stop}
 use Rattle.checker.specs.Pages.{areDetermined, isRequested}
 use Rattle.checker.specs.Answer.{Turn, on, stop}
+use Rattle.checker.specs.inner.Pages.{Masks}
 
 -- sizes and a list that rows 1 to 3 let pass
 pub record Checkable (n m : ℕ) (list : List ℕ) : Type 0 where
@@ -20,9 +21,10 @@ pub record Checkable (n m : ℕ) (list : List ℕ) : Type 0 where
   pub size : length list ≡ n * m
   pub one-to-one : isOneToOne (n * m) list ≡ true
 
--- between two lines: every original is determined, and there were no more lines than bytes
+-- between two lines: pages are sums of originals, every original is determined, and there were no more lines than bytes
 pub record Standing (n m : ℕ) (pages text : List ℕ) (writes erases at : ℕ) : Type 0 where
   pub size : length pages ≡ (n + 1) * m
+  pub masks : Masks (n * m) pages
   pub determined : areDetermined (n * m) pages ≡ true
   pub few : writes + erases ≤ at
   pub within : at ≤ length text

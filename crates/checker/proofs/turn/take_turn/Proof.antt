@@ -5,7 +5,8 @@ use Rattle.checker.specs.Lines.{readLine}
 use Rattle.checker.specs.Answer.{on, Progress}
 use Rattle.checker.specs.inner.Told.{saidOf, toldAs, Ahead}
 use Rattle.checker.proofs.TurnLaws.{said-write, said-erase, block-fits, turn-bad, turn-write, turn-lost, turn-erase, turn-after-end, turn-end, turn-other}
-use Rattle.checker.proofs.TurnLaws.{pages-written, stands-written, stands-erased}
+use Rattle.checker.proofs.StandingLaws.{pages-written, stands-written, stands-erased}
+use Rattle.checker.proofs.MasksLaws.{said-small}
 use Rattle.checker.proofs.turn.take_turn.Statement.{statement}
 use Rattle.checker.proofs.turn.take_turn.Tie as tie
 
@@ -62,7 +63,8 @@ returns-2 c =
           ∙ turn-write (a .n) (a .m) (a .list .now) (R .line) (R .rest) P (v .0 .0) (v .0 .1 .0) (v .0 .1 .1 .0) _ s (h .3) good (z .pre .1 .determined),
       (
         stands-written (a .n) (a .m) (a .pages .now) (a .text .now) (a .writes) (a .erases) (a .at) (v .0 .1 .1 .1 .0) (z .pre .1) (h .0) (h .1)
-            (v .0 .0) (v .0 .1 .0) (v .0 .1 .1 .0) _ (w .write-page .ensures .1) good (h .3),
+            (v .0 .0) (v .0 .1 .0) (v .0 .1 .1 .0) _ (w .write-page .ensures .1) good (h .3)
+            (said-small (a .n) (a .m) (a .writes + a .erases) (drop (a .at) (a .text .now)) (v .0 .0) (v .0 .1 .0) (v .0 .1 .1 .0) _ s),
         said-write (R .line) (R .rest) (v .0 .0) (v .0 .1 .0) (v .0 .1 .1 .0) _ s .3,
         omega arith,
       ),
@@ -92,7 +94,7 @@ erase-block-requires c κs =
     let z = o .before .before .before .before in
     let a = z .args in
     let h = ahead o _ (t .block2 .given .1) in
-    (block-fits (a .n) (a .m) (t .block2 .given .0 .0) (length (a .pages .now)) (h .2) (z .pre .1 .size), z .pre .0 .few)
+    (block-fits (a .n) (a .m) (t .block2 .given .0 .0) (length (a .pages .now)) (h .2) (z .pre .1 .size), z .pre .0 .few, z .pre .1 .masks)
 
 add-t33 : tie.Need-add-t33
 add-t33 c = let z = c .before .before .before .before .before .before .before .before .before .before .before .before in omega (arith, z .pre .1 .few, z .pre .1 .within, z .pre .2)
