@@ -32,6 +32,17 @@ pub record Standing (n m : ℕ) (pages text : List ℕ) (writes erases at : ℕ)
 unfoldable pub finished : (m : ℕ) → (list pages : List ℕ) → (counted : Bool) → ℕ
 finished m list pages counted = cond (counted && isRequested m list pages) 1 0
 
+abbrev pub faultAt : (number line : ℕ) → code.Turn
+faultAt number line = Stop number line 0
+
+-- the listing goes on behind a good line, and a bad one gives its number
+abbrev pub onIf : (good : Bool) → (writes erases next number line : ℕ) → code.Turn
+onIf good writes erases next number line = cond good (On writes erases next) (faultAt number line)
+
+-- what stands behind the end line is faulty, and if nothing does the answer is known
+abbrev pub endedIf : (more : Bool) → (step accepted : ℕ) → code.Turn
+endedIf more step accepted = cond more (faultAt 13 (step + 2)) (Stop 0 0 accepted)
+
 abbrev pub turnAs : code.Turn → (pages : List ℕ) → Turn
 turnAs (On writes erases next) pages = on (record { writes = writes; erases = erases; pages = pages })
 turnAs (Stop number line accepted) pages = stop (record { number = number; line = line; accepted = accepted })
