@@ -64,7 +64,7 @@ all-vanish {most} {i} few (full {row = row} p r q b) n v s =
     all-vanish few b (omega arith) (cleared i row v) (from-cleared s r q)
 
 -- an original has its own bit alone
-pub one-cleared : (i row k : ℕ) → i < k → cleared i row (2 ^ k) ≡ 2 ^ k
+one-cleared : (i row k : ℕ) → i < k → cleared i row (2 ^ k) ≡ 2 ^ k
 unfolding cleared
 one-cleared i row k h = rw (power-other k i (λ e. absurd (omega arith)))
 

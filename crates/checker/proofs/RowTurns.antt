@@ -19,14 +19,14 @@ inserted-none i (row ∷ rows) = passed i row rows 0 (rw zero-div) ∙ ap (λ (l
 
 -- bit j is the mask's lowest, and row j stands at d
 module _ (v j : ℕ) (low : v % 2 ^ j ≡ 0) (bit : hasBit v j ≡ true) where
-  pub inserted-put : (i : ℕ) (rows : List ℕ) (d : ℕ) → i + d ≡ j → d < length rows → getD rows d 0 ≡ 0 → inserted i rows v ≡ set rows d v
+  inserted-put : (i : ℕ) (rows : List ℕ) (d : ℕ) → i + d ≡ j → d < length rows → getD rows d 0 ≡ 0 → inserted i rows v ≡ set rows d v
   unfolding inserted
   inserted-put i [] d e h z = absurd (omega arith)
   inserted-put i (row ∷ rows) zero e h z = let here : i ≡ j = omega arith in rw (z, here, bit)
   inserted-put i (row ∷ rows) (suc d) e h z =
       passed i row rows v (no-bit-below v i j (omega arith) low) ∙ ap (λ (l : List ℕ). row ∷ l) (inserted-put (suc i) rows d (omega arith) (omega arith) z)
 
-  pub inserted-add : (i : ℕ) (rows : List ℕ) (d : ℕ) → i + d ≡ j → d < length rows → getD rows d 0 ≢ 0 → getD rows d 0 % 2 ^ j ≡ 0
+  inserted-add : (i : ℕ) (rows : List ℕ) (d : ℕ) → i + d ≡ j → d < length rows → getD rows d 0 ≢ 0 → getD rows d 0 % 2 ^ j ≡ 0
       → hasBit (getD rows d 0) j ≡ true → inserted i rows v ≡ inserted i rows (bitXor v (getD rows d 0))
   unfolding inserted cleared
   inserted-add i [] d e h some clear there = absurd (omega arith)

@@ -18,10 +18,10 @@ use Rattle.checker.proofs.TurnLaws.{said-write, said-erase, turn-bad, t
 
 module _ (n m : ℕ) (pages text : List ℕ) (writes erases at next : ℕ) (S : Standing n m pages text writes erases at) (ahead : at < next) (within : next ≤ length text) where
   module _ (b q mask : ℕ) (back : List ℕ) (is : back ≡ cond (isBadWrite m pages b q) pages (pageWritten m pages b q mask)) (good : isBadWrite m pages b q ≡ false) (inside : q < m) where
-    pub pages-written : back ≡ pageWritten m pages b q mask
+    pages-written : back ≡ pageWritten m pages b q mask
     pages-written = is ∙ ap (λ (t : Bool). cond t pages (pageWritten m pages b q mask)) good
 
-    pub stands-written : mask < 2 ^ (n * m) → Standing n m back text (writes + 1) erases next
+    stands-written : mask < 2 ^ (n * m) → Standing n m back text (writes + 1) erases next
     unfolding pageWritten
     stands-written small = record {
       size = ap length pages-written ∙ length-set pages (slot m b q) mask ∙ S .size;
@@ -31,7 +31,7 @@ module _ (n m : ℕ) (pages text : List ℕ) (writes erases at next : ℕ) (S : 
       within = within;
     }
 
-  pub stands-erased : (b : ℕ) (back : List ℕ) → back ≡ blockErased m pages b → b * m + m ≤ length pages → areDetermined (n * m) (blockErased m pages b) ≡ true
+  stands-erased : (b : ℕ) (back : List ℕ) → back ≡ blockErased m pages b → b * m + m ≤ length pages → areDetermined (n * m) (blockErased m pages b) ≡ true
       → Standing n m back text writes (erases + 1) next
   unfolding blockErased
   stands-erased b back is fits d = record {
