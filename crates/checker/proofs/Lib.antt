@@ -1,6 +1,8 @@
 pub mod SumLaws
+pub mod LowestLaws
 pub mod ReduceLaws
 pub mod BasisLaws
+pub mod FilledLaws
 pub mod RowTurns
 pub mod TextLaws
 pub mod LineLaws
@@ -15,6 +17,8 @@ pub mod HeldLaws
 pub mod PlacesHeld
 pub mod MethodPassed
 pub mod LinesBack
+pub mod MasksLaws
+pub mod StandingLaws
 pub mod AcceptedLaws
 pub mod FirstLaws
 pub mod Exampled

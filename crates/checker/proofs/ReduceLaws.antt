@@ -1,11 +1,15 @@
--- Reduction is linear, whatever the rows are: so if each page reduces to nothing, so does each sum of pages.
+-- What is left of a mask after all rows. This is linear, whatever the rows are: so if each page reduces to nothing, so does each sum of pages.
 use Rattle.flash.proofs.Kit.{_≡_, refl, sym, ap, _∙_, ⊎-elim, true, false, List, [], _∷_, ℕ, suc, _+_, _/_, _%_, _^_, _<_, arith, length, getD}
 use Rattle.flash.proofs.Kit.{bitXor, xor-self, xor-shr, xor-add-and, xor-zero-r, eqb-true, eqb-false}
 use Rattle.flash.proofs.Bools.{bool-cases, or-cases}
 use Rattle.flash.proofs.Xor.{xor-assoc}
 use Rattle.checker.specs.Pages.{isSum}
-use Rattle.checker.specs.inner.Elimination.{hasBit, cleared, reduced}
+use Rattle.checker.specs.inner.Elimination.{hasBit, cleared}
 use Rattle.checker.proofs.SumLaws.{xor-swap, xor-both}
+
+unfoldable pub reduced : (i : ℕ) → (rows : List ℕ) → (mask : ℕ) → ℕ
+reduced i [] mask = mask
+reduced i (row ∷ rows) mask = reduced (suc i) rows (cleared i row mask)
 
 -- bit i of a sum
 bit-xor : (a b i : ℕ) → bitXor a b / 2 ^ i % 2 ≡ (a / 2 ^ i + b / 2 ^ i) % 2

@@ -1,9 +1,8 @@
 -- What a line that was told leads to, and how the check goes on from line to line.
-use Rattle.flash.proofs.Kit.{_≡_, refl, sym, ap, _∙_, Bool, true, false, cond, _&&_, List, [], ℕ, zero, suc, _+_, _-_, _*_, _≤_, _<_, min, arith, eqb, length, drop}
-use Rattle.flash.proofs.Kit.{length-drop, length-set, length-replicate, replicate, drop-of-length-le, eqb-true, eq-eqb, ne-eqb}
+use Rattle.flash.proofs.Kit.{_≡_, refl, sym, ap, _∙_, true, false, _&&_, List, [], ℕ, zero, suc, _+_, _-_, _*_, _≤_, _<_, min, arith, eqb, length, drop}
+use Rattle.flash.proofs.Kit.{length-drop, drop-of-length-le, eqb-true, eq-eqb, ne-eqb}
 use Rattle.flash.proofs.Bools.{bool-eq}
-use Rattle.flash.specs.Geometry.{slot}
-use Rattle.flash.proofs.Parts.{part-fits, length-setPart}
+use Rattle.flash.proofs.Parts.{part-fits}
 use Rattle.checker.specs.Lines.{Line, write, erase, end, other, readLine}
 use Rattle.checker.specs.Pages.{maskOf, isBadWrite, pageWritten, blockErased, areDetermined}
 use Rattle.checker.specs.Answer.{CheckAnswer, faulty, Progress, stepOf, Turn, on, stop, turn, thenCheck, checkFrom}
@@ -11,7 +10,7 @@ use Rattle.checker.specs.inner.Told.{cap, Said, wrote, erased, ended, un
 use Rattle.checker.specs.declared.turn.Turn as code
 use Rattle.checker.specs.declared.turn.Turn.the-variants.{On, Stop}
 use Rattle.checker.specs.inner.Turns.{Standing, finished, turnAs, GoesOn}
-use Rattle.checker.proofs.PageLaws.{written-determined, write-survives, erase-survives}
+use Rattle.checker.proofs.PageLaws.{write-survives, erase-survives}
 
 -- ---- what was told, part by part
 kindOf : Said → ℕ
@@ -124,31 +123,6 @@ module _ (n m : ℕ) (list : List ℕ) (line : Line) (rest : List ℕ) (P : Prog
   pub turn-other : unread ≡ said line rest → stop (faulty 13 (stepOf P + 1)) ≡ turn n m list line rest P
   unfolding turn
   turn-other e = rw (said-other line rest e)
-
--- ---- what stands after a turn
-module _ (n m : ℕ) (pages text : List ℕ) (writes erases at next : ℕ) (S : Standing n m pages text writes erases at) (ahead : at < next) (within : next ≤ length text) where
-  module _ (b q mask : ℕ) (back : List ℕ) (is : back ≡ cond (isBadWrite m pages b q) pages (pageWritten m pages b q mask)) (good : isBadWrite m pages b q ≡ false) (inside : q < m) where
-    pub pages-written : back ≡ pageWritten m pages b q mask
-    pages-written = is ∙ ap (λ (t : Bool). cond t pages (pageWritten m pages b q mask)) good
-
-    pub stands-written : Standing n m back text (writes + 1) erases next
-    unfolding pageWritten
-    stands-written = record {
-      size = ap length pages-written ∙ length-set pages (slot m b q) mask ∙ S .size;
-      determined = ap (areDetermined (n * m)) pages-written ∙ written-determined m pages b q inside good (n * m) mask (S .determined);
-      few = omega (arith, S .few);
-      within = within;
-    }
-
-  pub stands-erased : (b : ℕ) (back : List ℕ) → back ≡ blockErased m pages b → b * m + m ≤ length pages → areDetermined (n * m) (blockErased m pages b) ≡ true
-      → Standing n m back text writes (erases + 1) next
-  unfolding blockErased
-  stands-erased b back is fits d = record {
-    size = ap length is ∙ length-setPart m b pages (replicate m 0) fits (length-replicate m 0) ∙ S .size;
-    determined = ap (areDetermined (n * m)) is ∙ d;
-    few = omega (arith, S .few);
-    within = within;
-  }
 
 -- ---- line by line
 module _ (n m : ℕ) (list text : List ℕ) where

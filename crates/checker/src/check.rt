@@ -1,9 +1,7 @@
 // The call: whether a listing of another mover's steps would survive a cut at any line. Nothing is multiplied before the sizes are in their ranges.
 ghost use mathlib.Core.Path.{_≡_};
-ghost use mathlib.Core.Bool.{not};
-ghost use Prim.Native.Nat.{_+_, _*_, _≤_};
+ghost use Prim.Native.Nat.{_+_, _*_};
 ghost use lib.ListN.{length};
-ghost use Rattle.split.specs.OneToOne.{badList};
 ghost use Rattle.checker.specs.Answer.{areSizes, checkFrom, start, checkAnswer};
 ghost use Rattle.checker.specs.Pages.{restingPages};
 ghost use Rattle.checker.specs.inner.Turns.{Checkable};
@@ -11,14 +9,11 @@ ghost use Rattle.checker.specs.inner.Checks.{checkedAs};
 use crate::pages::put_rest;
 use crate::turn::Turn;
 use crate::turn::take_turn;
-use split::drops::MASKS;
 use split::drops::has_drop;
-use split::list::list_refusal;
+use split::list::is_good;
 
 // The most slots: those of 64 originals, and of a spare that is no larger than they are.
 const MOST_SLOTS: usize = 128;
-
-const MOST_ORIGINALS: usize = 64;
 
 // The number, the faulty line, counted from 1, and whether the listing is accepted.
 pub struct Checked {
@@ -94,17 +89,6 @@ fn refused(number: u32) -> Checked
         line: 0,
         accepted: 0,
     }
-}
-
-// Whether no number stands twice in the list and each is below `originals`, dropped pages aside. Nothing is pinned here.
-fn is_good(list: &[u16], originals: usize) -> bool
-    requires { ⌜ (length (now list) ≡ originals) × (originals ≤ 64) ⌝ }
-    ensures { λ r. ⌜ r ≡ not (badList originals (now (list .entry))) ⌝ }
-{
-    let pins = [0u8; MOST_ORIGINALS];
-    let mut marks = [0u64; MASKS];
-    let number = list_refusal(list, &pins[..originals], originals, &mut marks);
-    number != 3
 }
 
 pub fn check(n: usize, m: usize, list: &[u16], text: &[u8]) -> Checked

@@ -1,12 +1,13 @@
 // What one line of a listing leads to.
 ghost use mathlib.Core.Path.{_≡_};
 ghost use mathlib.Core.Bool.{cond, not};
-ghost use Prim.Native.Nat.{_+_, _*_, _≤_, _<_};
+ghost use Prim.Native.Nat.{_+_, _*_, _^_, _≤_, _<_};
 ghost use lib.ListN.{length, drop};
 ghost use Rattle.checker.specs.Lines.{readLine};
 ghost use Rattle.checker.specs.Pages.{isBadWrite, pageWritten, blockErased, areDetermined};
 ghost use Rattle.checker.specs.Answer.{turn};
-ghost use Rattle.checker.specs.inner.Turns.{Checkable, Standing, finished, turnAs, GoesOn};
+ghost use Rattle.checker.specs.inner.Pages.{Masks};
+ghost use Rattle.checker.specs.inner.Turns.{Checkable, Standing, finished, faultAt, onIf, endedIf, turnAs, GoesOn};
 use crate::basis::are_determined;
 use crate::line::Told;
 use crate::line::read_line;
@@ -28,28 +29,66 @@ pub enum Turn {
     },
 }
 
-// Writes a page and tells so, unless it must not be written. What was determined before stays so, with the page and without it.
-fn write_page(pages: &mut [u64], m: usize, block: usize, page: usize, mask: u64) -> bool
-    requires { ⌜ (block * m + m ≤ length (now pages)) × (page < m) ⌝ }
-    ensures { λ r. ⌜ r ≡ not (isBadWrite m (now (pages .entry)) block page) ⌝ }
+fn fault(number: u32, line: usize) -> Turn
+    ensures { λ r. ⌜ r ≡ faultAt number line ⌝ }
+{
+    Turn::Stop {
+        number,
+        line,
+        accepted: 0,
+    }
+}
+
+// Writes a page, unless it must not be written. What was determined before stays so, with the page and without it.
+fn write_page(
+    pages: &mut [u64],
+    m: usize,
+    block: usize,
+    page: usize,
+    mask: u64,
+    writes: usize,
+    erases: usize,
+    next: usize,
+) -> Turn
+    requires { ⌜ (block * m + m ≤ length (now pages)) × (page < m) × (writes + erases + 1 < 2 ^ 64) ⌝ }
+    ensures { λ r. ⌜ r ≡ onIf (not (isBadWrite m (now (pages .entry)) block page)) (writes + 1) erases next 14 (writes + erases + 1) ⌝ }
     ensures { λ _. ⌜ now (pages .exit) ≡ cond (isBadWrite m (now (pages .entry)) block page) (now (pages .entry))
         (pageWritten m (now (pages .entry)) block page mask) ⌝ }
 {
     if is_bad_write(pages, m, block, page) {
-        return false;
+        return fault(14, writes + erases + 1);
     }
     pages[block * m + page] = mask;
-    true
+    Turn::On {
+        writes: writes + 1,
+        erases,
+        next,
+    }
 }
 
-// Erases a block and tells whether all originals are determined still.
-fn erase_block(pages: &mut [u64], count: usize, m: usize, block: usize) -> bool
-    requires { ⌜ (block * m + m ≤ length (now pages)) × (count ≤ 64) ⌝ }
-    ensures { λ r. ⌜ (r ≡ areDetermined count (blockErased m (now (pages .entry)) block))
-        × (now (pages .exit) ≡ blockErased m (now (pages .entry)) block) ⌝ }
+// Erases a block, and asks whether all originals are determined still.
+fn erase_block(
+    pages: &mut [u64],
+    count: usize,
+    m: usize,
+    block: usize,
+    writes: usize,
+    erases: usize,
+    next: usize,
+) -> Turn
+    requires { ⌜ (block * m + m ≤ length (now pages)) × (count ≤ 64) × Masks count (now pages) × (writes + erases + 1 < 2 ^ 64) ⌝ }
+    ensures { λ r. ⌜ r ≡ onIf (areDetermined count (blockErased m (now (pages .entry)) block)) writes (erases + 1) next 15 (writes + erases + 1) ⌝ }
+    ensures { λ _. ⌜ now (pages .exit) ≡ blockErased m (now (pages .entry)) block ⌝ }
 {
     erase(pages, m, block);
-    are_determined(pages, count)
+    if !are_determined(pages, count) {
+        return fault(15, writes + erases + 1);
+    }
+    Turn::On {
+        writes,
+        erases: erases + 1,
+        next,
+    }
 }
 
 // Whether a listing that ends is accepted: its counts are true and the pages are as the list asks.
@@ -61,6 +100,29 @@ fn is_finished(n: usize, m: usize, list: &[u16], pages: &[u64], counted: bool) -
         return 0;
     }
     if is_requested(pages, m, list) { 1 } else { 0 }
+}
+
+// What the end line leads to, behind so many steps.
+fn end_turn(
+    n: usize,
+    m: usize,
+    list: &[u16],
+    pages: &[u64],
+    more: bool,
+    counted: bool,
+    step: usize,
+) -> Turn
+    requires { ⌜ Checkable n m (now list) × (length (now pages) ≡ (n + 1) * m) × (step + 2 < 2 ^ 64) ⌝ }
+    ensures { λ r. ⌜ r ≡ endedIf more step (finished m (now (list .entry)) (now (pages .entry)) counted) ⌝ }
+{
+    if more {
+        return fault(13, step + 2);
+    }
+    Turn::Stop {
+        number: 0,
+        line: 0,
+        accepted: is_finished(n, m, list, pages, counted),
+    }
 }
 
 // The line at a position is judged, and the pages change by it.
@@ -88,59 +150,16 @@ pub fn take_turn(
             page,
             mask,
             next,
-        } => {
-            if write_page(pages, m, block, page, mask) {
-                Turn::On {
-                    writes: writes + 1,
-                    erases,
-                    next,
-                }
-            } else {
-                Turn::Stop {
-                    number: 14,
-                    line: step + 1,
-                    accepted: 0,
-                }
-            }
-        }
-        Told::Erase { block, next } => {
-            if erase_block(pages, n * m, m, block) {
-                Turn::On {
-                    writes,
-                    erases: erases + 1,
-                    next,
-                }
-            } else {
-                Turn::Stop {
-                    number: 15,
-                    line: step + 1,
-                    accepted: 0,
-                }
-            }
-        }
+        } => write_page(pages, m, block, page, mask, writes, erases, next),
+        Told::Erase { block, next } => erase_block(pages, n * m, m, block, writes, erases, next),
         Told::End {
             writes: written,
             erases: erased,
             next,
         } => {
-            if next < text.len() {
-                return Turn::Stop {
-                    number: 13,
-                    line: step + 2,
-                    accepted: 0,
-                };
-            }
             let counted = (written == writes) & (erased == erases);
-            Turn::Stop {
-                number: 0,
-                line: 0,
-                accepted: is_finished(n, m, list, pages, counted),
-            }
+            end_turn(n, m, list, pages, next < text.len(), counted, step)
         }
-        Told::Other => Turn::Stop {
-            number: 13,
-            line: step + 1,
-            accepted: 0,
-        },
+        Told::Other => fault(13, step + 1),
     }
 }

@@ -1,10 +1,6 @@
 // The two calls: the least y of an order, and the order with the least y of all.
 ghost use mathlib.Core.Path.{_≡_};
-ghost use mathlib.Core.Bool.{not};
-ghost use Prim.Native.Nat.{_≤_};
-ghost use lib.ListN.{length};
 ghost use Rattle.flash.specs.Tables.{refusal};
-ghost use Rattle.split.specs.OneToOne.{badList};
 ghost use Rattle.orders.specs.Answer.{listRows, leastAnswer, bestAnswer};
 ghost use Rattle.orders.specs.inner.Calls.{leastAs, bestAs};
 use crate::places::PLACES;
@@ -18,9 +14,7 @@ use flash::sizes::MOST_BLOCKS;
 use flash::sizes::Sizes;
 use flash::sizes::in_range;
 use split::drops::MASKS;
-use split::list::list_refusal;
-
-const MOST_ENTRIES: usize = 4096;
+use split::list::is_good;
 
 // What both calls return: the number, the least y, and the page that forbids the next lower one.
 pub struct OrderResult {
@@ -37,17 +31,6 @@ fn refused(number: u32) -> OrderResult
         y: 0,
         page: 0,
     }
-}
-
-// Whether the list's check does not give 3. Nothing is pinned here.
-fn is_good(list: &[u16], originals: usize) -> bool
-    requires { ⌜ (length (now list) ≡ originals) × (originals ≤ 4096) ⌝ }
-    ensures { λ r. ⌜ r ≡ not (badList originals (now (list .entry))) ⌝ }
-{
-    let pins = [0u8; MOST_ENTRIES];
-    let mut marks = [0u64; MASKS];
-    let number = list_refusal(list, &pins[..originals], originals, &mut marks);
-    number != 3
 }
 
 // Numbers 1, 16, 2 and 3, or 0. Nothing is multiplied before the sizes are in their ranges.

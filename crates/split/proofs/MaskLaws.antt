@@ -89,7 +89,7 @@ xor-bit a b bit =
 power-self : (k : ℕ) → bitAt (2 ^ k) k ≡ 1
 power-self k = ap (λ (x : ℕ). x % 2) (div-self (pow-pos k))
 
-power-other : (k bit : ℕ) → bit ≢ k → bitAt (2 ^ k) bit ≡ 0
+pub power-other : (k bit : ℕ) → bit ≢ k → bitAt (2 ^ k) bit ≡ 0
 power-other k bit ne = ⊎-elim
     (λ (l : bit < k).
     let e : k ≡ suc (k - suc bit) + bit = omega arith in

@@ -51,3 +51,12 @@ pub fn list_refusal(list: &[u16], pins: &[u8], originals: usize, marks: &mut [u6
     }
     0
 }
+
+// Whether a list would not be refused as 3, whatever is pinned.
+pub fn is_good(list: &[u16], originals: usize) -> bool
+    requires { ⌜ originals ≤ 4096 ⌝ }
+    ensures { λ r. ⌜ r ≡ not (badList originals (now (list .entry))) ⌝ }
+{
+    let mut marks = [0u64; MASKS];
+    check(list, originals, &mut marks)
+}

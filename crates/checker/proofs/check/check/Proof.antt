@@ -45,7 +45,7 @@ is-good-requires c κs =
     let y = c .before .before in
     let z = y .before in
     let a = z .before .before .before .before .args in
-    (y .if2 .left, sizes-few (a .n) (a .m) (a .list .now) (a .text .now) (sized z) .4)
+    omega (arith, sizes-few (a .n) (a .m) (a .list .now) (a .text .now) (sized z))
 
 returns-4 : tie.Need-returns-4
 returns-4 c =

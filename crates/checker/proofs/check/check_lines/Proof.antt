@@ -3,6 +3,7 @@ use Rattle.flash.proofs.Kit.{_≡_, refl, sym, _∙_, _+_, _-_, arith, length, 
 use Rattle.checker.specs.Answer.{checkFrom, start}
 use Rattle.checker.specs.inner.Turns.{Standing}
 use Rattle.checker.proofs.PageLaws.{length-resting, resting-determined}
+use Rattle.checker.proofs.MasksLaws.{masks-resting}
 use Rattle.checker.proofs.TurnLaws.{check-none, told-on, told-stop}
 use Rattle.checker.proofs.check.check_lines.Statement.{statement}
 use Rattle.checker.proofs.check.check_lines.Tie as tie
@@ -24,7 +25,7 @@ loop-holds c =
     let a = z .args in
     let rest = z .pre .1 in
     let all : length (a .text .now) - (0 + 0) ≡ length (a .text .now) = omega arith in (
-      rw rest (record { size = length-resting (a .n) (a .m); determined = resting-determined (a .n) (a .m); few = omega arith; within = omega arith }),
+      rw rest (record { size = length-resting (a .n) (a .m); masks = masks-resting (a .n) (a .m); determined = resting-determined (a .n) (a .m); few = omega arith; within = omega arith }),
       refl,
       rw (rest, all),
     )

@@ -33,9 +33,7 @@ lengths c =
     both-sizes (eqb (length (a .list .now)) (a .n * a .m)) (eqb (length (a .order .now)) (a .n)) (c .if3 .left)
 
 is-good-requires : tie.Need-is-good-requires
-is-good-requires c κs =
-    let a = c .before .before .before .before .before .before .args in
-    (eqb-true (length (a .list .now)) (a .n * a .m) (both (eqb (length (a .list .now)) (a .n * a .m)) (eqb (length (a .order .now)) (a .n)) (lengths c) .0), product (c .before))
+is-good-requires c κs = product (c .before)
 
 returns-4 : tie.Need-returns-4
 returns-4 c =
