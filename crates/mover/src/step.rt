@@ -25,21 +25,12 @@ use method::tally::Tally;
 use places::place::Op;
 use places::place::Place;
 use walk::rows::ROW;
+use walk::rows::row;
 use walk::rows::set_rows;
 use walk::terms::Addends;
 use walk::terms::backward_terms;
 use walk::terms::forward_terms;
 use walk::walk::SLOTS;
-
-// The row of a set in a table.
-fn row(table: &[u8], set: usize) -> &[u8]
-    requires { ⌜ (set < 64) × (length (now table) ≡ tableLength) ⌝ }
-    ensures { λ r. ⌜ now r ≡ take (set * rowLength + rowLength - set * rowLength) (drop (set * rowLength) (now (table .entry))) ⌝ }
-{
-    let start = set * ROW;
-    let end = start + ROW;
-    &table[start..end]
-}
 
 // The set of a page that is written: its number, or what the table has where the page goes.
 fn set_written(m: usize, table: &[u8], backward: bool, block: usize, page: usize) -> usize

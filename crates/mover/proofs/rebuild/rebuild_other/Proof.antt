@@ -19,14 +19,14 @@ abbrev chip : tie.Start → List ℕ → Chip
 chip c marks = record { store = c .args .store .now; marks = marks }
 
 abbrev begin : tie.After-zero-slots → tie.Start
-begin c = c .before .before .before .before .before .before .before
+begin c = c .before .before .before .before .before .before .before .before .before
 
 zero-slots-requires : tie.Need-zero-slots-requires
 zero-slots-requires c κs =
-    let s = c .before .before .before .before .before .before in
+    let s = c .before .before .before .before .before .before .before .before in
     let O = s .pre .6 in
     let F = O .some-marks .2 .full (O .whole) in
-    (s .pre .0, s .pre .1, F .1, F .2, length-replicate {A = ℕ} 67 0)
+    (s .pre .0, s .pre .1, F .1, F .2, s .pre .7, length-replicate {A = ℕ} 67 0)
 
 slice-aggregate-has-slot : tie.Need-slice-aggregate-has-slot
 slice-aggregate-has-slot c = sym (c .before .zero-slots .ensures .1)
