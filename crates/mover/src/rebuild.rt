@@ -45,7 +45,7 @@ pub struct Told {
 }
 
 // The slots of an original and of a zero sum, together.
-const OTHER: usize = 132;
+const OTHER: usize = 130;
 
 // An original that is lost.
 fn lose(page: &mut [u8]) -> u8
@@ -95,7 +95,7 @@ fn rebuild_other(
     page: &mut [u8],
 ) -> u8
     requires { ⌜ AcceptedMove (moveOf sizes (now list) (now sets)) × (k < sizes .n * sizes .m) × (length (now store) ≡ storeLength sizes)
-        × (length (now page) ≡ sizes .p) × (count ≤ 65) × (count ≤ length (now own))
+        × (length (now page) ≡ sizes .p) × (count ≤ 64) × (count ≤ length (now own))
         × Others (moveOf sizes (now list) (now sets)) told slot k (take count (now own))
         × RowsOf (moveOf sizes (now list) (now sets)) (setOf (now sets) k) (now pages) (now sources) ⌝ }
     ensures { λ r. ⌜ ((marks : List ℕ) (found : Reading) → Sees (moveOf sizes (now (list .entry)) (now (sets .entry))) marks found told

@@ -23,7 +23,7 @@ use flash::casts::wide;
 use flash::sizes::Sizes;
 
 // The slots of one original, and two more.
-pub const ZERO: usize = 67;
+pub const ZERO: usize = 66;
 
 // A slot and a list of slots, but not where both have it.
 fn with_slot(slot: usize, slots: &[usize], count: usize, to: &mut [usize]) -> usize

@@ -44,7 +44,7 @@ slice-aggregate-with-slot c = sym (c .before .before .before .before .forward-re
 with-slot-requires : tie.Need-with-slot-requires
 with-slot-requires c κs =
     let F = c .before .before .before .before .before .forward-rest .ensures .0 in
-    (omega (arith, F .0, F .1), omega (arith, F .0, length-replicate {A = ℕ} 67 0))
+    (omega (arith, F .0, F .1), omega (arith, F .0, length-replicate {A = ℕ} 66 0))
 
 low : (s : tie.Start) → (s .args .i - 1) * s .args .sizes .m ≤ 4096
 low s = product-le (s .args .i - 1) (s .args .sizes .m) {c = 64} {d = 64} (omega (arith, s .pre .3, s .pre .0 .ranges .n-high)) (s .pre .0 .ranges .m-high)
@@ -60,7 +60,7 @@ with-slot-requires-2 c κs =
     let w = c .before .before .before .before in
     let F = w .before .before .before .before .before .before .forward-rest .ensures .0 in
     let s = begin (w .before .before .before) in (
-      omega (arith, w .with-slot .ensures .1, F .0, w .with-slot .kept .1 .1 .1 .0, length-replicate {A = ℕ} 67 0),
+      omega (arith, w .with-slot .ensures .1, F .0, w .with-slot .kept .1 .1 .1 .0, length-replicate {A = ℕ} 66 0),
       subst (λ (x : ℕ). 1 + w .with-slot .result ≤ x) (sym (s .pre .6)) (omega (arith, w .with-slot .ensures .1, F .0)),
     )
 
