@@ -7,11 +7,13 @@ ghost use lib.ListN.{length, take, replicate};
 ghost use Rattle.flash.specs.Lists.{range, concatMap};
 ghost use Rattle.flash.specs.Geometry.{originalCount, storeLength};
 ghost use Rattle.split.specs.Request.{requestOf};
+ghost use Rattle.split.specs.Split.{setOf};
 ghost use Rattle.method.specs.Move.{moveOf, AcceptedMove};
 ghost use Rattle.method.specs.Mend.{Reading, seen};
 ghost use Rattle.method.specs.Rebuild.{rebuiltFrom, rebuiltPage, rebuiltFlag, areaLength, flagsLength, rebuildAnswer};
+ghost use Rattle.walk.specs.inner.Rows.{PagesTable, SourcesTable};
 ghost use Rattle.walk.specs.inner.Slots.{zeroLength};
-ghost use Rattle.mover.specs.inner.Rebuild.{zeroHere, Sees, Seen, Others};
+ghost use Rattle.mover.specs.inner.Rebuild.{zeroHere, Sees, Seen, Others, RowsOf};
 use crate::rebuild_refusals::rebuild_refusal;
 use flash::bytes::fill;
 use flash::casts::wide;
@@ -24,8 +26,12 @@ use walk::apart::apart_slots;
 use walk::apart::has_slot;
 use walk::moment::Moment;
 use walk::moment::moment_in;
+use walk::rows::TABLE;
+use walk::rows::pages_table;
+use walk::rows::row;
+use walk::rows::sources_table;
 use walk::walk::SLOTS;
-use walk::walk::read_slots;
+use walk::walk::row_slots;
 use walk::zero::ZERO;
 use walk::zero::backward_zero;
 use walk::zero::forward_zero;
@@ -39,7 +45,7 @@ pub struct Told {
 }
 
 // The slots of an original and of a zero sum, together.
-const OTHER: usize = 132;
+const OTHER: usize = 130;
 
 // An original that is lost.
 fn lose(page: &mut [u8]) -> u8
@@ -54,21 +60,23 @@ fn zero_slots(
     sizes: Sizes,
     list: &[u16],
     sets: &[u8],
+    pages: &[u8],
+    sources: &[u8],
     told: Told,
     k: usize,
     zero: &mut [usize; ZERO],
 ) -> usize
     requires { ⌜ AcceptedMove (moveOf sizes (now list) (now sets)) × (k < sizes .n * sizes .m) × (1 ≤ told .change) × (told .change ≤ sizes .n)
-        × (length (now zero) ≡ zeroLength) ⌝ }
+        × RowsOf (moveOf sizes (now list) (now sets)) (setOf (now sets) k) (now pages) (now sources) × (length (now zero) ≡ zeroLength) ⌝ }
     ensures { λ r. ⌜ (r ≤ zeroLength) × (length (now (zero .exit)) ≡ zeroLength) × ((marks : List ℕ) (found : Reading)
         → Sees (moveOf sizes (now (list .entry)) (now (sets .entry))) marks found told → told .torn ≡ false
         → take r (now (zero .exit)) ≡ zeroHere (moveOf sizes (now (list .entry)) (now (sets .entry))) found k) ⌝ }
 {
     let set = wide(sets[k]);
     if told.backward {
-        return backward_zero(sizes, list, sets, told.change, set, zero);
+        return backward_zero(sizes, list, sets, set, pages, sources, told.change, zero);
     }
-    forward_zero(sizes, list, sets, told.change, set, zero)
+    forward_zero(sizes, list, sets, set, pages, sources, told.change, zero)
 }
 
 // Read's sum has the slot: the other sum, if there is one without it.
@@ -76,6 +84,8 @@ fn rebuild_other(
     sizes: Sizes,
     list: &[u16],
     sets: &[u8],
+    pages: &[u8],
+    sources: &[u8],
     store: &[u8],
     told: Told,
     slot: usize,
@@ -85,14 +95,15 @@ fn rebuild_other(
     page: &mut [u8],
 ) -> u8
     requires { ⌜ AcceptedMove (moveOf sizes (now list) (now sets)) × (k < sizes .n * sizes .m) × (length (now store) ≡ storeLength sizes)
-        × (length (now page) ≡ sizes .p) × (count ≤ 65) × (count ≤ length (now own))
-        × Others (moveOf sizes (now list) (now sets)) told slot k (take count (now own)) ⌝ }
+        × (length (now page) ≡ sizes .p) × (count ≤ 64) × (count ≤ length (now own))
+        × Others (moveOf sizes (now list) (now sets)) told slot k (take count (now own))
+        × RowsOf (moveOf sizes (now list) (now sets)) (setOf (now sets) k) (now pages) (now sources) ⌝ }
     ensures { λ r. ⌜ ((marks : List ℕ) (found : Reading) → Sees (moveOf sizes (now (list .entry)) (now (sets .entry))) marks found told
         → (let from = rebuiltFrom (moveOf sizes (now (list .entry)) (now (sets .entry))) (seen marks) found slot k in
         (r ≡ rebuiltFlag from) × (now (page .exit) ≡ rebuiltPage (sizes .p) (record { store = now (store .entry); marks = marks }) from))) ⌝ }
 {
     let mut zero = [0usize; ZERO];
-    let found = zero_slots(sizes, list, sets, told, k, &mut zero);
+    let found = zero_slots(sizes, list, sets, pages, sources, told, k, &mut zero);
     if !has_slot(&zero, found, slot) {
         return lose(page);
     }
@@ -107,6 +118,8 @@ fn rebuild_page(
     sizes: Sizes,
     list: &[u16],
     sets: &[u8],
+    pages: &[u8],
+    sources: &[u8],
     store: &[u8],
     told: Told,
     slot: usize,
@@ -114,24 +127,93 @@ fn rebuild_page(
     page: &mut [u8],
 ) -> u8
     requires { ⌜ AcceptedMove (moveOf sizes (now list) (now sets)) × (k < sizes .n * sizes .m) × (length (now store) ≡ storeLength sizes)
-        × (length (now page) ≡ sizes .p) × Seen (moveOf sizes (now list) (now sets)) told ⌝ }
+        × (length (now page) ≡ sizes .p) × Seen (moveOf sizes (now list) (now sets)) told
+        × RowsOf (moveOf sizes (now list) (now sets)) (setOf (now sets) k) (now pages) (now sources) ⌝ }
     ensures { λ r. ⌜ ((marks : List ℕ) (found : Reading) → Sees (moveOf sizes (now (list .entry)) (now (sets .entry))) marks found told
         → (let from = rebuiltFrom (moveOf sizes (now (list .entry)) (now (sets .entry))) (seen marks) found slot k in
         (r ≡ rebuiltFlag from) × (now (page .exit) ≡ rebuiltPage (sizes .p) (record { store = now (store .entry); marks = marks }) from))) ⌝ }
 {
     let mut slots = [0usize; SLOTS];
-    let count = read_slots(sizes, list, sets, told.moment, k, &mut slots);
+    let count = row_slots(
+        sizes,
+        list,
+        sets,
+        pages,
+        sources,
+        told.moment,
+        k,
+        &mut slots,
+    );
     if has_slot(&slots, count, slot) {
         if told.torn {
             return lose(page);
         }
-        return rebuild_other(sizes, list, sets, store, told, slot, k, &slots, count, page);
+        return rebuild_other(
+            sizes,
+            list,
+            sets,
+            pages,
+            sources,
+            store,
+            told,
+            slot,
+            k,
+            &slots,
+            count,
+            page,
+        );
     }
     sum_to_page(store, sizes.p, &slots, count, page);
     1
 }
 
 // All originals, one after the other.
+fn rebuild_pages(
+    sizes: Sizes,
+    list: &[u16],
+    sets: &[u8],
+    pages: &[u8],
+    sources: &[u8],
+    store: &[u8],
+    told: Told,
+    slot: usize,
+    area: &mut [u8],
+    flags: &mut [u8],
+)
+    requires { ⌜ AcceptedMove (moveOf sizes (now list) (now sets)) × (length (now store) ≡ storeLength sizes)
+        × (length (now area) ≡ areaLength sizes) × (length (now flags) ≡ flagsLength sizes) × Seen (moveOf sizes (now list) (now sets)) told
+        × PagesTable (moveOf sizes (now list) (now sets)) (now pages) × SourcesTable (moveOf sizes (now list) (now sets)) (now sources) ⌝ }
+    ensures { λ _. ⌜ ((marks : List ℕ) (found : Reading) → Sees (moveOf sizes (now (list .entry)) (now (sets .entry))) marks found told
+        → (let M = moveOf sizes (now (list .entry)) (now (sets .entry)) in
+        (now (area .exit) ≡ concatMap (λ k. rebuiltPage (sizes .p) (record { store = now (store .entry); marks = marks })
+        (rebuiltFrom M (seen marks) found slot k)) (range 0 (originalCount sizes)))
+        × (now (flags .exit) ≡ map (λ k. rebuiltFlag (rebuiltFrom M (seen marks) found slot k)) (range 0 (originalCount sizes))))) ⌝ }
+{
+    let p = sizes.p;
+    let mut k = 0;
+    while k < flags.len() {
+        let start = k * p;
+        let end = start + p;
+        let set = wide(sets[k]);
+        let row_of_pages = row(pages, set);
+        let row_of_sources = row(sources, set);
+        flags[k] = rebuild_page(
+            sizes,
+            list,
+            sets,
+            row_of_pages,
+            row_of_sources,
+            store,
+            told,
+            slot,
+            k,
+            &mut area[start..end],
+        );
+        k += 1;
+    }
+}
+
+// The same, with tables that are filled for it.
 fn rebuild_all(
     sizes: Sizes,
     list: &[u16],
@@ -150,23 +232,22 @@ fn rebuild_all(
         (rebuiltFrom M (seen marks) found slot k)) (range 0 (originalCount sizes)))
         × (now (flags .exit) ≡ map (λ k. rebuiltFlag (rebuiltFrom M (seen marks) found slot k)) (range 0 (originalCount sizes))))) ⌝ }
 {
-    let p = sizes.p;
-    let mut k = 0;
-    while k < flags.len() {
-        let start = k * p;
-        let end = start + p;
-        flags[k] = rebuild_page(
-            sizes,
-            list,
-            sets,
-            store,
-            told,
-            slot,
-            k,
-            &mut area[start..end],
-        );
-        k += 1;
-    }
+    let mut pages = [0u8; TABLE];
+    let mut sources = [0u8; TABLE];
+    pages_table(sizes, sets, &mut pages);
+    sources_table(sizes, list, sets, &mut sources);
+    rebuild_pages(
+        sizes,
+        list,
+        sets,
+        &pages,
+        &sources,
+        store,
+        told,
+        slot,
+        area,
+        flags,
+    );
 }
 
 // Rebuild: checks in the table's order, then every original. A refused rebuild changes nothing that is lent.

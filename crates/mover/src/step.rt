@@ -4,7 +4,8 @@ ghost use mathlib.Core.Logic.{_≢_};
 ghost use mathlib.Core.Bool.{true, false, cond};
 ghost use mathlib.Core.List.{List, []};
 ghost use Prim.Native.Nat.{ℕ, _+_, _-_, _*_, _≤_, _<_};
-ghost use lib.ListN.{length, getD, take, drop};
+ghost use lib.ListN.{length, getD};
+ghost use Rattle.flash.specs.Lists.{part};
 ghost use Rattle.flash.specs.Geometry.{slotCount, storeLength, marksLength};
 ghost use Rattle.flash.specs.inner.Reciprocal.{reciprocalOf};
 ghost use Rattle.method.specs.Move.{moveOf};
@@ -25,21 +26,12 @@ use method::tally::Tally;
 use places::place::Op;
 use places::place::Place;
 use walk::rows::ROW;
+use walk::rows::row;
 use walk::rows::set_rows;
 use walk::terms::Addends;
 use walk::terms::backward_terms;
 use walk::terms::forward_terms;
 use walk::walk::SLOTS;
-
-// The row of a set in a table.
-fn row(table: &[u8], set: usize) -> &[u8]
-    requires { ⌜ (set < 64) × (length (now table) ≡ tableLength) ⌝ }
-    ensures { λ r. ⌜ now r ≡ take (set * rowLength + rowLength - set * rowLength) (drop (set * rowLength) (now (table .entry))) ⌝ }
-{
-    let start = set * ROW;
-    let end = start + ROW;
-    &table[start..end]
-}
 
 // The set of a page that is written: its number, or what the table has where the page goes.
 fn set_written(m: usize, table: &[u8], backward: bool, block: usize, page: usize) -> usize
@@ -50,6 +42,17 @@ fn set_written(m: usize, table: &[u8], backward: bool, block: usize, page: usize
         return wide(table[(block - 1) * m + page]);
     }
     page
+}
+
+// A row of a set: the one that was filled for it where few steps are taken, else that of a table.
+fn chosen_row<'a>(few: bool, own: &'a [u8], table: &'a [u8], set: usize) -> &'a [u8]
+    requires { ⌜ (few ≡ false → (set < 64) × (length (now table) ≡ tableLength)) ⌝ }
+    ensures { λ r. ⌜ (few ≡ true → now r ≡ now (own .entry)) × (few ≡ false → now r ≡ part rowLength set (now (table .entry))) ⌝ }
+{
+    if few {
+        return own;
+    }
+    row(table, set)
 }
 
 // What is summed for a write, by the rows of its set. The block that is being filled tells what the others are full of, so that the marks are not
@@ -98,7 +101,8 @@ fn row_terms(
     forward_terms(sizes, set, pages, sources, drops, block, slots)
 }
 
-// The same, with rows that are taken from the tables, or filled first where only few steps are taken.
+// The same, with rows that are taken from the tables, or filled first where only few steps are taken. The rows are chosen before, so that there is one
+// call of what sums them, which is then compiled in its place.
 fn write_terms(
     sizes: Sizes,
     reciprocal: usize,
@@ -124,34 +128,20 @@ fn write_terms(
         (now (slots .exit)) r) ⌝ }
 {
     let set = set_written(sizes.m, other, backward, block, page);
+    let mut own_pages = [0u8; ROW];
+    let mut own_sources = [0u8; ROW];
     if few {
-        let mut own_pages = [0u8; ROW];
-        let mut sources = [0u8; ROW];
-        set_rows(sizes, list, sets, set, &mut own_pages, &mut sources);
-        return row_terms(
-            sizes,
-            reciprocal,
-            list,
-            set,
-            &own_pages,
-            &sources,
-            drops,
-            places,
-            backward,
-            block,
-            page,
-            slots,
-        );
+        set_rows(sizes, list, sets, set, &mut own_pages, &mut own_sources);
     }
-    let row_of_pages = row(pages, set);
-    let sources = row(other, set);
+    let row_of_pages = chosen_row(few, &own_pages, pages, set);
+    let row_of_sources = chosen_row(few, &own_sources, other, set);
     row_terms(
         sizes,
         reciprocal,
         list,
         set,
         row_of_pages,
-        sources,
+        row_of_sources,
         drops,
         places,
         backward,

@@ -1,8 +1,8 @@
 // The rows of a set, and the tables of all sets: the page of each block that is the set's, and the block where the page that goes
 // to a block comes from.
 ghost use mathlib.Core.Path.{_≡_};
-ghost use Prim.Native.Nat.{_+_, _*_, _<_};
-ghost use lib.ListN.{length};
+ghost use Prim.Native.Nat.{_+_, _-_, _*_, _<_};
+ghost use lib.ListN.{length, take, drop};
 ghost use Rattle.flash.specs.Geometry.{Bounds};
 ghost use Rattle.method.specs.Move.{moveOf, AcceptedMove};
 ghost use Rattle.walk.specs.inner.Rows.{rowLength, tableLength, ListIn, SetsIn, PagesRow, SourcesRow, pagesBy, sourcesBy};
@@ -61,6 +61,16 @@ pub fn sources_table(sizes: Sizes, list: &[u16], sets: &[u8], sources: &mut [u8]
         }
         k += 1;
     }
+}
+
+// The row of a set in a table.
+pub fn row(table: &[u8], set: usize) -> &[u8]
+    requires { ⌜ (set < 64) × (length (now table) ≡ tableLength) ⌝ }
+    ensures { λ r. ⌜ now r ≡ take (set * rowLength + rowLength - set * rowLength) (drop (set * rowLength) (now (table .entry))) ⌝ }
+{
+    let start = set * ROW;
+    let end = start + ROW;
+    &table[start..end]
 }
 
 // The rows of one set, which has one original in each block.

@@ -4,11 +4,12 @@ ghost use mathlib.Core.List.{List};
 ghost use Prim.Native.Nat.{ℕ, _*_, _≤_, _<_};
 ghost use lib.ListN.{length, take};
 ghost use Rattle.flash.specs.inner.Reciprocal.{reciprocalOf};
+ghost use Rattle.split.specs.Split.{setOf};
 ghost use Rattle.method.specs.Move.{Move, moveOf, AcceptedMove};
 ghost use Rattle.method.specs.Cycle.{top};
 ghost use Rattle.method.specs.Read.{readSlots};
 ghost use Rattle.walk.specs.inner.Moments.{Tells};
-ghost use Rattle.walk.specs.inner.Rows.{PagesIn, BlocksIn, ListIn, SourcesRow};
+ghost use Rattle.walk.specs.inner.Rows.{PagesIn, BlocksIn, ListIn, PagesRow, SourcesRow};
 ghost use Rattle.walk.specs.inner.Slots.{slotsLength, StartsWith, backBy, onBy, forwardBy, backwardBy};
 use crate::moment::Moment;
 use crate::rows::ROW;
@@ -163,16 +164,20 @@ pub fn backward_slots(
     go_on(sizes, reciprocal, list, set, pages, b + 1, b, b, slots)
 }
 
-// The slots of original k at a moment: the walk of section 6 starts at the block that k came from.
-pub fn read_slots(
+// The slots of original k at a moment, along the rows of its set: the walk of section 6 starts at the block that k came from.
+pub fn row_slots(
     sizes: Sizes,
     list: &[u16],
     sets: &[u8],
+    pages: &[u8],
+    sources: &[u8],
     moment: Moment,
     k: usize,
     slots: &mut [usize; SLOTS],
 ) -> usize
-    requires { ⌜ AcceptedMove (moveOf sizes (now list) (now sets)) × (k < sizes .n * sizes .m) × (length (now slots) ≡ slotsLength) ⌝ }
+    requires { ⌜ AcceptedMove (moveOf sizes (now list) (now sets)) × (k < sizes .n * sizes .m) × (length (now slots) ≡ slotsLength)
+        × PagesRow (moveOf sizes (now list) (now sets)) (setOf (now sets) k) (now pages)
+        × SourcesRow (moveOf sizes (now list) (now sets)) (setOf (now sets) k) (now sources) ⌝ }
     ensures { λ r. ⌜ ((marks : List ℕ) → Tells (moveOf sizes (now (list .entry)) (now (sets .entry))) marks moment
         → StartsWith (now (slots .entry)) 1 (readSlots (moveOf sizes (now (list .entry)) (now (sets .entry))) marks k) (now (slots .exit)) r) ⌝ }
 {
@@ -191,13 +196,29 @@ pub fn read_slots(
         return 1;
     }
     let set = wide(sets[k]);
+    let top = top_of(sizes.n, sources, v);
+    if (top - 1 < moment.coded) | (plain <= sizes.n) {
+        go_back(sizes, set, pages, sources, plain, top, v, slots)
+    } else {
+        go_on(sizes, reciprocal(m), list, set, pages, done, 0, w, slots)
+    }
+}
+
+// The same, with rows that are filled for it.
+pub fn read_slots(
+    sizes: Sizes,
+    list: &[u16],
+    sets: &[u8],
+    moment: Moment,
+    k: usize,
+    slots: &mut [usize; SLOTS],
+) -> usize
+    requires { ⌜ AcceptedMove (moveOf sizes (now list) (now sets)) × (k < sizes .n * sizes .m) × (length (now slots) ≡ slotsLength) ⌝ }
+    ensures { λ r. ⌜ ((marks : List ℕ) → Tells (moveOf sizes (now (list .entry)) (now (sets .entry))) marks moment
+        → StartsWith (now (slots .entry)) 1 (readSlots (moveOf sizes (now (list .entry)) (now (sets .entry))) marks k) (now (slots .exit)) r) ⌝ }
+{
     let mut pages = [0u8; ROW];
     let mut sources = [0u8; ROW];
-    set_rows(sizes, list, sets, set, &mut pages, &mut sources);
-    let top = top_of(sizes.n, &sources, v);
-    if (top - 1 < moment.coded) | (plain <= sizes.n) {
-        go_back(sizes, set, &pages, &sources, plain, top, v, slots)
-    } else {
-        go_on(sizes, reciprocal(m), list, set, &pages, done, 0, w, slots)
-    }
+    set_rows(sizes, list, sets, wide(sets[k]), &mut pages, &mut sources);
+    row_slots(sizes, list, sets, &pages, &sources, moment, k, slots)
 }

@@ -15,17 +15,15 @@ ghost use Rattle.walk.specs.inner.Slots.{slotsLength, zeroLength, Starts
 use crate::apart::apart_slots;
 use crate::moment::Moment;
 use crate::moment::moment_in;
-use crate::rows::ROW;
-use crate::rows::set_rows;
 use crate::walk::SLOTS;
-use crate::walk::read_slots;
+use crate::walk::row_slots;
 use crate::walk::top_of;
 use flash::casts::entry;
 use flash::casts::wide;
 use flash::sizes::Sizes;
 
 // The slots of one original, and two more.
-pub const ZERO: usize = 67;
+pub const ZERO: usize = 66;
 
 // A slot and a list of slots, but not where both have it.
 fn with_slot(slot: usize, slots: &[usize], count: usize, to: &mut [usize]) -> usize
@@ -57,7 +55,7 @@ fn source_slots(
 {
     let u = wide(sources[block - 1]) - 1;
     let k = u * sizes.m + wide(pages[u]);
-    read_slots(sizes, list, sets, moment, k, slots)
+    row_slots(sizes, list, sets, pages, sources, moment, k, slots)
 }
 
 // The slots of D(pred(i)) at the moment before the block below i is written; none where i is the top.
@@ -91,21 +89,21 @@ pub fn forward_zero(
     sizes: Sizes,
     list: &[u16],
     sets: &[u8],
-    i: usize,
     set: usize,
+    pages: &[u8],
+    sources: &[u8],
+    i: usize,
     zero: &mut [usize; ZERO],
 ) -> usize
     requires { ⌜ AcceptedMove (moveOf sizes (now list) (now sets)) × (set < sizes .m) × (1 ≤ i) × (i ≤ sizes .n)
+        × PagesRow (moveOf sizes (now list) (now sets)) set (now pages) × SourcesRow (moveOf sizes (now list) (now sets)) set (now sources)
         × (length (now zero) ≡ zeroLength) ⌝ }
     ensures { λ r. ⌜ (r ≤ zeroLength) × (length (now (zero .exit)) ≡ zeroLength) × ((begun : List ℕ)
         → Tells (moveOf sizes (now (list .entry)) (now (sets .entry))) begun (momentIn false (sizes .n) (i - 1) i)
         → take r (now (zero .exit)) ≡ zeroSlots (moveOf sizes (now (list .entry)) (now (sets .entry))) begun forward (i - 1) set) ⌝ }
 {
-    let mut pages = [0u8; ROW];
-    let mut sources = [0u8; ROW];
-    set_rows(sizes, list, sets, set, &mut pages, &mut sources);
     let mut slots = [0usize; SLOTS];
-    let count = forward_rest(sizes, list, sets, set, &pages, &sources, i, &mut slots);
+    let count = forward_rest(sizes, list, sets, set, pages, sources, i, &mut slots);
     let own = i * sizes.m + wide(pages[i - 1]);
     let mut rest = [0usize; ZERO];
     let more = with_slot(own, &slots, count, &mut rest);
@@ -117,19 +115,19 @@ pub fn backward_zero(
     sizes: Sizes,
     list: &[u16],
     sets: &[u8],
-    b: usize,
     set: usize,
+    pages: &[u8],
+    sources: &[u8],
+    b: usize,
     zero: &mut [usize; ZERO],
 ) -> usize
     requires { ⌜ AcceptedMove (moveOf sizes (now list) (now sets)) × (set < sizes .m) × (1 ≤ b) × (b ≤ sizes .n)
+        × PagesRow (moveOf sizes (now list) (now sets)) set (now pages) × SourcesRow (moveOf sizes (now list) (now sets)) set (now sources)
         × (length (now zero) ≡ zeroLength) ⌝ }
     ensures { λ r. ⌜ (r ≤ zeroLength) × (length (now (zero .exit)) ≡ zeroLength) × ((begun : List ℕ)
         → Tells (moveOf sizes (now (list .entry)) (now (sets .entry))) begun (momentIn true (sizes .n) b (b + 1))
         → take r (now (zero .exit)) ≡ zeroSlots (moveOf sizes (now (list .entry)) (now (sets .entry))) begun backward b set) ⌝ }
 {
-    let mut pages = [0u8; ROW];
-    let mut sources = [0u8; ROW];
-    set_rows(sizes, list, sets, set, &mut pages, &mut sources);
     let mut slots = [0usize; SLOTS];
     let moment = moment_in(true, sizes.n, b, b + 1);
     let count = source_slots(
@@ -137,8 +135,8 @@ pub fn backward_zero(
         list,
         sets,
         set,
-        &pages,
-        &sources,
+        pages,
+        sources,
         moment,
         b,
         &mut slots,

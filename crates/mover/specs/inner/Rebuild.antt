@@ -14,6 +14,7 @@ use Rattle.method.specs.Rebuild.{zeroSlots}
 use Rattle.split.specs.Split.{setOf}
 use Rattle.recovery.specs.MarksRead.{placeInTurn}
 use Rattle.walk.specs.inner.Moments.{HasMoment}
+use Rattle.walk.specs.inner.Rows.{PagesRow, SourcesRow}
 use Rattle.mover.specs.declared.rebuild.Told.{Told}
 
 -- the zero sum of the set of original k, at the place that the marks tell
@@ -21,6 +22,10 @@ abbrev pub zeroHere : (M : Move) → Reading → (k : ℕ) → List ℕ
 zeroHere M found k =
     let place = found .place in
     zeroSlots M (marksOf (M .sizes) (place - M .sizes .m)) (passAt (M .sizes) place) (filling (M .sizes) place) (setOf (M .sets) k)
+
+-- the rows of a set
+abbrev pub RowsOf : Move → (set : ℕ) → (pages sources : List ℕ) → Type 0
+RowsOf M set pages sources = PagesRow M set pages × SourcesRow M set sources
 
 pub record Sees (M : Move) (marks : List ℕ) (found : Reading) (told : Told) : Type 0 where
   pub reads : reading (M .sizes) marks ≡ some found

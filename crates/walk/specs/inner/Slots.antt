@@ -15,7 +15,7 @@ slotsLength = 65
 
 -- and the one of a zero sum
 abbrev pub zeroLength : ℕ
-zeroLength = 67
+zeroLength = 66
 
 -- the array starts with `slots`, it has room for `spare` more, and the rest of it is as it was
 pub record StartsWith (before : List ℕ) (spare : ℕ) (slots after : List ℕ) (count : ℕ) : Type 0 where

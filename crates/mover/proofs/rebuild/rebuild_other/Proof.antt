@@ -19,14 +19,14 @@ abbrev chip : tie.Start → List ℕ → Chip
 chip c marks = record { store = c .args .store .now; marks = marks }
 
 abbrev begin : tie.After-zero-slots → tie.Start
-begin c = c .before .before .before .before .before .before .before
+begin c = c .before .before .before .before .before .before .before .before .before
 
 zero-slots-requires : tie.Need-zero-slots-requires
 zero-slots-requires c κs =
-    let s = c .before .before .before .before .before .before in
+    let s = c .before .before .before .before .before .before .before .before in
     let O = s .pre .6 in
     let F = O .some-marks .2 .full (O .whole) in
-    (s .pre .0, s .pre .1, F .1, F .2, length-replicate {A = ℕ} 67 0)
+    (s .pre .0, s .pre .1, F .1, F .2, s .pre .7, length-replicate {A = ℕ} 66 0)
 
 slice-aggregate-has-slot : tie.Need-slice-aggregate-has-slot
 slice-aggregate-has-slot c = sym (c .before .zero-slots .ensures .1)
@@ -58,7 +58,7 @@ apart-slots-requires c κs =
     let z = c .before .before .before .before .before in
     let s = begin z in
     let Z = z .zero-slots .ensures in
-    (s .pre .5, omega (arith, Z .0, Z .1), omega (arith, s .pre .4, Z .0, length-replicate {A = ℕ} 132 0))
+    (s .pre .5, omega (arith, Z .0, Z .1), omega (arith, s .pre .4, Z .0, length-replicate {A = ℕ} 130 0))
 
 -- the slots of the other sum
 abbrev zeros : tie.After-apart-slots → tie.After-zero-slots
@@ -70,12 +70,12 @@ other-is c marks found S =
     let O = begin (zeros c) .pre .6 in
     c .apart-slots .ensures .0 ∙ ap₂ apart (O .is marks found S) (zeros c .zero-slots .ensures .2 marks found S (O .whole))
 
-room : (c : tie.After-apart-slots) → (c .apart-slots .result ≤ 132) × (c .apart-slots .result ≤ length (c .apart-slots .last .1 .1 .1 .1 .0))
+room : (c : tie.After-apart-slots) → (c .apart-slots .result ≤ 130) × (c .apart-slots .result ≤ length (c .apart-slots .last .1 .1 .1 .1 .0))
 room c =
     let a = c .apart-slots .ensures .1 in
     let s = begin (zeros c) in
     let Z = zeros c .zero-slots .ensures .0 in
-    (omega (arith, a, s .pre .4, Z), omega (arith, a, s .pre .4, Z, c .apart-slots .kept .1 .1 .1 .1 .0, length-replicate {A = ℕ} 132 0))
+    (omega (arith, a, s .pre .4, Z), omega (arith, a, s .pre .4, Z, c .apart-slots .kept .1 .1 .1 .1 .0, length-replicate {A = ℕ} 130 0))
 
 sum-to-page-requires : tie.Need-sum-to-page-requires
 sum-to-page-requires c κs =

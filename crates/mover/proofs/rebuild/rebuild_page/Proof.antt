@@ -1,5 +1,5 @@
 -- Read's own sum where it goes without the slot; else the other one, or none where a block is torn.
-use Rattle.flash.proofs.Kit.{_≡_, sym, ap, _∙_, List, ℕ, _≤_, arith, needs, eqb, length, take}
+use Rattle.flash.proofs.Kit.{_≡_, sym, ap, _∙_, List, ℕ, _≤_, arith, needs, eqb, length, take, length-replicate}
 use Rattle.flash.specs.Lists.{any, part}
 use Rattle.flash.specs.PageSum.{sum}
 use Rattle.flash.specs.Chip.{Chip}
@@ -17,23 +17,26 @@ moves c = moveOf (c .args .sizes) (c .args .list .now) (c .args .sets .now)
 abbrev chip : tie.Start → List ℕ → Chip
 chip c marks = record { store = c .args .store .now; marks = marks }
 
-abbrev begin : tie.After-read-slots → tie.Start
-begin c = c .before .before .before .before .before .before
+abbrev begin : tie.After-row-slots → tie.Start
+begin c = c .before .before .before .before .before .before .before .before
 
-abbrev after : tie.After-read-slots → List ℕ
-after c = c .read-slots .last .1 .1 .1 .1 .1 .0
+abbrev after : tie.After-row-slots → List ℕ
+after c = c .row-slots .last .1 .1 .1 .1 .1 .1 .1 .0
 
-own-is : (c : tie.After-read-slots) (marks : List ℕ) (found : Reading) → (let s = begin c in Sees (moves s) marks found (s .args .told)
-    → take (c .read-slots .result) (after c) ≡ readSlots (moves s) marks (s .args .k))
+row-slots-requires : tie.Need-row-slots-requires
+row-slots-requires c κs = (let s = c .before .before .before .before .before .before .before in (s .pre .0, s .pre .1, length-replicate {A = ℕ} 65 0, s .pre .5 .0, s .pre .5 .1))
+
+own-is : (c : tie.After-row-slots) (marks : List ℕ) (found : Reading) → (let s = begin c in Sees (moves s) marks found (s .args .told)
+    → take (c .row-slots .result) (after c) ≡ readSlots (moves s) marks (s .args .k))
 own-is c marks found S =
     let s = begin c in
-    c .read-slots .ensures marks (at-moment (moves s) (s .pre .0) marks found (s .args .told) S (s .args .slot) (s .args .k) (s .pre .1)) .slots-are
+    c .row-slots .ensures marks (at-moment (moves s) (s .pre .0) marks found (s .args .told) S (s .args .slot) (s .args .k) (s .pre .1)) .slots-are
 
-room : (c : tie.After-read-slots) → (c .read-slots .result ≤ 64) × (length (after c) ≡ 65)
+room : (c : tie.After-row-slots) → (c .row-slots .result ≤ 64) × (length (after c) ≡ 65)
 room c =
     let s = begin c in
     let E = s .pre .4 in
-    let G = c .read-slots .ensures (E .0) (at-moment (moves s) (s .pre .0) (E .0) (E .1) (s .args .told) (E .2) (s .args .slot) (s .args .k) (s .pre .1)) in
+    let G = c .row-slots .ensures (E .0) (at-moment (moves s) (s .pre .0) (E .0) (E .1) (s .args .told) (E .2) (s .args .slot) (s .args .k) (s .pre .1)) in
     (omega (arith, G .few), G .room)
 
 slice-aggregate-has-slot : tie.Need-slice-aggregate-has-slot
@@ -82,6 +85,7 @@ rebuild-other-requires c κs =
         is = own-is r;
         some-marks = s .pre .4;
       },
+      s .pre .5,
     )
 
 slice-aggregate-sum-to-page : tie.Need-slice-aggregate-sum-to-page
@@ -94,8 +98,8 @@ sum-to-page-requires c κs =
     let R = room r in
     let E = s .pre .4 in
     let fits = own-fits (moves s) (s .pre .0) (E .0) (E .1) (s .args .told) (E .2) (s .args .slot) (s .args .k) (s .pre .1) in
-    let few : r .read-slots .result ≤ length (after r) = omega (arith, R .0, R .1) in
-    let within = in-store (s .args .sizes) _ _ (s .args .store .now) (r .read-slots .result) (own-is r (E .0) (E .1) (E .2)) few (s .pre .2) fits in
+    let few : r .row-slots .result ≤ length (after r) = omega (arith, R .0, R .1) in
+    let within = in-store (s .args .sizes) _ _ (s .args .store .now) (r .row-slots .result) (own-is r (E .0) (E .1) (E .2)) few (s .pre .2) fits in
     ((within .0, few, omega (arith, R .0), s .pre .3), within .1)
 
 returns-3 : tie.Need-returns-3
@@ -112,7 +116,7 @@ pub rebuild-page-spec : {M : Type 1} → statement M
 rebuild-page-spec =
     tie.close
     (tie.spec
-    (λ c κs. search needs)
+    row-slots-requires
     slice-aggregate-has-slot
     has-slot-requires
     (λ c κs. search needs)

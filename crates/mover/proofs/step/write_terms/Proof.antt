@@ -1,15 +1,16 @@
 -- What is summed for a write, by rows that are in the tables or are filled for it.
-use Rattle.flash.proofs.Kit.{_≡_, refl, _∙_, ⊎-elim, true, false, _-_, _<_, arith, needs}
-use Rattle.flash.proofs.Bools.{bool-cases}
+use Rattle.flash.proofs.Kit.{_≡_, refl, sym, ap, ap₂, _∙_, subst, ⊎-elim, true, false, _||_, _-_, _<_, arith, length}
+use Rattle.flash.proofs.Bools.{bool-cases, never-both}
 use Rattle.flash.proofs.Bounds.{product-le}
 use Rattle.flash.specs.Geometry.{numberAt}
 use Rattle.split.specs.Split.{setOf}
 use Rattle.method.specs.Move.{Move, moveOf}
 use Rattle.method.specs.Cycle.{sentTo}
 use Rattle.method.proofs.basics.Indexes.{slot-lt}
+use Rattle.walk.specs.inner.Rows.{PagesRow, SourcesRow}
 use Rattle.walk.proofs.TableLaws.{list-in}
 use Rattle.mover.specs.inner.Steps.{SetWritten, SetRows}
-use Rattle.mover.proofs.StepLaws.{set-sent, row-is}
+use Rattle.mover.proofs.StepLaws.{set-sent}
 use Rattle.mover.proofs.step.write_terms.Statement.{statement}
 use Rattle.mover.proofs.step.write_terms.Tie as tie
 
@@ -69,74 +70,91 @@ set-rows-requires c κs =
     let w = c .before .before .before in
     (w .before .before .before .before .before .before .before .pre .0 .accepted, told w .1, refl, refl)
 
-slice-aggregate-row-terms : tie.Need-slice-aggregate-row-terms
-slice-aggregate-row-terms c = search needs
+abbrev begin : tie.Joined1 → tie.Start
+begin c = c .before .before .before .before .before .before .before .before
 
-slice-aggregate-row-terms-2 : tie.Need-slice-aggregate-row-terms-2
-slice-aggregate-row-terms-2 c = search needs
+-- ---- rows that are filled for it
+own-rows : (c : tie.Joined1) → begin c .args .few ≡ true
+    → PagesRow (moved (begin c)) (c .before .set-written .result) (c .if1 .own-pages) × SourcesRow (moved (begin c)) (c .before .set-written .result) (c .if1 .own-sources)
+own-rows c few =
+    let M = moved (begin c) in
+    let set = c .before .set-written .result in
+    ⊎-elim
+    (λ a. (subst (PagesRow M set) (sym (a .4)) (a .3 .ensures .0), subst (SourcesRow M set) (sym (a .5)) (a .3 .ensures .1)))
+    (λ b. absurd (never-both few (b .0 .left)))
+    (c .if1 .came)
+
+own-room : (c : tie.Joined1) → (64 ≡ length (c .if1 .own-pages)) × (64 ≡ length (c .if1 .own-sources))
+own-room c =
+    ⊎-elim
+    (λ a. (sym (ap length (a .4) ∙ a .3 .ensures .0 .fits .room), sym (ap length (a .5) ∙ a .3 .ensures .1 .fits .room)))
+    (λ b. (sym (ap length (b .1)), sym (ap length (b .2))))
+    (c .if1 .came)
+
+-- ---- the rows that are chosen
+set-in : (c : tie.Joined1) → c .before .set-written .result < 64
+set-in c = omega (arith, told (c .before) .1, begin c .pre .0 .accepted .ranges .m-high)
+
+chosen-row-requires : tie.Need-chosen-row-requires
+chosen-row-requires c κs = (let j = c .before in λ many. (set-in j, begin j .pre .0 .pages-tell many .room))
+
+chosen-row-requires-2 : tie.Need-chosen-row-requires-2
+chosen-row-requires-2 c κs = (let j = c .before .before .before in λ many. (set-in j, begin j .pre .0 .room))
+
+abbrev joined : tie.After-chosen-row2 → tie.Joined1
+joined c = c .before .before .before .before
+
+-- they are those of its set
+rows-tell : (c : tie.After-chosen-row2) → (let j = joined c in let a = begin j .args in
+    SetRows (moved (begin j)) (a .backward) (a .block) (a .page) (j .before .set-written .result) (c .before .before .chosen-row .result .now) (c .chosen-row2 .result .now)
+    (a .drops .now) (a .places .now))
+rows-tell c =
+    let j = joined c in
+    let T = begin j .pre .0 in
+    let M = moved (begin j) in
+    let few = begin j .args .few in
+    let set = j .before .set-written .result in
+    let in-range = told (j .before) .1 in
+    let pages = c .before .before .chosen-row .ensures in
+    let sources = c .chosen-row2 .ensures in record {
+      accepted = T .accepted;
+      drops-in = T .drops-in;
+      written = told (j .before) .0;
+      pages-tell = ⊎-elim
+          (λ (yes : few ≡ true). subst (PagesRow M set) (sym (pages .0 yes)) (own-rows j yes .0))
+          (λ (no : few ≡ false). subst (PagesRow M set) (sym (pages .1 no)) (T .pages-tell no .row set in-range))
+          (bool-cases few);
+      sources-tell = λ forth. ⊎-elim
+          (λ (yes : few ≡ true). subst (SourcesRow M set) (sym (sources .0 yes)) (own-rows j yes .1))
+          (λ (no : few ≡ false). subst (SourcesRow M set) (sym (sources .1 no)) (T .other-tells .sources-tell (ap₂ _||_ forth no) .row set in-range))
+          (bool-cases few);
+    }
 
 row-terms-requires : tie.Need-row-terms-requires
 row-terms-requires c κs =
-    let w = c .before .before .before .before .before .before .before in
-    let start = w .before .before .before .before .before .before .before in
-    let R = c .before .before .before .set-rows .ensures in
-    let A = start .pre .0 .accepted in
-    let D = start .pre .0 .drops-in in
-    ((list-in (moved start) A, told w .1, R .0 .fits, λ no. (told w .0 .0 no, R .1 .fits), A .ranges .n-high, A .ranges .m-high, D .drops-length, D .places-length), start .pre .1)
-
-returns : tie.Need-returns
-returns c =
-    let w = c .before .before .before .before .before .before .before .before in
-    let start = w .before .before .before .before .before .before .before in
-    let R = c .before .before .before .before .set-rows .ensures in
-    let G = c .row-terms .ensures in (
-      G .0,
-      λ marks T. G .1 (start .args .sets .now) marks
-          (record { accepted = start .pre .0 .accepted; drops-in = start .pre .0 .drops-in; written = told w .0; pages-tell = R .0; sources-tell = λ no. R .1 }) T,
-    )
-
-row-requires : tie.Need-row-requires
-row-requires c κs =
-    let start = c .before .before .before .before .before .before .before .before in
-    (omega (arith, told (c .before) .1, start .pre .0 .accepted .ranges .m-high), start .pre .0 .pages-tell (c .if1 .left) .room)
-
-row-requires-2 : tie.Need-row-requires-2
-row-requires-2 c κs =
-    let start = c .before .before .before .before .before .before .before .before .before in
-    (omega (arith, told (c .before .before) .1, start .pre .0 .accepted .ranges .m-high), start .pre .0 .room)
-
--- the rows are those of its set
-rows-tell : (c : tie.After-row2) → (let w = c .before .before .before in let start = w .before .before .before .before .before .before .before in let a = start .args in
-    SetRows (moved start) (a .backward) (a .block) (a .page) (w .set-written .result) (c .before .row .result .now) (c .row2 .result .now) (a .drops .now) (a .places .now))
-rows-tell c =
-    let w = c .before .before .before in
-    let start = w .before .before .before .before .before .before .before in
-    let T = start .pre .0 in
-    let many = c .before .before .if1 .left in
-    let set-in = told w .1 in
-    let set = w .set-written .result in record {
-      accepted = T .accepted;
-      drops-in = T .drops-in;
-      written = told w .0;
-      pages-tell = rw (c .before .row .ensures, row-is) (T .pages-tell many .row set set-in);
-      sources-tell = λ no. rw (c .row2 .ensures, row-is) (T .other-tells .sources-tell (rw (no, many)) .row set set-in);
-    }
-
-row-terms-requires-2 : tie.Need-row-terms-requires-2
-row-terms-requires-2 c κs =
-    let w = c .before .before .before .before in
-    let start = w .before .before .before .before .before .before .before in
+    let j = joined (c .before) in
+    let start = begin j in
+    let w = j .before in
     let A = start .pre .0 .accepted in
     let D = start .pre .0 .drops-in in
     let S = rows-tell (c .before) in
     ((list-in (moved start) A, told w .1, S .pages-tell .fits, λ no. (told w .0 .0 no, S .sources-tell no .fits), A .ranges .n-high, A .ranges .m-high, D .drops-length, D .places-length), start .pre .1)
 
-returns-2 : tie.Need-returns-2
-returns-2 c =
-    let G = c .row-terms2 .ensures in
-    let start = c .before .before .before .before .before .before .before .before .before .before .before .before in
+returns : tie.Need-returns
+returns c =
+    let G = c .row-terms .ensures in
+    let start = begin (joined (c .before .before)) in
     (G .0, λ marks T. G .1 (start .args .sets .now) marks (rows-tell (c .before .before)) T)
 
 pub write-terms-spec : {M : Type 1} → statement M
-write-terms-spec = tie.close (tie.spec set-written-requires set-rows-requires slice-aggregate-row-terms slice-aggregate-row-terms-2
-    row-terms-requires returns row-requires row-requires-2 row-terms-requires-2 returns-2)
+write-terms-spec =
+    tie.close
+    (tie.spec
+    set-written-requires
+    set-rows-requires
+    (λ c. own-room (c .before) .0)
+    chosen-row-requires
+    (λ c. own-room (c .before .before .before) .1)
+    chosen-row-requires-2
+    row-terms-requires
+    returns)

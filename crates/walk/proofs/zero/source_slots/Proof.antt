@@ -1,10 +1,12 @@
 -- The original whose slots are gathered is D(pred(block)).
 use Rattle.flash.proofs.Kit.{_≡_, sym, ap, _∙_, subst, ℕ, _+_, _-_, _*_, _≤_, _<_, arith, needs}
 use Rattle.flash.proofs.Bounds.{product-le}
+use Rattle.split.specs.Split.{setOf}
 use Rattle.method.specs.Cycle.{D, pred}
 use Rattle.method.specs.Move.{Move, moveOf}
 use Rattle.method.specs.Read.{readSlots}
 use Rattle.method.proofs.cycles.SetCycles.{D-page, pred-in}
+use Rattle.walk.specs.inner.Rows.{PagesRow, SourcesRow}
 use Rattle.walk.specs.inner.Slots.{StartsWith}
 use Rattle.walk.proofs.zero.source_slots.Statement.{statement}
 use Rattle.walk.proofs.zero.source_slots.Tie as tie
@@ -66,15 +68,31 @@ number-in c =
     subst (λ (x : ℕ). x < s .args .sizes .n * s .args .sizes .m) (sym (number-is c))
     (D-page (moves s) (s .pre .0) (s .args .set) (s .pre .1) (pred (moves s) (s .args .set) (s .args .block)) u-in .inside)
 
-read-slots-requires : tie.Need-read-slots-requires
-read-slots-requires c κs = (let s = begin (c .before .before .before .before) in (s .pre .0, number-in (c .before), s .pre .6))
+-- it is of the set
+of-set : (c : tie.After-wide2) → (let s = begin (c .before .before .before) in
+    s .args .set ≡ setOf (s .args .sets .now) ((c .before .before .before .wide .result - 1) * s .args .sizes .m + c .wide2 .result))
+of-set c =
+    let s = begin (c .before .before .before) in
+    let u-in = pred-in (moves s) (s .pre .0) (s .args .set) (s .pre .1) (s .args .block) (record { low = s .pre .2; high = s .pre .3 }) in
+    sym (ap (setOf (s .args .sets .now)) (number-is c) ∙ D-page (moves s) (s .pre .0) (s .args .set) (s .pre .1) (pred (moves s) (s .args .set) (s .args .block)) u-in .in-set)
+
+row-slots-requires : tie.Need-row-slots-requires
+row-slots-requires c κs =
+    let s = begin (c .before .before .before .before) in
+    let e = of-set (c .before) in (
+      s .pre .0,
+      number-in (c .before),
+      s .pre .6,
+      subst (λ (x : ℕ). PagesRow (moves s) x (s .args .pages .now)) e (s .pre .4),
+      subst (λ (x : ℕ). SourcesRow (moves s) x (s .args .sources .now)) e (s .pre .5),
+    )
 
 returns : tie.Need-returns
 returns c =
     let s = begin (c .before .before .before .before .before) in
     λ begun T.
-    subst (λ (k : ℕ). StartsWith (s .args .slots .now) 1 (readSlots (moves s) begun k) (c .read-slots .last .1 .1 .1 .1 .1 .0) (c .read-slots .result))
-    (number-is (c .before .before)) (c .read-slots .ensures begun T)
+    subst (λ (k : ℕ). StartsWith (s .args .slots .now) 1 (readSlots (moves s) begun k) (c .row-slots .last .1 .1 .1 .1 .1 .1 .1 .0) (c .row-slots .result))
+    (number-is (c .before .before)) (c .row-slots .ensures begun T)
 
 pub source-slots-spec : {M : Type 1} → statement M
 source-slots-spec =
@@ -88,5 +106,5 @@ source-slots-spec =
     shared-slice-read-wide-2
     (λ c κs. search needs)
     add-k
-    read-slots-requires
+    row-slots-requires
     returns)
