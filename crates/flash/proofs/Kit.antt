@@ -14,7 +14,7 @@ pub use native.Mathlib.Nat.{pow-suc, suc-add, suc-mul, zero-add, zero-div, zero-
 pub use native.Mathlib.Numerals.{add-one, one-add, unary-clauses}
 pub use native.Mathlib.Omega.{arith}
 pub use lib.Arith.{bin-ind, digits-lt}
-pub use lib.Bits.{and-le-l, and-le-r, and-mask, bitOr, bitXor, differ, or-add-and, or-lt, or-shr, or-step, or-zero-l, or-zero-r, xor-add-and, xor-comm}
+pub use lib.Bits.{and-le-l, and-le-r, and-mask, bitAnd, bitOr, bitXor, differ, or-add-and, or-lt, or-shr, or-step, or-zero-l, or-zero-r, xor-add-and, xor-comm}
 pub use lib.Bits.{xor-self, xor-shr, xor-step, xor-zero-l, xor-zero-r}
 unfoldable pub use lib.Count.{trailingZeros}
 pub use lib.Count.{trailing-le, under}

@@ -1,6 +1,6 @@
 -- What one turn of a loop over bytes does.
 use Rattle.flash.proofs.Kit.{[], _≡_, sym, ap, _∙_, _≢_, ⊎-elim, Bool, false, cond, _&&_, _||_, and-true, or-false, List, _∷_, _++_, ℕ, suc, _+_, _≤_, _<_}
-use Rattle.flash.proofs.Kit.{add-one, arith, bitOr, bitXor, or-add-and, or-lt, or-zero-l, or-zero-r, and-le-l, and-le-r, xor-self, eqb, ltb, length}
+use Rattle.flash.proofs.Kit.{add-one, arith, bitAnd, bitOr, bitXor, or-add-and, or-lt, or-zero-l, or-zero-r, and-le-l, and-le-r, xor-self, eqb, ltb, length}
 use Rattle.flash.proofs.Kit.{getD, set, take, drop, take-suc, drop-cons, append-snoc, getD-at, length-take-le, drop-set-lt, drop-drop}
 use Rattle.flash.proofs.Kit.{eqb-true, eq-eqb, ne-eqb, ltb-true, lt-ltb, le-ltb, _^_, set-at, append-assoc, append-nil, take-at, drop-at, take-add, take-all, drop-of-length-le}
 use Rattle.flash.specs.Lists.{all, any}
@@ -91,6 +91,21 @@ pub filled-more : (part : List ℕ) (value different i : ℕ) → i < length par
 filled-more part value different i h e =
     or-none different (bitXor (getD part i 0) value)
     ∙ rw (e, xor-none (getD part i 0) value) (sym (all-more (λ byte. eqb byte value) part i h))
+
+-- A loop that gathers the bits that all bytes have: these are 8 while each byte is 255.
+and-erased : (a b : ℕ) → a < 256 → b < 256 → eqb (bitAnd a b) 255 ≡ (eqb a 255 && eqb b 255)
+and-erased a b p q =
+    bool-eq _ _
+    (λ e.
+    let all = eqb-true (bitAnd a b) 255 e in
+    and-both _ _ (eq-eqb a 255 (omega (arith, and-le-l a b))) (eq-eqb b 255 (omega (arith, and-le-r a b))))
+    (λ e. let h = both _ _ e in rw (eqb-true a 255 (h .0), eqb-true b 255 (h .1)))
+
+pub erased-more : (part : List ℕ) (common i : ℕ) → i < length part → common < 256 → getD part i 0 < 256
+    → eqb common 255 ≡ all (λ byte. eqb byte 255) (take i part)
+    → eqb (bitAnd common (getD part i 0)) 255 ≡ all (λ byte. eqb byte 255) (take (i + 1) part)
+erased-more part common i h p q e =
+    and-erased common (getD part i 0) p q ∙ rw e (sym (all-more (λ byte. eqb byte 255) part i h))
 
 -- A loop that gathers the positions of a value as bits: there is none before the one position is met, and that one after.
 pub record Placed (bytes : List ℕ) (value found i : ℕ) : Type 0 where

@@ -36,11 +36,27 @@ pub fn invert(page: &mut [u8])
     }
 }
 
-// Whether each of the bytes is `value`. Bits that differ are gathered and judged once, so that the loop has no branch
+// Whether each of the bytes is 255: then all of them have every bit. The bits in common are gathered and judged once, so that the loop has no branch
 // and is compiled to vector instructions.
+fn is_erased(bytes: &[u8]) -> bool
+    ensures { λ r. ⌜ r ≡ all (λ byte. eqb byte 255) (now (bytes .entry)) ⌝ }
+{
+    let mut common: u8 = ERASED;
+    let mut i = 0;
+    while i < bytes.len() {
+        common = common & bytes[i];
+        i += 1;
+    }
+    common == ERASED
+}
+
+// Whether each of the bytes is `value`. Bits that differ are gathered likewise, which takes an instruction more for each vector.
 pub fn is_filled(bytes: &[u8], value: u8) -> bool
     ensures { λ r. ⌜ r ≡ all (λ byte. eqb byte value) (now (bytes .entry)) ⌝ }
 {
+    if value == ERASED {
+        return is_erased(bytes);
+    }
     let mut different: u8 = 0;
     let mut i = 0;
     while i < bytes.len() {
