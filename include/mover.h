@@ -191,7 +191,7 @@ uint32_t mover_read(uint32_t n, uint32_t m, uint32_t page_bytes, uint32_t s,
 /* Rebuilds the originals without the page of one slot, which the chip's error correction has given up: at any moment of the move, also after a
  * cut and before recovery. What the store has in that slot is not looked at, and may be anything. Only pages of full blocks are used. `area` is
  * filled with the pages of all originals, and `flags` says of each:
- *   1  rebuilt: as mover_read would sum it, if that leaves the slot out; else by the only other sum of such pages of its set that gives it,
+ *   1  rebuilt: as mover_read would sum it, if that leaves the slot out; else by the one other sum that such pages of its set have for it,
  *      which is that sum and one of the set that makes zeros, in which the slot cancels
  *   0  lost: no sum of the pages that are left gives it, and its page in `area` is 255s
  * A slot of the block that is unfinished, or, if there is none, of the one that was filled last, loses nothing. Any other slot can lose originals
