@@ -240,7 +240,7 @@ uint32_t mover_hex_write(uint32_t n, uint32_t m, uint32_t page_bytes, const uint
  *   STEP E BLOCK                   erases a block
  *   end WRITES ERASES              the last line
  * n * m is at most 64, and no page is dropped: an entry of MOVER_DROPPED is 3. The first faulty line decides, 13 before 14 before 15 on one line.
- *   *line      the number of the faulty line, from 1, with 13, 14 and 15; 4,294,967,295 stands for that line and all after it
+ *   *line      the number of the faulty line, from 1, with 13, 14 and 15
  *   *accepted  1 if no line is faulty, the end line is there and its counts are true, the spare is blank at the end, and every original lies, by
  *              itself, where the list sends it; else 0
  * Changes nothing.

@@ -7,7 +7,7 @@ use Rattle.flash.specs.Geometry.{in_range, original_count}
 use Rattle.flash.proofs.Bools.{bool_cases, or-false-left, or-false-right}
 use Rattle.flash.proofs.Bounds.{in-range}
 use Rattle.flash.proofs.Loops.{over-more}
-use Rattle.split.proofs.LentLaws.{small}
+use Rattle.split.proofs.Answers.{small}
 use Rattle.c_api.specs.Bytes.{entries_of, is_odd, entries_within}
 use Rattle.c_api.specs.Exports.{on_bytes}
 

@@ -1,13 +1,14 @@
 -- What an export answers is what the call answers for the entries decoded.
 use Rattle.flash.proofs.Kit.{◌≡◌, refl, ap, ◌∙◌, ⊎_elim, ◌≢◌, Bool, true, false, cond, List, ℕ, arith, eqb, length, eq-eqb, ne_eqb}
 use Rattle.flash.specs.declared.sizes.Sizes.{Sizes}
-use Rattle.flash.specs.Geometry.{in_range}
+use Rattle.flash.specs.Geometry.{in_range, original_count}
 use Rattle.flash.specs.Chip.{Chip}
 use Rattle.flash.specs.declared.wear.Wear.{Wear}
 use Rattle.flash.specs.Wear.{refreshed}
+use Rattle.flash.proofs.Bools.{bool_cases}
 use Rattle.split.specs.Request.{request_of}
 use Rattle.split.specs.Answer.{SplitAnswer, split_answer}
-use Rattle.split.proofs.Answers.{split-refuses-list}
+use Rattle.split.proofs.Answers.{gives-1, gives-2-list}
 use Rattle.method.specs.Step.{nothing_done}
 use Rattle.method.specs.Answers.{RunAnswer, run_refused, run_answer, MendAnswer, mend_answer, ReadAnswer, read_refused, read_answer}
 use Rattle.method.specs.Rebuild.{RebuildAnswer, rebuild_refused, rebuild_answer}
@@ -24,11 +25,20 @@ use Rattle.c_api.proofs.BytesLaws.{on-bytes}
 use Rattle.c_api.proofs.WearLaws.{counters-length}
 
 module _ (Z : Sizes) (list pins sets entries : List ℕ) (decoded : entries ≡ entries_within 4096 list) where
+  -- a list of another length is refused alike whatever its entries
+  split-refuses-list : (other : List ℕ) → (in_range Z ≡ true → length other ≢ original_count Z)
+      → split_answer (request_of Z other pins sets) ≡ record { number = cond (in_range Z) 2 1; sets = sets }
+  unfolding split_answer
+  split-refuses-list other differs = ⊎_elim
+      (λ (e : in_range Z ≡ true). rw (gives-2-list (request_of Z other pins sets) e (differs e), e))
+      (λ (e : in_range Z ≡ false). rw (gives-1 (request_of Z other pins sets) e, e))
+      (bool_cases (in_range Z))
+
   pub split-exported : (r : SplitAnswer) → r ≡ split_answer (request_of Z entries pins sets) → r ≡ split_of_bytes Z list pins sets
   unfolding split_of_bytes
   split-exported r =
       on-bytes Z (λ number. record { number = number; sets = sets }) (λ list. split_answer (request_of Z list pins sets))
-      (split-refuses-list Z pins sets) list entries r decoded
+      split-refuses-list list entries r decoded
 
   module _ (chip : Chip) (work : List ℕ) where
     pub run-exported : (wear : Wear) (place budget limit : ℕ) (r : RunAnswer)

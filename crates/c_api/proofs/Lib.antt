@@ -4,5 +4,3 @@ pub mod WearLaws
 pub mod ExportLaws
 pub mod CheckLaws
 pub mod OrderCallLaws
-pub mod ByteClaims
-pub mod Instanced

@@ -1,11 +1,9 @@
 -- The record of erases as bytes: its counters one by one.
-use Rattle.flash.proofs.Kit.{◌≡◌, refl, sym, ap, ◌∙◌, List, [], ◌∷◌, ◌++◌, map, ℕ, zero, suc, ◌+◌, ◌*◌, ◌/◌, ◌%◌, ◌≤◌, ◌<◌, not-suc-le-zero, add-one, arith, length, get_or, set, take, drop, length-take-le, length-drop, length-append, append_assoc, take_at, drop_at, drop-drop, drop-cons, drop_of_length-le, set_at, take-add, take-append-drop, take-append-le, drop-append-le, get_or-take, get_or-drop, ext_get_or}
+use Rattle.flash.proofs.Kit.{◌≡◌, refl, sym, ap, ◌∙◌, List, [], ◌∷◌, ◌++◌, map, ℕ, zero, suc, ◌+◌, ◌*◌, ◌/◌, ◌%◌, ◌≤◌, ◌<◌, not-suc-le-zero, add-one, arith, length, get_or, set, take, drop, length-take-le, length-drop, length-append, append_assoc, take_at, drop_at, drop-drop, drop-cons, drop_of_length-le, set_at, take-add, take-append-drop}
 use Rattle.flash.specs.Lists.{range, concat_map}
 use Rattle.flash.specs.declared.wear.Wear.{Wear}
-use Rattle.flash.specs.Wear.{counter_end, counter_at}
 use Rattle.flash.proofs.Loops.{front-more, front-all, piece-put}
 use Rattle.c_api.specs.Wear.{spelled, spelled_at, spelling, wear_of, counter_bytes, wear_bytes}
-use Rattle.c_api.specs.Claims.{Lendable}
 
 map-range-at : (f : ℕ → ℕ) (start size i : ℕ) → i < size → get_or (map f (range start size)) i 0 ≡ f (start + i)
 unfolding range
@@ -153,62 +151,3 @@ module _ (bytes : List ℕ) (small : (i : ℕ) → get_or bytes i 0 < 256) where
       let tail : drop 4 (drop 260 bytes) ≡ get_or bytes 264 0 ∷ [] =
       drop-drop 4 260 bytes ∙ drop-cons bytes 264 0 (omega arith) ∙ ap (λ (l : List ℕ). get_or bytes 264 0 ∷ l) (drop_of_length-le bytes {i = 265} (omega arith)) in
       rw (counters-back 0 65 (omega arith), four-back 260 (omega arith), ← tail, take-append-drop 4 (drop 260 bytes)) (take-append-drop 260 bytes)
-
--- ---- and the record of the bytes that spell a record is this
-spelled-whole : (number : ℕ) → number ≤ counter_end
-    → number % 256 + number / 256 % 256 * 256 + number / 65536 % 256 * 65536 + number / 16777216 % 256 * 16777216 ≡ number
-spelled-whole number h =
-    let second : number / 65536 ≡ number / 256 / 256 = omega arith in
-    let third : number / 16777216 ≡ number / 256 / 256 / 256 = omega arith in
-    let low : number / 256 / 256 / 256 % 256 ≡ number / 256 / 256 / 256 = omega arith in
-    let ones : number ≡ number % 256 + number / 256 * 256 = omega arith in
-    let tens : number / 256 ≡ number / 256 % 256 + number / 256 / 256 * 256 = omega arith in
-    let rest : number / 256 / 256 ≡ number / 256 / 256 % 256 + number / 256 / 256 / 256 * 256 = omega arith in
-    rw (second, third, low) (omega arith)
-
-spelled-from : (bytes : List ℕ) (at number : ℕ) → take 4 (drop at bytes) ≡ spelling number → number ≤ counter_end → spelled_at bytes at ≡ number
-unfolding spelled_at spelled spelling
-spelled-from bytes at number e h =
-    let code : (i : ℕ) → i < 4 → get_or bytes (at + i) 0 ≡ get_or (spelling number) i 0 =
-    λ i l. sym (get_or-drop at bytes i 0) ∙ sym (get_or-take 4 (drop at bytes) i 0 l) ∙ ap (λ (l : List ℕ). get_or l i 0) e in
-    let zeroth : at + 0 ≡ at = omega arith in
-    let a : get_or bytes at 0 ≡ number % 256 = ap (λ (i : ℕ). get_or bytes i 0) (sym zeroth) ∙ code 0 (omega arith) in
-    rw (a, code 1 (omega arith), code 2 (omega arith), code 3 (omega arith)) (spelled-whole number h)
-
-module _ (wear : Wear) (L : Lendable wear) where
-  laid : length (counter_bytes wear) ≡ 260
-  laid = counters-laid wear L.counters.length-is
-
-  counter-back : (b : ℕ) → b < 65 → spelled_at (wear_bytes wear) (b * 4) ≡ get_or wear.counters b 0
-  unfolding wear_bytes counter_bytes counter_at
-  counter-back b h =
-      let size = L.counters.length-is in
-      let rest : List ℕ = spelling wear.highest ++ (wear.block ∷ []) in
-      let all = laid in
-      let room = length-drop (b * 4) (counter_bytes wear) in
-      spelled-from (wear_bytes wear) (b * 4) (get_or wear.counters b 0)
-      (ap (take 4) (drop-append-le (b * 4) (counter_bytes wear) rest (omega arith))
-      ∙ take-append-le 4 (drop (b * 4) (counter_bytes wear)) rest (omega arith)
-      ∙ spelling-at wear.counters b (omega arith))
-      (L.counters.within b h)
-
-  pair-there : drop 260 (wear_bytes wear) ≡ spelling wear.highest ++ (wear.block ∷ [])
-  unfolding wear_bytes
-  pair-there = drop_at (counter_bytes wear) (spelling wear.highest ++ (wear.block ∷ [])) 260 laid
-
-  highest-back : spelled_at (wear_bytes wear) 260 ≡ wear.highest
-  unfolding spelling
-  highest-back = spelled-from (wear_bytes wear) 260 wear.highest (ap (take 4) pair-there) L.highest
-
-  block_back : get_or (wear_bytes wear) 264 0 ≡ wear.block
-  unfolding spelling
-  block_back = sym (get_or-drop 260 (wear_bytes wear) 4 0) ∙ ap (λ (l : List ℕ). get_or l 4 0) pair-there
-
-  pub wear-back : wear_of (wear_bytes wear) ≡ wear
-  unfolding wear_of
-  wear-back =
-      let size = counters-length (wear_bytes wear) in
-      let counters : (wear_of (wear_bytes wear)).counters ≡ wear.counters =
-      ext_get_or 0 (wear_of (wear_bytes wear)).counters wear.counters (size ∙ sym L.counters.length-is)
-      (λ b h. counter-is (wear_bytes wear) b (omega arith) ∙ counter-back b (omega arith)) in
-      λ i. record { counters = counters i; highest = highest-back i; block = block_back i }

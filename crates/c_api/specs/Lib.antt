@@ -4,5 +4,3 @@ pub mod Wear
 pub mod Exports
 pub mod CheckExport
 pub mod OrderExports
-pub mod Claims
-pub mod Instances

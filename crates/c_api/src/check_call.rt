@@ -3,9 +3,8 @@
 ghost use Rattle.std.specs.Prelude.{◌≡◌, min};
 ghost use Rattle.c_api.specs.CheckExport.{last_line, check_of_bytes};
 
-use crate::list::decode;
+use crate::list::{MOST_ENTRIES, decode};
 use checker::check::check;
-use split::list::MOST_ENTRIES;
 
 // A line's number in 32 bits, or the last that they hold.
 fn line_told(line: usize) -> u32

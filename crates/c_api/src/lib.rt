@@ -12,13 +12,3 @@ pub mod run;
 mod sizes;
 pub mod split_call;
 mod wear;
-
-ghost use Rattle.c_api.specs.Claims.{SameRecords, CallsOnBytes};
-ghost use Rattle.c_api.specs.Instances.{Instances};
-
-// The theorems about the definitions, as the contract of a function that does nothing and is not exported: the check demands their proofs.
-pub fn claims()
-    ensures same_records { SameRecords }
-    ensures calls_on_bytes { CallsOnBytes }
-    ensures instances { Instances }
-{}

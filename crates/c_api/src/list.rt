@@ -3,6 +3,9 @@
 ghost use Rattle.std.specs.Prelude.{◌≡◌, length};
 ghost use Rattle.c_api.specs.Bytes.{entries_within, decoded_into};
 
+// Room for the list of any sizes.
+pub const MOST_ENTRIES: usize = 4096;
+
 // Decodes a list, of two bytes an entry with the low one first, and returns how many entries it has: none where the bytes are
 // no list or there is no room for it.
 pub fn decode(bytes: &[u8], list: &mut [u16]) -> usize

@@ -3,9 +3,8 @@
 ghost use Rattle.std.specs.Prelude.{◌≡◌};
 ghost use Rattle.c_api.specs.OrderExports.{least_of_bytes, best_of_bytes};
 
-use crate::list::decode;
+use crate::list::{MOST_ENTRIES, decode};
 use orders::calls::{best_order, least_y};
-use split::list::MOST_ENTRIES;
 
 #[unsafe(no_mangle)]
 pub extern "C" fn mover_least_y(

@@ -3,10 +3,9 @@
 ghost use Rattle.std.specs.Prelude.{◌≡◌};
 ghost use Rattle.c_api.specs.Exports.{read_of_bytes};
 
-use crate::list::decode;
+use crate::list::{MOST_ENTRIES, decode};
 use crate::sizes::sizes_of;
-use mover::read::read_own;
-use split::list::MOST_ENTRIES;
+use mover::read::read;
 
 #[unsafe(no_mangle)]
 pub extern "C" fn mover_read(
@@ -30,7 +29,7 @@ pub extern "C" fn mover_read(
 {
     let mut entries = [0u16; MOST_ENTRIES];
     let length = decode(list, &mut entries);
-    let rebuilt = read_own(
+    let rebuilt = read(
         sizes_of(n, m, p, s),
         &mut entries[..length],
         pins,

@@ -3,10 +3,9 @@
 ghost use Rattle.std.specs.Prelude.{◌≡◌};
 ghost use Rattle.c_api.specs.Exports.{rebuild_of_bytes};
 
-use crate::list::decode;
+use crate::list::{MOST_ENTRIES, decode};
 use crate::sizes::sizes_of;
 use mover::rebuild::rebuild;
-use split::list::MOST_ENTRIES;
 
 #[unsafe(no_mangle)]
 pub extern "C" fn mover_rebuild(

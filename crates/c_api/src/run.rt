@@ -3,13 +3,12 @@
 ghost use Rattle.std.specs.Prelude.{◌≡◌};
 ghost use Rattle.c_api.specs.Exports.{ran_bytes, run_of_bytes};
 
-use crate::list::decode;
+use crate::list::{MOST_ENTRIES, decode};
 use crate::sizes::{bad_length, sizes_of};
 use crate::wear::{WEAR, decode_wear, encode_wear};
 use flash::sizes::Sizes;
 use flash::wear::unworn;
-use mover::run::{RunResult, refused, run_own};
-use split::list::MOST_ENTRIES;
+use mover::run::{RunResult, refused, run};
 
 // The run on the list and the counters that bytes spell.
 fn run_bytes(
@@ -34,7 +33,7 @@ fn run_bytes(
     }
     let mut entries = [0u16; MOST_ENTRIES];
     let count = decode(list, &mut entries);
-    let ran = run_own(
+    let ran = run(
         sizes,
         &mut entries[..count],
         pins,

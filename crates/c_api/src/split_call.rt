@@ -3,10 +3,9 @@
 ghost use Rattle.std.specs.Prelude.{◌≡◌};
 ghost use Rattle.c_api.specs.Exports.{split_of_bytes};
 
-use crate::list::decode;
+use crate::list::{MOST_ENTRIES, decode};
 use crate::sizes::sizes_of;
-use split::call::split_own;
-use split::list::MOST_ENTRIES;
+use split::call::split;
 
 #[unsafe(no_mangle)]
 pub extern "C" fn mover_split(
@@ -23,5 +22,5 @@ pub extern "C" fn mover_split(
 {
     let mut entries = [0u16; MOST_ENTRIES];
     let count = decode(list, &mut entries);
-    split_own(sizes_of(n, m, p, s), &mut entries[..count], pins, sets)
+    split(sizes_of(n, m, p, s), &mut entries[..count], pins, sets)
 }

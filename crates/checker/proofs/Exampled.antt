@@ -15,8 +15,7 @@ pub examples : Examples
 unfolding range all any concat_map set_part is_same first_fit number_or0 refusal met_twice is_one_to_one is_digit spelled digit_of digits places_up_to decimal originals_line erase_line end_line leading behind is_number is_field fields behind_fields is_rising are_originals formed read_end read_erase read_write read_step read_line mask_of resting_pages is_bad_write page_written block_erased is_sum are_determined survives is_requested turn then_check check_from are_sizes check_rows check_answer
 examples = record {
   method = refl;
-  other-writes = refl;
-  other-erases = refl;
+  other-counts = refl;
   no_end = refl;
   half = refl;
   lowest-top = refl;

@@ -1,26 +1,22 @@
 -- Sound lines never decide, and the first that is not does.
 use Rattle.flash.proofs.Kit.{◌≡◌, refl, sym, ap, ◌∙◌, ◌≢◌, inl, inr, ◌⊎◌, ⊎_elim, Bool, true, false, not, List, [], ◌∷◌, ◌++◌, append_assoc, ℕ, zero, suc, ◌+◌, ◌-◌, ◌*◌, ◌≤◌, ◌<◌, arith}
-use Rattle.flash.proofs.Kit.{◌&&◌, append-nil, eqb, length, length-append, eqb-true, eq-eqb, ne_eqb}
-use Rattle.flash.specs.Lists.{count}
+use Rattle.flash.proofs.Kit.{length, length-append, eq-eqb, ne_eqb}
 use Rattle.flash.specs.Geometry.{slot}
 use Rattle.flash.specs.Tables.{refusal}
 use Rattle.flash.proofs.Bools.{bool_cases, and_left, and_right, fails}
 use Rattle.flash.proofs.Ranges.{none_in}
-use Rattle.listing.specs.Lines.{end_line}
 use Rattle.checker.specs.Lines.{Line, write, erase, end, other, read_line}
-use Rattle.checker.specs.Pages.{resting_pages, is_blank, is_bad_write, are_determined, survives, is_requested}
-use Rattle.checker.specs.Answer.{CheckAnswer, faulty, said, Progress, step_of, stop, turn, then_check, check_from, start, check_rows, check_answer}
-use Rattle.checker.specs.Claims.{is_write, is_erase, EndsRight, printed, Named, Determined, pages_after, pages_lost, pages_after_all, Allowed, Sound, AllSound, listed, Decides, FirstDecides}
+use Rattle.checker.specs.Pages.{resting_pages, is_blank, is_bad_write, are_determined, survives}
+use Rattle.checker.specs.Answer.{CheckAnswer, faulty, Progress, step_of, stop, turn, then_check, check_from, start, check_rows, check_answer}
+use Rattle.checker.specs.Claims.{printed, Named, Determined, pages_after, pages_lost, pages_after_all, Allowed, Sound, AllSound, listed, Decides, FirstDecides}
 use Rattle.checker.proofs.PrintedLines.{read-write, read-erase, read-end}
-use Rattle.checker.proofs.SoundLaws.{write-more, erase-more, allowed-test, lines-few, end-some, write-some, erase-some, determined-holds, after, step_after, some-text, printed-some, sound-read, sound-turn}
+use Rattle.checker.proofs.SoundLaws.{allowed-test, lines-few, end-some, write-some, erase-some, determined-holds, after, step_after, some-text, printed-some, sound-read, sound-turn}
 use Rattle.checker.proofs.LinesBack.{Told, line-back}
 
 module _ (n m : ℕ) (list : List ℕ) where
   -- ---- lines that are sound
   record Reached (lines : List Line) (P Q : Progress) : Type 0 where
     step : step_of Q ≡ step_of P + length lines
-    writes : Q.writes ≡ P.writes + count (is_write n m list) lines
-    erases : Q.erases ≡ P.erases + count (is_erase n m list) lines
     pages : Q.pages ≡ pages_after_all n m list lines P.pages
     goes : (most : ℕ) (rest : List ℕ) → length lines ≤ most
         → check_from n m list most (listed n m list (step_of P) lines ++ rest) P ≡ check_from n m list (most - length lines) rest Q
@@ -47,8 +43,8 @@ module _ (n m : ℕ) (list : List ℕ) where
       (goes most rest (omega arith))
 
   reach : (lines : List Line) (P : Progress) → AllSound n m list (λ pages. Unit {0}) lines P.pages → (Q : Progress) × Reached lines P Q
-  unfolding AllSound listed pages_after_all after count
-  reach [] P a = (P, record { step = omega arith; writes = omega arith; erases = omega arith; pages = refl; goes = λ most rest h. let all : most - 0 ≡ most = omega arith in rw all })
+  unfolding AllSound listed pages_after_all after
+  reach [] P a = (P, record { step = omega arith; pages = refl; goes = λ most rest h. let all : most - 0 ≡ most = omega arith in rw all })
   reach (line ∷ lines) P a =
       let S = a.0 in
       let Q = after n m list line P in
@@ -57,8 +53,6 @@ module _ (n m : ℕ) (list : List ℕ) where
         R.0,
         record {
           step = omega (arith, R.1.step);
-          writes = R.1.writes ∙ write-more n m list line lines P;
-          erases = R.1.erases ∙ erase-more n m list line lines P;
           pages = R.1.pages;
           goes = λ most rest h. one_more most rest line lines P S (omega arith) R.0 R.1.goes;
         },
@@ -137,44 +131,16 @@ module _ (n m : ℕ) (list : List ℕ) where
     unfolding turn
     ended-turn w r more h = rw (ne_eqb (length more) 0 (λ z. absurd (omega arith)), step_is)
 
-    -- the end line, and nothing behind it
-    wrong-turn : (w r : ℕ) → (EndsRight n m list lines rest w r → ⊥) → turn n m list (end w r) [] Q ≡ stop (said false)
-    unfolding turn
-    wrong-turn w r wrong =
-        let good = eqb w Q.writes && eqb r Q.erases && is_requested m list Q.pages in
-        let no : good ≡ false = fails (λ (t : good ≡ true).
-        let counts = and_left (eqb w Q.writes && eqb r Q.erases) (is_requested m list Q.pages) t in
-        wrong (record {
-          all-writes = eqb-true w Q.writes (and_left (eqb w Q.writes) (eqb r Q.erases) counts) ∙ omega (arith, R.writes);
-          all-erases = eqb-true r Q.erases (and_right (eqb w Q.writes) (eqb r Q.erases) counts) ∙ omega (arith, R.erases);
-          requested = ap (is_requested m list) (sym R.pages) ∙ and_right (eqb w Q.writes && eqb r Q.erases) (is_requested m list Q.pages) t;
-        })) in
-        rw no
-
-    none_left : (most : ℕ) → check_from n m list most [] Q ≡ said false
-    unfolding check_from
-    none_left zero = refl
-    none_left (suc most) = refl
-
-    no_end : rest ≡ [] → check_answer n m list (listed n m list 0 lines ++ rest) ≡ said false
-    unfolding check_answer
-    no_end e =
-        let text = listed n m list 0 lines ++ rest in
-        let few = lines-few n m list 0 lines (resting_pages n m) (λ pages. Unit {0}) sound in
-        rw (eq-eqb (refusal (check_rows n m list)) 0 rows)
-        (R.goes (length text) rest (omega (arith, length-append (listed n m list 0 lines) rest))
-        ∙ ap (λ (l : List ℕ). check_from n m list (length text - length lines) l Q) e ∙ none_left (length text - length lines))
-
     bad-turn : (b q : ℕ) (ks more : List ℕ) → is_bad_write m Q.pages b q ≡ true → turn n m list (write b q ks) more Q ≡ stop (faulty 14 (length lines + 1))
     unfolding turn
     bad-turn b q ks more e = rw (e, step_is)
 
     -- the next line stands first
-    first-is : (line : Line) (more : List ℕ) (answer : CheckAnswer) → Named n m line → rest ≡ printed (length lines) line ++ more → 0 < length rest
-        → turn n m list line more Q ≡ stop answer → check_answer n m list (listed n m list 0 lines ++ rest) ≡ answer
-    first-is line more answer N e h t =
-        answered answer h (λ most.
-        ap (λ (l : List ℕ). check_from n m list (suc most) l Q) (e ∙ ap (λ (k : ℕ). printed k line ++ more) (sym step_is)) ∙ decides-read most line more Q answer N t)
+    first-is : (line : Line) (more : List ℕ) (number at : ℕ) → Named n m line → rest ≡ printed (length lines) line ++ more → 0 < length rest
+        → turn n m list line more Q ≡ stop (faulty number at) → check_answer n m list (listed n m list 0 lines ++ rest) ≡ faulty number at
+    first-is line more number at N e h t =
+        answered (faulty number at) h (λ most.
+        ap (λ (l : List ℕ). check_from n m list (suc most) l Q) (e ∙ ap (λ (k : ℕ). printed k line ++ more) (sym step_is)) ∙ decides-read most line more Q (faulty number at) N t)
 
     line-some : (line : Line) (more : List ℕ) → Named n m line → rest ≡ printed (length lines) line ++ more → 0 < length rest
     unfolding printed
@@ -189,15 +155,11 @@ module _ (n m : ℕ) (list : List ℕ) where
       no_line = λ h none. answered (faulty 13 (length lines + 1)) h (λ most.
           decides most rest Q (faulty 13 (length lines + 1)) h
           (none_of (read_line n m (step_of Q) rest).line (read_line n m (step_of Q) rest).rest (line-back n m (step_of Q) rest) none));
-      after-end = λ w r more h e. first-is (end w r) more (faulty 13 (length lines + 2)) tt e (line-some (end w r) more tt e) (ended-turn w r more h);
-      bad-write = λ b q ks more N e wrong. first-is (write b q ks) more (faulty 14 (length lines + 1)) N e (line-some (write b q ks) more N e)
+      after-end = λ w r more h e. first-is (end w r) more 13 (length lines + 2) tt e (line-some (end w r) more tt e) (ended-turn w r more h);
+      bad-write = λ b q ks more N e wrong. first-is (write b q ks) more 14 (length lines + 1) N e (line-some (write b q ks) more N e)
           (bad-turn b q ks more (bad-test b q ks Q.pages N.1 (rw R.pages wrong)));
-      lost = λ line more N A e wrong. first-is line more (faulty 15 (length lines + 1)) N e (line-some line more N e)
+      lost = λ line more N A e wrong. first-is line more 15 (length lines + 1) N e (line-some line more N e)
           (lost-turn line more Q N (rw R.pages A) (rw R.pages wrong) ∙ ap (λ (k : ℕ). stop (faulty 15 (k + 1))) step_is);
-      ends-wrong = λ w r e wrong.
-          let line = e ∙ sym (append-nil (end_line w r)) in
-          first-is (end w r) [] (said false) tt line (line-some (end w r) [] tt line) (wrong-turn w r wrong);
-      no_end = no_end;
     }
 
 pub first-decides : FirstDecides

@@ -22,4 +22,3 @@ pub mod StandingLaws
 pub mod AcceptedLaws
 pub mod FirstLaws
 pub mod Exampled
-pub mod Instanced

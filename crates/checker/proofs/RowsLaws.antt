@@ -1,16 +1,13 @@
 -- The rows of the call: which of them applies, and what all together say.
-use Rattle.flash.proofs.Kit.{◌≡◌, refl, sym, ap, ◌∙◌, ◌≢◌, ⊎_elim, true, false, ◌&&◌, not, List, [], ℕ, ◌*◌, ◌≤◌, arith, eqb, leb, length, get_or, eqb-true, eq-eqb, ne_eqb, leb-true}
+use Rattle.flash.proofs.Kit.{◌≡◌, sym, ap, ◌∙◌, ◌≢◌, ⊎_elim, true, false, ◌&&◌, not, List, [], ℕ, ◌*◌, ◌≤◌, arith, eqb, leb, length, get_or, eqb-true, eq-eqb, ne_eqb, leb-true}
 use Rattle.flash.specs.Lists.{any}
-use Rattle.flash.specs.Tables.{first_fit, number_or0, refusal, before}
+use Rattle.flash.specs.Tables.{first_fit, number_or0, refusal}
 use Rattle.flash.proofs.Bools.{bool_cases, and_left, and_right, fails}
 use Rattle.flash.proofs.Searches.{any-find}
-use Rattle.flash.proofs.Tables.{first-returned}
-use Rattle.method.specs.Answers.{order}
 use Rattle.split.specs.OneToOne.{dropped, bad_list, is_one_to_one}
 use Rattle.split.proofs.OneToOneLaws.{entry_lt}
 use Rattle.split.proofs.Claimed.{no-drops}
 use Rattle.checker.specs.Answer.{refused, check_from, start, are_sizes, check_rows, check_answer}
-use Rattle.checker.specs.Claims.{NumbersInOrder}
 use Rattle.checker.specs.inner.Turns.{Checkable}
 
 module _ (n m : ℕ) (list text : List ℕ) where
@@ -93,10 +90,3 @@ rows_pass n m list e = ⊎_elim
 
     row-3 : are_sizes n m ≡ true → eqb (length list) (n * m) ≡ true → is_one_to_one (n * m) list ≡ false → refusal (check_rows n m list) ≡ 3
     row-3 t s f = rw (t, s, f)
-
-pub numbers-in-order : NumbersInOrder
-unfolding order before check_rows check_answer
-numbers-in-order = record {
-  first = λ n m list. first-returned order (check_rows n m list) 0 refl;
-  answered = λ n m list text ne. rw (ne_eqb (refusal (check_rows n m list)) 0 ne);
-}

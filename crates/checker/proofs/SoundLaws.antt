@@ -124,19 +124,20 @@ module _ (n m : ℕ) (list : List ℕ) where
   unfolding after
   step_after line P S = omega (arith, sound-one line P.pages S)
 
-  -- a line more to count
-  pub write-more : (line : Line) (lines : List Line) (P : Progress) → (after line P).writes + count (is_write n m list) lines ≡ P.writes + count (is_write n m list) (line ∷ lines)
+  counted-write : (line : Line) (lines : List Line) (P : Progress) (w : ℕ) → w ≡ P.writes + count (is_write n m list) (line ∷ lines)
+      → w ≡ (after line P).writes + count (is_write n m list) lines
   unfolding count after
-  write-more line lines P = ⊎_elim
-      (λ (t : is_write n m list line ≡ true). rw t (omega arith))
-      (λ (t : is_write n m list line ≡ false). rw t (omega arith))
+  counted-write line lines P w f = ⊎_elim
+      (λ (t : is_write n m list line ≡ true). f ∙ rw t (omega arith))
+      (λ (t : is_write n m list line ≡ false). f ∙ rw t (omega arith))
       (bool_cases (is_write n m list line))
 
-  pub erase-more : (line : Line) (lines : List Line) (P : Progress) → (after line P).erases + count (is_erase n m list) lines ≡ P.erases + count (is_erase n m list) (line ∷ lines)
+  counted-erase : (line : Line) (lines : List Line) (P : Progress) (e : ℕ) → e ≡ P.erases + count (is_erase n m list) (line ∷ lines)
+      → e ≡ (after line P).erases + count (is_erase n m list) lines
   unfolding count after
-  erase-more line lines P = ⊎_elim
-      (λ (t : is_erase n m list line ≡ true). rw t (omega arith))
-      (λ (t : is_erase n m list line ≡ false). rw t (omega arith))
+  counted-erase line lines P e f = ⊎_elim
+      (λ (t : is_erase n m list line ≡ true). f ∙ rw t (omega arith))
+      (λ (t : is_erase n m list line ≡ false). f ∙ rw t (omega arith))
       (bool_cases (is_erase n m list line))
 
   -- what it takes of the text: something
@@ -187,4 +188,4 @@ module _ (n m : ℕ) (list : List ℕ) where
       ∙ ap (λ (k : ℕ). printed (step_of P) line ++ (listed n m list k lines ++ end_line w e)) (sym next) in
       ap (λ (l : List ℕ). check_from n m list (suc most) l P) text
       ∙ rw (some-text (printed (step_of P) line) rest (printed-some line P.pages (step_of P) S), sound-read line P.pages (step_of P) rest S, sound-turn line P rest S)
-      (accepts-from lines Q most w e (omega arith) a.1 (f ∙ sym (write-more line lines P)) (g ∙ sym (erase-more line lines P)))
+      (accepts-from lines Q most w e (omega arith) a.1 (counted-write line lines P w f) (counted-erase line lines P e g))

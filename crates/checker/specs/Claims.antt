@@ -3,14 +3,13 @@
 use Rattle.std.specs.Prelude.{◌≡◌, ◌≢◌, ◌⊎◌, Bool, true, false, cond, List, [], ◌∷◌, ◌++◌, ℕ, suc, ◌+◌, ◌*◌, ◌^◌, ◌≤◌, ◌<◌, length}
 use Rattle.std.specs.Int.Bits.{bit_xor}
 use Rattle.flash.specs.Lists.{count}
-use Rattle.flash.specs.Tables.{refusal, First}
+use Rattle.flash.specs.Tables.{refusal}
 use Rattle.flash.specs.Geometry.{slot}
 use Rattle.split.specs.Split.{is_split}
-use Rattle.method.specs.Answers.{order}
 use Rattle.listing.specs.Lines.{originals_line, erase_line, end_line}
 use Rattle.checker.specs.Lines.{are_originals, Line, write, erase, end, other, read_line}
 use Rattle.checker.specs.Pages.{mask_of, is_blank, resting_pages, page_written, block_erased, is_sum, is_requested}
-use Rattle.checker.specs.Answer.{CheckAnswer, refused, faulty, said, check_rows, check_answer}
+use Rattle.checker.specs.Answer.{faulty, said, check_rows, check_answer}
 use Rattle.checker.specs.Method.{method_text}
 
 -- ---- lines
@@ -141,17 +140,8 @@ module _ (n m : ℕ) (list : List ℕ) (lines : List Line) (rest : List ℕ) whe
   abbrev pub reached : List ℕ
   reached = pages_after_all n m list lines (resting_pages n m)
 
-  abbrev pub Answers : CheckAnswer → Type 0
-  Answers answer = check_answer n m list (listed n m list 0 lines ++ rest) ≡ answer
-
   abbrev pub Gives : (number line : ℕ) → Type 0
-  Gives number line = Answers (faulty number line)
-
-  -- the end line is right: its counts are true, and the pages end as the list asks
-  pub record EndsRight (writes erases : ℕ) : Type 0 where
-    pub all-writes : writes ≡ count (is_write n m list) lines
-    pub all-erases : erases ≡ count (is_erase n m list) lines
-    pub requested : is_requested m list reached ≡ true
+  Gives number line = check_answer n m list (listed n m list 0 lines ++ rest) ≡ faulty number line
 
   pub record Decides : Type 0 where
     -- it is none that is printed
@@ -168,24 +158,10 @@ module _ (n m : ℕ) (list : List ℕ) (lines : List Line) (rest : List ℕ) whe
         → (Determined n m list (pages_after n m list line reached)
         → Determined n m list (pages_lost n m list line (pages_after n m list line reached)) → ⊥)
         → Gives 15 (length lines + 1)
-    -- it is the last, and only ends wrong
-    pub ends-wrong : (writes erases : ℕ) → rest ≡ end_line writes erases → (EndsRight writes erases → ⊥) → Answers (said false)
-    -- there is no end line
-    pub no_end : rest ≡ [] → Answers (said false)
-
--- no line is faulty so far
-abbrev pub SoundSoFar : (n m : ℕ) → (list : List ℕ) → List Line → Type 0
-SoundSoFar n m list lines = AllSound n m list (λ pages. Unit {0}) lines (resting_pages n m)
 
 unfoldable pub FirstDecides : Type 0
 FirstDecides = (n m : ℕ) (list : List ℕ) (lines : List Line) (rest : List ℕ) → refusal (check_rows n m list) ≡ 0
-    → SoundSoFar n m list lines → Decides n m list lines rest
-
--- rule 7.8: the first number that applies, in the one order of all calls; it is the whole answer
-pub record NumbersInOrder : Type 0 where
-  pub first : (n m : ℕ) (list : List ℕ) → First order (check_rows n m list) (refusal (check_rows n m list))
-  pub answered : (n m : ℕ) (list text : List ℕ) → refusal (check_rows n m list) ≢ 0
-      → check_answer n m list text ≡ refused (refusal (check_rows n m list))
+    → AllSound n m list (λ pages. Unit {0}) lines (resting_pages n m) → Decides n m list lines rest
 
 -- ---- the method
 -- for every list that rows 1 to 3 let pass, and every split of it

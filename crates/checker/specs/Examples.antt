@@ -21,11 +21,11 @@ copy step block original = originals_line step block 0 (original ∷ [])
 abbrev three : (text : List ℕ) → CheckAnswer
 three text = check_answer 3 1 (1 ∷ 2 ∷ 0 ∷ []) text
 
-abbrev pub forward : List ℕ
+abbrev forward : List ℕ
 forward =
     originals_line 0 0 0 (0 ∷ 2 ∷ []) ++ erase_line 1 1 ++ originals_line 2 1 0 (0 ∷ 1 ∷ []) ++ erase_line 3 2 ++ copy 4 2 2 ++ erase_line 5 3
 
-abbrev pub backward : List ℕ
+abbrev backward : List ℕ
 backward = copy 6 3 1 ++ erase_line 7 2 ++ copy 8 2 0 ++ erase_line 9 1 ++ copy 10 1 2 ++ erase_line 11 0
 
 -- with the lowest block of the cycle for its top
@@ -48,9 +48,7 @@ large = 49 ∷ 56 ∷ 52 ∷ 52 ∷ 54 ∷ 55 ∷ 52 ∷ 52 ∷ 48 ∷ 55 ∷ 51
 
 pub record Examples : Type 0 where
   pub method : three (forward ++ backward ++ end_line 6 6) ≡ answered_yes
-  -- the writes are not true, the erases are not, no end line, the last state is not the requested one
-  pub other-writes : three (forward ++ backward ++ end_line 5 6) ≡ answered_no
-  pub other-erases : three (forward ++ backward ++ end_line 6 5) ≡ answered_no
+  pub other-counts : three (forward ++ backward ++ end_line 6 5) ≡ answered_no
   pub no_end : three (forward ++ backward) ≡ answered_no
   pub half : three (forward ++ end_line 3 3) ≡ answered_no
   pub lowest-top : three lowest_top ≡ gives 15 8

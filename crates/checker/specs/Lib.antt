@@ -5,5 +5,4 @@ pub mod Answer
 pub mod Method
 pub mod Claims
 pub mod Examples
-pub mod Instances
 pub mod inner

@@ -76,13 +76,13 @@ round_trip n m p chip other text W e f = rw (text-is n m p chip text W) (comes_b
 
 pub texts-differ : TextsDiffer
 unfolding TextsDiffer
-texts-differ n m p a b one other U W =
-    let x = (back (originals_in (rest_sizes n m p) a) (is-image n m p a one U)).image-is in
-    let y = (back (originals_in (rest_sizes n m p) b) (is-image n m p b other W)).image-is in
-    let s = size_is n m p a one U in
-    let t = size_is n m p b other W in
+texts-differ n m p a b text U W =
+    let x = (back (originals_in (rest_sizes n m p) a) (is-image n m p a text U)).image-is in
+    let y = (back (originals_in (rest_sizes n m p) b) (is-image n m p b text W)).image-is in
+    let s = size_is n m p a text U in
+    let t = size_is n m p b text W in
     record {
       same_bytes = λ e.
-          sym x ∙ ap₂ hex_image (s ∙ sym t) (sym (text-is n m p a one U) ∙ e ∙ text-is n m p b other W) ∙ y;
-      same_text = λ e. text-is n m p a one U ∙ ap hex_text e ∙ sym (text-is n m p b other W);
+          sym x ∙ ap₂ hex_image (s ∙ sym t) (sym (text-is n m p a text U) ∙ e ∙ text-is n m p b text W) ∙ y;
+      same_text = λ e. text-is n m p a text U ∙ ap hex_text e ∙ sym (text-is n m p b text W);
     }

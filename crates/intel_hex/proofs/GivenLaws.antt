@@ -59,15 +59,6 @@ module _ (given : List (Option ℕ)) (offset : ℕ) (bytes : List ℕ) (h : offs
       ap is_given (behind b l ∙ List·getD-append (map some bytes) (drop (offset + k) given) none (b - offset) (omega (arith, middle)))
       ∙ some_at bytes (b - offset) (omega arith)
 
-  some-value : (l : List ℕ) (i : ℕ) → i < length l → get_or (map (λ (b : ℕ). some b) l) i none ≡ some (get_or l i 0)
-  some-value [] i q = absurd (omega arith)
-  some-value (x ∷ l) zero q = refl
-  some-value (x ∷ l) (suc i) q = some-value l i (omega arith)
-
-  pub put-value : (b : ℕ) → offset ≤ b → b < offset + k → get_or (put_at given offset bytes) b none ≡ some (get_or bytes (b - offset) 0)
-  put-value b l m =
-      behind b l ∙ List·getD-append (map some bytes) (drop (offset + k) given) none (b - offset) (omega (arith, middle)) ∙ some-value bytes (b - offset) (omega arith)
-
 -- the bytes from an offset on, where each is shown by a test of its number
 pub any-given : (given : List (Option ℕ)) (test : ℕ → Bool) (offset from count : ℕ) → offset + count ≤ length given
     → ((i : ℕ) → i < count → test (from + i) ≡ is_given (get_or given (offset + i) none))

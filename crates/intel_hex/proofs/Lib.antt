@@ -25,8 +25,4 @@ pub mod LookLaws
 pub mod SurveyLaws
 pub mod PlacingLaws
 pub mod ReadLaws
-pub mod FormLaws
-pub mod FirstLaws
-pub mod Ordered
 pub mod Exampled
-pub mod Instanced

@@ -42,19 +42,19 @@ module _ (line : List ℕ) (g : is_good line ≡ true) where
   good-three : (t1 && t2 && t3) ≡ true
   good-three = and_left (t1 && t2 && t3) t4 good-four
 
-  pub good-colon : get_or line 0 0 ≡ 58
+  good-colon : get_or line 0 0 ≡ 58
   good-colon = eqb-true (get_or line 0 0) 58 (and_left t1 t2 (and_left (t1 && t2) t3 good-three))
 
-  pub good-size : length digits ≡ 10 + 2 * get_or (pairs digits) 0 0
+  good-size : length digits ≡ 10 + 2 * get_or (pairs digits) 0 0
   good-size = eqb-true (length digits) (10 + 2 * get_or (pairs digits) 0 0) (and_right t1 t2 (and_left (t1 && t2) t3 good-three))
 
-  pub good-digits : t3 ≡ true
+  good-digits : t3 ≡ true
   good-digits = and_right (t1 && t2) t3 good-three
 
-  pub good-sum : total (pairs digits) % 256 ≡ 0
+  good-sum : total (pairs digits) % 256 ≡ 0
   good-sum = eqb-true (total (pairs digits) % 256) 0 (and_right (t1 && t2 && t3) t4 good-four)
 
-  pub good-type : is_known (spelt digits) ≡ true
+  good-type : is_known (spelt digits) ≡ true
   unfolding is_good
   good-type = and_right (t1 && t2 && t3 && t4) (is_known (spelt digits)) g
 

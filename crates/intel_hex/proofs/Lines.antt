@@ -1,14 +1,13 @@
 -- A record that was written is read as itself.
-use Rattle.flash.proofs.Kit.{◌≡◌, refl, ◌∙◌, Bool, true, false, List, [], ◌∷◌, ◌++◌, append-nil, append_assoc, some, ℕ, ◌+◌, ◌-◌, ◌*◌, ◌/◌, ◌%◌, arith, eqb, leb}
+use Rattle.flash.proofs.Kit.{◌≡◌, refl, ◌∙◌, Bool, true, List, [], ◌∷◌, ◌++◌, append-nil, append_assoc, some, ℕ, ◌+◌, ◌-◌, ◌*◌, ◌/◌, ◌%◌, arith, leb}
 use Rattle.flash.proofs.Kit.{length, get_or, length-append, take_at, append_snoc, leb-true, eq-eqb, ne_eqb}
-use Rattle.flash.specs.Lists.{all, any, concat_map}
-use Rattle.flash.proofs.Bools.{and_left, and_right, or-false-left, or-false-right}
+use Rattle.flash.specs.Lists.{all, concat_map}
+use Rattle.flash.proofs.Bools.{and_left, and_right}
 use Rattle.flash.proofs.Searches.{all-at}
 use Rattle.listing.specs.Digits.{capitals, hex}
 use Rattle.listing.proofs.PrintLaws.{length-hex}
 use Rattle.intel_hex.specs.Records.{Record, checksum, fields, line_of, record_text}
 use Rattle.intel_hex.specs.Reading.{lines_from, uncarried, is_known, spelt, is_good, parse, parse_line, records_in}
-use Rattle.intel_hex.specs.First.{has_feed}
 use Rattle.intel_hex.proofs.Digits.{are_bytes, pairs-back, hex-digits, hex-high, summed, with-checksum}
 
 abbrev is_high : ℕ → Bool
@@ -19,23 +18,14 @@ unfolding line_of all
 line-high r = hex-high (fields r ++ (checksum (fields r) ∷ []))
 
 -- a line ends at the first line feed
-pub line-ends : (begun line rest : List ℕ) → has_feed line ≡ false
+pub line-ends : (begun line rest : List ℕ) → all is_high line ≡ true
     → lines_from begun (line ++ (10 ∷ rest)) ≡ some (begun ++ line) ∷ lines_from [] rest
-unfolding lines_from any
+unfolding lines_from all
 line-ends begun [] rest e = rw append-nil
 line-ends begun (byte ∷ line) rest e =
-    rw (
-      or-false-left (eqb byte 10) (has_feed line) e,
-      line-ends (begun ++ (byte ∷ [])) line rest (or-false-right (eqb byte 10) (has_feed line) e),
-      append_snoc begun byte line,
-    )
-
-high-plain : (line : List ℕ) → all is_high line ≡ true → has_feed line ≡ false
-unfolding all any
-high-plain [] e = refl
-high-plain (byte ∷ line) e =
     let high = leb-true 48 byte (and_left (is_high byte) (all is_high line) e) in
-    rw (ne_eqb byte 10 (λ q. omega arith)) (high-plain line (and_right (is_high byte) (all is_high line) e))
+    let rest-high = and_right (is_high byte) (all is_high line) e in
+    rw (ne_eqb byte 10 (λ q. omega arith), line-ends (begun ++ (byte ∷ [])) line rest rest-high, append_snoc begun byte line)
 
 module _ (kind address : ℕ) (bytes : List ℕ) where
   abbrev r : Record
@@ -78,4 +68,4 @@ pub record-back : (r : Record) (rest : List ℕ) → Good r → records_in (reco
 unfolding records_in record_text parse_line
 record-back r rest g =
     let back = parse-back r.kind r.address r.bytes g.bytes g.known in
-    rw (append_assoc (line_of r) (10 ∷ []) rest, line-ends [] (line_of r) rest (high-plain (line_of r) (line-high r)), back)
+    rw (append_assoc (line_of r) (10 ∷ []) rest, line-ends [] (line_of r) rest (line-high r), back)

@@ -71,17 +71,6 @@ pub record Examples : Type 0 where
   -- a byte outside the image; a record over the end of a span
   pub outside : hex_number 4 (line (2 ∷ 0 ∷ 3 ∷ 0 ∷ 1 ∷ 2 ∷ 248 ∷ []) ++ end_line) ≡ 9
   pub over-span : hex_number 4 (line (2 ∷ 255 ∷ 255 ∷ 0 ∷ 1 ∷ 2 ∷ 253 ∷ []) ++ end_line) ≡ 9
-  -- the same inside the image
-  pub over-span-inside : hex_number 65537 (line (2 ∷ 255 ∷ 255 ∷ 0 ∷ 1 ∷ 2 ∷ 253 ∷ []) ++ end_line) ≡ 9
-  -- on one record: a wrong sum and outside; a wrong sum and given twice; outside and given twice
-  pub eight-before-nine : hex_number 4 (line (2 ∷ 0 ∷ 3 ∷ 0 ∷ 1 ∷ 2 ∷ 249 ∷ []) ++ end_line) ≡ 8
-  pub eight-before-ten : hex_number 4 (two ++ line (1 ∷ 0 ∷ 1 ∷ 0 ∷ 3 ∷ 252 ∷ []) ++ end_line) ≡ 8
-  pub nine-before-ten : hex_number 4 (two ++ line (4 ∷ 0 ∷ 1 ∷ 0 ∷ 3 ∷ 0 ∷ 0 ∷ 0 ∷ 248 ∷ []) ++ end_line) ≡ 9
-  -- the end at address 1, with a byte; an upper half at address 1, of one byte
-  pub end-elsewhere : hex_number 4 (line (0 ∷ 0 ∷ 1 ∷ 1 ∷ 254 ∷ [])) ≡ 8
-  pub end-with-a-byte : hex_number 4 (line (1 ∷ 0 ∷ 0 ∷ 1 ∷ 0 ∷ 254 ∷ [])) ≡ 8
-  pub upper-elsewhere : hex_number 4 (line (2 ∷ 0 ∷ 1 ∷ 4 ∷ 0 ∷ 0 ∷ 249 ∷ []) ++ end_line) ≡ 8
-  pub upper-of-one : hex_number 4 (line (1 ∷ 0 ∷ 0 ∷ 4 ∷ 0 ∷ 251 ∷ []) ++ end_line) ≡ 8
   -- a byte given twice, in front of an empty line
   pub twice : hex_number 4 (two ++ again ++ (10 ∷ [])) ≡ 10
   -- another type, in front of a byte given twice

@@ -1,5 +1,5 @@
 -- Rule 11.1: what a record is, and its one written form. Texts are lists of ASCII codes.
-use Rattle.std.specs.Prelude.{List, [], ◌∷◌, ◌++◌, ℕ, ◌+◌, ◌-◌, ◌*◌, ◌/◌, ◌%◌, length, get_or}
+use Rattle.std.specs.Prelude.{List, [], ◌∷◌, ◌++◌, ℕ, ◌+◌, ◌-◌, ◌/◌, ◌%◌, length}
 use Rattle.flash.specs.Lists.{concat_map, total}
 use Rattle.listing.specs.Digits.{capitals, hex}
 
@@ -8,14 +8,6 @@ pub record Record : Type 0 where
   pub kind : ℕ
   pub address : ℕ
   pub bytes : List ℕ
-
--- the bytes that 16 bits of address reach
-abbrev pub span : ℕ
-span = 65536
-
--- what a record of type 04 sets the upper half to
-abbrev pub half_in : Record → ℕ
-half_in r = get_or r.bytes 0 0 * 256 + get_or r.bytes 1 0
 
 -- what makes the sum of bytes a multiple of 256
 unfoldable pub checksum : List ℕ → ℕ

@@ -23,10 +23,8 @@ const SHORTEST: usize = 12;
 // The bytes that the 16 bits of a record's address reach.
 const SPAN: usize = 65536;
 
-ghost use Rattle.intel_hex.specs.Claims.{TextLength, RecordsTaken, UpperHalves, RoundTrip, TextsDiffer, NumbersInOrder};
-ghost use Rattle.intel_hex.specs.First.{FirstDecides};
+ghost use Rattle.intel_hex.specs.Claims.{TextLength, RecordsTaken, UpperHalves, RoundTrip, TextsDiffer};
 ghost use Rattle.intel_hex.specs.Examples.{Examples};
-ghost use Rattle.intel_hex.specs.Instances.{Instances};
 
 // The theorems about the definitions, as the contract of a function that does nothing: the check demands their proofs.
 pub fn claims()
@@ -35,8 +33,5 @@ pub fn claims()
     ensures upper_halves { UpperHalves }
     ensures round_trip { RoundTrip }
     ensures texts_differ { TextsDiffer }
-    ensures first_decides { FirstDecides }
-    ensures numbers_in_order { NumbersInOrder }
     ensures examples { Examples }
-    ensures instances { Instances }
 {}

@@ -1,19 +1,15 @@
 -- What the definitions give: a number that was printed is read as itself, and worked examples of inputs and lines.
-use Rattle.std.specs.Prelude.{◌≡◌, List, [], ◌∷◌, ◌++◌, ℕ, ◌+◌, ◌-◌, ◌<◌, get_or, replicate}
-use Rattle.std.proofs.Math.Option.{none, some}
+use Rattle.std.specs.Prelude.{◌≡◌, List, [], ◌∷◌, ◌++◌, ℕ, ◌<◌}
+use Rattle.std.proofs.Math.Option.{some}
 use Rattle.flash.specs.Lists.{concat_map}
 use Rattle.flash.specs.declared.sizes.Sizes.{Sizes}
 use Rattle.listing.specs.Numbers.{number_of}
-use Rattle.listing.specs.Input.{unreadable, refused, request, input_of, input_limit, within_limit}
+use Rattle.listing.specs.Input.{unreadable, refused, request, input_of}
 use Rattle.listing.specs.Digits.{decimal}
 use Rattle.listing.specs.Lines.{write_line, erase_line, end_line, refused_line}
 
--- numbers of five digits
-abbrev pub readable : ℕ
-readable = 100000
-
 unfoldable pub PrintedIsRead : Type 0
-PrintedIsRead = (n : ℕ) → n < readable → number_of (decimal n) ≡ some n
+PrintedIsRead = (n : ℕ) → n < 100000 → number_of (decimal n) ≡ some n
 
 -- the numbers, each with a separator behind it
 unfoldable pub parted : (separator : ℕ) → (numbers : List ℕ) → List ℕ
@@ -26,7 +22,7 @@ spaced numbers = parted 32 numbers
 abbrev three : List ℕ
 three = 3 ∷ 1 ∷ 1 ∷ 0 ∷ 1 ∷ 2 ∷ 0 ∷ []
 
-abbrev pub three_sizes : Sizes
+abbrev three_sizes : Sizes
 three_sizes = record { n = 3; m = 1; p = 1; s = 0 }
 
 pub record Examples : Type 0 where
@@ -45,11 +41,6 @@ pub record Examples : Type 0 where
   pub glued : input_of (spaced (9 ∷ 1 ∷ 1 ∷ []) ++ (48 ∷ 120 ∷ [])) ≡ unreadable
   pub five-digits : input_of (spaced (99999 ∷ 1 ∷ 1 ∷ 0 ∷ [])) ≡ refused
   pub six-digits : input_of (spaced (100000 ∷ 1 ∷ 1 ∷ 0 ∷ [])) ≡ unreadable
-  pub last-read : number_of (decimal (readable - 1)) ≡ some 99999
-  pub first-not-read : number_of (decimal readable) ≡ none
-  -- the last byte within the limit, and the first beyond it
-  pub last_within : get_or (within_limit (replicate input_limit 32)) 4095 0 ≡ 32
-  pub first-beyond : get_or (within_limit (replicate (input_limit + 1) 32)) 4096 1 ≡ 0
   -- `10 W 1 0 04`, `11 E 0`, `end 6 6`, `refused 3`, and bytes with letters among their digits
   pub write : write_line 10 1 0 (4 ∷ []) ≡ 49 ∷ 48 ∷ 32 ∷ 87 ∷ 32 ∷ 49 ∷ 32 ∷ 48 ∷ 32 ∷ 48 ∷ 52 ∷ 10 ∷ []
   pub bytes : write_line 0 0 0 (255 ∷ 160 ∷ []) ≡ 48 ∷ 32 ∷ 87 ∷ 32 ∷ 48 ∷ 32 ∷ 48 ∷ 32 ∷ 102 ∷ 102 ∷ 97 ∷ 48 ∷ 10 ∷ []

@@ -8,4 +8,3 @@ pub mod ReachCases
 pub mod RebuildCases
 pub mod Example
 pub mod TwoPages
-pub mod Applied

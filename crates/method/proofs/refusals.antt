@@ -2,4 +2,3 @@
 pub mod FirstReturned
 pub mod PinFirst
 pub mod ListRefusals
-pub mod Unchanged

@@ -47,8 +47,7 @@ is_elsewhere Z chip place =
     ltb (last_place Z) place || not (is_same chip.marks (marks_of Z place))
     || any (λ t. eqb (mark_at chip.marks t) erased && not (is_blank Z.p chip t)) (range 0 (slot_count Z))
 
--- Rule 7.8: the order in which the calls look for the numbers of the table. No call gives both 12 and one of 6 and 7 (Claims.NumbersGiven), so that
--- between these the order says nothing.
+-- rule 7.8: the order in which the calls look for the numbers of the table
 unfoldable pub order : List ℕ
 order = 1 ∷ 2 ∷ 3 ∷ 11 ∷ 4 ∷ 5 ∷ 12 ∷ 6 ∷ 7 ∷ []
 

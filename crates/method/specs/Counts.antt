@@ -1,5 +1,5 @@
 -- What is claimed of what a run counts: its steps, writes and erases are those of its operations, and its bytes those of the pages that it wrote.
-use Rattle.std.specs.Prelude.{false, ◌≡◌, List, map, ℕ, ◌+◌, ◌≤◌, length}
+use Rattle.std.specs.Prelude.{false, ◌≡◌, List, map, ℕ, ◌+◌, ◌*◌, ◌≤◌, length}
 use Rattle.flash.specs.Lists.{range, count, total}
 use Rattle.flash.specs.Tables.{refusal}
 use Rattle.flash.specs.declared.sizes.Sizes.{Sizes}
@@ -10,7 +10,6 @@ use Rattle.flash.specs.declared.wear.Wear.{Wear}
 use Rattle.split.specs.Request.{Request}
 use Rattle.method.specs.declared.tally.Tally.{Tally}
 use Rattle.method.specs.Move.{plan}
-use Rattle.method.specs.Most.{most_bytes, largest}
 use Rattle.method.specs.Place.{Operation, write, erase, done, operation_at, last_place}
 use Rattle.method.specs.State.{originals_in, state_of}
 use Rattle.method.specs.Step.{is_write, is_erase, operations_from}
@@ -29,6 +28,8 @@ unfoldable pub bytes_of_steps : Sizes → (place taken : ℕ) → (after : ℕ �
 bytes_of_steps Z place taken after = total (map (λ i. bytes_of_step Z (operation_at Z (place + i)) (after (i + 1))) (range 0 taken))
 
 module _ (R : Request) (chip : Chip) (work : List ℕ) (wear : Wear) (place budget limit : ℕ) where
+  open R.sizes use {n, m, p}
+
   abbrev taken : ℕ
   taken = steps_taken R.sizes place budget
 
@@ -41,9 +42,9 @@ module _ (R : Request) (chip : Chip) (work : List ℕ) (wear : Wear) (place budg
     pub writes : tally.writes ≡ count is_write (operations_from R.sizes place taken)
     pub erases : tally.erases ≡ count is_erase (operations_from R.sizes place taken)
     pub bytes : tally.bytes ≡ bytes_of_steps R.sizes place taken (λ i. (run_answer R chip work wear place i limit).chip)
-    -- no write counts more than P, and there are at most 2 × n × m of them: 32 bits have room for it whatever the sizes
-    pub most : tally.bytes ≤ most_bytes R.sizes
-    pub fits : tally.bytes ≤ most_bytes largest
+    -- no write counts more than P, and there are at most 2 × n × m of them: 32 bits have room for it
+    pub most : tally.bytes ≤ 2 * n * m * p
+    pub fits : tally.bytes ≤ 33554432
 
 pub record RunsCount : Type 0 where
   pub counted : (R : Request) (chip : Chip) (work : List ℕ) (wear : Wear) (place budget limit : ℕ) → refusal (run_rows R chip work wear place limit) ≡ 0

@@ -7,8 +7,7 @@ use Rattle.split.specs.Answer.{split_answer}
 use Rattle.method.specs.Move.{plan}
 use Rattle.method.specs.Answers.{read_answer}
 use Rattle.method.specs.Runs.{Start}
-use Rattle.method.specs.Cases.{AllHold, sizes, chip, junk, counts, runs, reads_at, ran, small, three, three_at_rest, refused_list, refused_run}
-use Rattle.method.specs.Figures.{W, E, listing, Reaches}
+use Rattle.method.specs.Cases.{W, E, listing, Reaches, sizes, chip, junk, counts, runs, reads_at, ran, small, three, three_at_rest, ListRefused, refused_run}
 
 -- page 2 is dropped, and place 0 is free: the completed list is that of `three`
 abbrev pub thrown : Request
@@ -74,7 +73,7 @@ pub record DropCasesHold : Type 0 where
   pub zeros : runs thrown_two three_at_rest (junk 1) 0 3
       ≡ ran 3 (counts 3 2 1 2 1) 0 (chip (251 ∷ 0 ∷ 2 ∷ 4 ∷ []) (1 ∷ 1 ∷ 0 ∷ 0 ∷ [])) (0 ∷ []) (0 ∷ 1 ∷ [])
   -- number 3: what is kept still names two pages alike, or none
-  pub number-3 : AllHold (refused_list 3 3 (65535 ∷ 1 ∷ 1 ∷ [])) × AllHold (refused_list 3 3 (65535 ∷ 65534 ∷ 1 ∷ []))
+  pub number-3 : ListRefused 3 3 (65535 ∷ 1 ∷ 1 ∷ []) × ListRefused 3 3 (65535 ∷ 65534 ∷ 1 ∷ [])
   -- number 11 is given for a pinned page that is dropped, behind 3
   pub pinned : (split_answer (pinned_last thrown.list) ≡ record { number = 11; sets = junk 3 })
       × (runs (pinned_last thrown.list) three_at_rest (junk 1) 0 9 ≡ refused_run 11 three_at_rest (junk 1))

@@ -2,7 +2,6 @@
 pub mod Move
 pub mod Cycle
 pub mod Place
-pub mod Most
 pub mod Read
 pub mod State
 pub mod Step
@@ -23,7 +22,6 @@ pub mod PinFirst
 pub mod NoDrops
 pub mod Reach
 pub mod Cases
-pub mod Figures
 pub mod DropCases
 pub mod WearCases
 pub mod ReachCases
@@ -31,6 +29,5 @@ pub mod RebuildCases
 pub mod HighestCounter
 pub mod Example
 pub mod TwoPages
-pub mod Applied
 pub mod Claims
 pub mod inner

@@ -1,5 +1,5 @@
 -- What is claimed of the stored pages that a run reads: what each page that it writes costs, and that none costs more than n of them.
-use Rattle.std.specs.Prelude.{true, cond, ◌≡◌, List, map, ℕ, ◌+◌, ◌≤◌, ◌<◌}
+use Rattle.std.specs.Prelude.{true, cond, ◌≡◌, List, map, ℕ, ◌+◌, ◌*◌, ◌≤◌, ◌<◌}
 use Rattle.flash.specs.Lists.{range, total}
 use Rattle.flash.specs.Tables.{refusal}
 use Rattle.flash.specs.Geometry.{number_at, original_count}
@@ -8,7 +8,6 @@ use Rattle.flash.specs.declared.wear.Wear.{Wear}
 use Rattle.split.specs.Drops.{is_dropped}
 use Rattle.split.specs.Request.{Request}
 use Rattle.method.specs.Move.{Move, Plan, move, plan}
-use Rattle.method.specs.Most.{most_reads, most_move_reads, largest}
 use Rattle.method.specs.Cycle.{D, pred, is_top, sent_to}
 use Rattle.method.specs.Place.{forward, backward, Operation, write, erase, done, operation_at, marks_of}
 use Rattle.method.specs.Step.{pages_read}
@@ -27,7 +26,7 @@ reads_of_steps X place taken =
     total (map (λ i. reads_of_step X (operation_at Z (place + i)) (marks_of Z (place + i))) (range 0 taken))
 
 module _ (R : Request) (chip : Chip) (work : List ℕ) (wear : Wear) (place limit : ℕ) where
-  open R.sizes use {m}
+  open R.sizes use {n, m}
 
   abbrev M : Move
   M = move R
@@ -52,10 +51,10 @@ module _ (R : Request) (chip : Chip) (work : List ℕ) (wear : Wear) (place limi
     -- such a read is not refused, and counts none where the original is dropped
     pub read-answers : (k : ℕ) → k < original_count R.sizes → (read_answer R chip work k).number ≡ 0
     pub of-dropped : (k : ℕ) → k < original_count R.sizes → is_dropped R.list k ≡ true → read_count k ≡ 0
-    -- one page written costs at most n, and a whole move 2 × n × n × m, for which 32 bits have room whatever the sizes
-    pub few : reads 1 ≤ most_reads R.sizes
-    pub most : (budget : ℕ) → reads budget ≤ most_move_reads R.sizes
-    pub fits : (budget : ℕ) → reads budget ≤ most_move_reads largest
+    -- one page written costs at most n, and a whole move 2 × n × n × m, for which 32 bits have room
+    pub few : reads 1 ≤ n
+    pub most : (budget : ℕ) → reads budget ≤ 2 * n * n * m
+    pub fits : (budget : ℕ) → reads budget ≤ 524288
 
 -- for every list and split that are accepted and every place, with dropped pages or without
 unfoldable pub ReadsCounted : Type 0

@@ -10,7 +10,6 @@ use Rattle.split.specs.Drops.{is_dropped}
 use Rattle.split.specs.Split.{set_of}
 use Rattle.split.specs.Request.{Request}
 use Rattle.method.specs.Move.{Move, move}
-use Rattle.method.specs.Most.{most_reached}
 use Rattle.method.specs.Cycle.{dest, is_top}
 use Rattle.method.specs.Place.{Held, blank, plain, code, final, held_at}
 use Rattle.method.specs.Worn.{wears_out}
@@ -86,7 +85,7 @@ pub record Reach (R : Request) (one other : Chip) (k : ℕ) (a b : RunAnswer) : 
   pub lengths : (length a.chip.store ≡ store_len R.sizes) × (length b.chip.store ≡ store_len R.sizes)
   -- the pages that differ are those that k reaches, and there are at most three
   pub slots : slots_apart R.sizes a.chip b.chip ≡ reached (move R) a.place k
-  pub few : length (slots_apart R.sizes a.chip b.chip) ≤ most_reached
+  pub few : length (slots_apart R.sizes a.chip b.chip) ≤ 3
   -- in these, bytes are equal exactly at the offsets where they are equal in the two originals
   pub offsets : (t offset : ℕ) → t < slot_count R.sizes → is_reached (move R) a.place k t ≡ true
       → eqb (byte_at R.sizes a.chip t offset) (byte_at R.sizes b.chip t offset)

@@ -1,12 +1,10 @@
 -- Worked cases with a page that the chip has given up, as those of Cases.antt: the program's case and P3, at places and after cuts.
-use Rattle.std.specs.Prelude.{true, false, ◌≡◌, List, [], ◌∷◌, ℕ, eqb}
+use Rattle.std.specs.Prelude.{◌≡◌, List, [], ◌∷◌, ℕ}
 use Rattle.std.proofs.Math.Option.{none, some}
-use Rattle.flash.specs.Lists.{any, part}
 use Rattle.flash.specs.PageSum.{sum}
 use Rattle.flash.specs.Chip.{Chip, page_at}
 use Rattle.split.specs.Request.{Request, request_of, unpinned}
 use Rattle.method.specs.Rebuild.{rebuilt_from, whole_move, rebuild_answer}
-use Rattle.method.specs.Unreadable.{flag_of, of_bytes, Unseen, is_of_set, SumOf}
 use Rattle.method.specs.Cases.{chip, junk, sizes, two, three, three_torn, three_before_erase}
 
 -- the call leaves these pages and flags, and returns 0
@@ -17,11 +15,11 @@ abbrev Refuses : Request → Chip → (bad number : ℕ) → Type 0
 Refuses R lent bad number = rebuild_answer R lent (junk 3) (junk 3) bad ≡ record { number = number; area = junk 3; flags = junk 3 }
 
 -- before step 3: blocks 0 and 1 are coded, 2 and 3 plain; the bytes of slots 0 and 3 may be anything
-abbrev pub three_filled : (first last : ℕ) → Chip
+abbrev three_filled : (first last : ℕ) → Chip
 three_filled first last = chip (first ∷ 3 ∷ 2 ∷ last ∷ []) (1 ∷ 1 ∷ 0 ∷ 0 ∷ [])
 
 -- before step 9, the erase of block 1: blocks 0 and 1 are coded, 2 and 3 final
-abbrev pub three_written : (store : List ℕ) → Chip
+abbrev three_written : (store : List ℕ) → Chip
 three_written store = chip store (1 ∷ 1 ∷ 2 ∷ 2 ∷ [])
 
 -- page 2 is pinned and stays, and another is dropped
@@ -32,29 +30,12 @@ abbrev three_pinned : Request
 three_pinned = request_of three.sizes three.list (0 ∷ 0 ∷ 1 ∷ []) (0 ∷ 1 ∷ 0 ∷ [])
 
 -- P3's move with block 1 of four pages torn: blocks 0 and 2 are full
-abbrev pub two_torn : (byte : ℕ) → Chip
+abbrev two_torn : (byte : ℕ) → Chip
 two_torn byte = chip (6 ∷ 1 ∷ byte ∷ 8 ∷ 4 ∷ 8 ∷ []) (1 ∷ 1 ∷ 100 ∷ 1 ∷ 0 ∷ 0 ∷ [])
 
 -- and with block 0 filled, which holds the coded pages of block 1
 abbrev two_filled : (byte : ℕ) → Chip
 two_filled byte = chip (6 ∷ 1 ∷ byte ∷ 2 ∷ 4 ∷ 8 ∷ []) (1 ∷ 1 ∷ 0 ∷ 0 ∷ 0 ∷ 0 ∷ [])
-
--- What the theorems give there, of stores of bytes.
-pub record RebuildTheorems (byte : ℕ) : Type 0 where
-  pub bytes : (of_bytes (chip (0 ∷ 255 ∷ []) []) ≡ true) × (of_bytes (chip (255 ∷ 256 ∷ []) []) ≡ false)
-  -- original 1 is lost where block 2 is torn and slot 1 is given up: two stores of bytes are seen alike
-  pub unseen : Unseen of_bytes three (three_torn byte).marks 4 1 1
-  -- and two that are seen alike, original 2 being another in them: it is lost
-  pub alike : Unseen of_bytes three (three_written []).marks 9 0 2
-  pub lost : flag_of (rebuild_answer three (three_written (byte ∷ 3 ∷ 1 ∷ 2 ∷ [])) (junk 3) (junk 3) 0) 2 ≡ 0
-  -- one sum, and no other that gives original 0 for all stores of bytes
-  pub only : (slots : List ℕ)
-      × ((other : List ℕ) → SumOf three 3 of_bytes (1 ∷ 1 ∷ 0 ∷ 0 ∷ []) 0 0 other → (t : ℕ) → any (eqb t) other ≡ any (eqb t) slots)
-  pub lost-page : part 1 1 (rebuild_answer three (three_torn byte) (junk 3) (junk 3) 1).area ≡ 255 ∷ []
-  -- the torn block's own slot loses nothing, nor does one of the block filled last; what is lost is of the slot's set
-  pub torn : flag_of (rebuild_answer three (three_torn byte) (junk 3) (junk 3) 2) 1 ≡ 1
-  pub filled-last : flag_of (rebuild_answer three (three_filled 5 byte) (junk 3) (junk 3) 1) 0 ≡ 1
-  pub own-set : is_of_set two 3 1 0 ≡ true
 
 pub record RebuildCasesHold (byte : ℕ) : Type 0 where
   -- no block is unfinished: the first original by the other sum, the pages of slots 1 and 2

@@ -1,5 +1,5 @@
 -- What is claimed of a page that the chip gives up: which originals are lost, by which sum the others are rebuilt, and that they are right.
-use Rattle.std.specs.Prelude.{Bool, true, false, ◌≡◌, ◌≢◌, ◌⊎◌, List, ℕ, ◌/◌, ◌%◌, ◌<◌, eqb, ltb, length, get_or}
+use Rattle.std.specs.Prelude.{Bool, true, false, ◌≡◌, ◌≢◌, List, ℕ, ◌/◌, ◌%◌, ◌<◌, eqb, length, get_or}
 use Rattle.flash.specs.Lists.{any, all, part}
 use Rattle.flash.specs.Geometry.{slot_of, original_count, slot_count}
 use Rattle.flash.specs.PageSum.{sum}
@@ -43,34 +43,25 @@ RebuiltRight =
     → AtEach (λ h. (area flags : List ℕ) (bad : ℕ) → (rebuild_answer R h.chip area flags bad).number ≡ 0
     → (k : ℕ) → k < original_count R.sizes → Rebuilds R chip₀ h.chip area flags bad k) (moments events (starting chip₀))
 
--- ---- which stores at rest are spoken of: those of bytes, or of whatever numbers, where a claim says more
-unfoldable pub of_bytes : Chip → Bool
-of_bytes chip = all (λ byte. ltb byte 256) chip.store
-
-abbrev pub of_any : Chip → Bool
-of_any chip = true
-
 -- ---- which originals are lost
--- Two such stores that differ in original k lead, at a place, to the same pages of the blocks that these marks show full, slot `bad` left out.
-pub record Unseen (such : Chip → Bool) (R : Request) (marks : List ℕ) (place bad k : ℕ) : Type 0 where
+-- Two stores at rest that differ in original k lead, at a place, to the same pages of the blocks that these marks show full, slot `bad` left out.
+pub record Unseen (R : Request) (marks : List ℕ) (place bad k : ℕ) : Type 0 where
   pub one : Chip
   pub other : Chip
   pub one-starts : Start R one
   pub other-starts : Start R other
-  pub one-such : such one ≡ true
-  pub other-such : such other ≡ true
   pub differ : page_at R.sizes.p one (slot_of R.sizes.m k) ≢ page_at R.sizes.p other (slot_of R.sizes.m k)
   pub same : (t : ℕ) → t < slot_count R.sizes → t ≢ bad → is_unfinished R.sizes.m marks (t / R.sizes.m) ≡ false
       → page_at R.sizes.p (state_of (plan R) (originals_in R.sizes one) place) t
       ≡ page_at R.sizes.p (state_of (plan R) (originals_in R.sizes other) place) t
 
--- Exactly these are lost; the place is mend's. For one that is lost there are two such stores of bytes, and where there are two, it is lost.
+-- exactly these are lost; the place is mend's
 pub record LostExactly : Type 0 where
   pub unseen : (R : Request) (chip : Chip) (area flags : List ℕ) (bad : ℕ) → (rebuild_answer R chip area flags bad).number ≡ 0 → (wear : Wear)
       → (k : ℕ) → k < original_count R.sizes → flag_of (rebuild_answer R chip area flags bad) k ≡ 0
-      → Unseen of_bytes R chip.marks (mend_answer R.sizes chip wear).place bad k
+      → Unseen R chip.marks (mend_answer R.sizes chip wear).place bad k
   pub lost : (R : Request) (chip : Chip) (area flags : List ℕ) (bad : ℕ) → (rebuild_answer R chip area flags bad).number ≡ 0 → (wear : Wear)
-      → (k : ℕ) → k < original_count R.sizes → Unseen of_any R chip.marks (mend_answer R.sizes chip wear).place bad k
+      → (k : ℕ) → k < original_count R.sizes → Unseen R chip.marks (mend_answer R.sizes chip wear).place bad k
       → flag_of (rebuild_answer R chip area flags bad) k ≡ 0
 
 -- ---- by which sum an original is rebuilt
@@ -86,40 +77,29 @@ module _ (R : Request) (place : ℕ) where
   is_of_set k t = all (λ j. eqb (set_of R.sets j) (set_of R.sets k)) (held_in t)
 
   -- Slots of blocks that these marks show full, none twice and `bad` left out, whose pages are of the set of original k and at the place sum to
-  -- it, whichever such store was at rest.
-  pub record SumOf (such : Chip → Bool) (marks : List ℕ) (bad k : ℕ) (slots : List ℕ) : Type 0 where
+  -- it, whatever the store held at rest.
+  pub record SumOf (marks : List ℕ) (bad k : ℕ) (slots : List ℕ) : Type 0 where
     pub once : (i j : ℕ) → i < length slots → j < length slots → get_or slots i 0 ≡ get_or slots j 0 → i ≡ j
     pub inside : (t : ℕ) → any (eqb t) slots ≡ true → t < slot_count R.sizes
     pub full : (t : ℕ) → any (eqb t) slots ≡ true → is_unfinished m marks (t / m) ≡ false
     pub left_out : any (eqb bad) slots ≡ false
     pub own-set : (t : ℕ) → any (eqb t) slots ≡ true → is_of_set k t ≡ true
-    pub gives : (chip : Chip) → Start R chip → such chip ≡ true
-        → sum (page_at P (state_of (plan R) (originals_in R.sizes chip) place)) slots ≡ page_at P chip (slot_of m k)
+    pub gives : (chip : Chip) → Start R chip → sum (page_at P (state_of (plan R) (originals_in R.sizes chip) place)) slots ≡ page_at P chip (slot_of m k)
 
--- A page that is said to be rebuilt is such a sum of stored pages, whatever they are: read's if that leaves the slot out, and else the only one that
--- gives it for all stores of bytes.
+-- A page that is said to be rebuilt is such a sum of stored pages, whatever they are: read's if that leaves the slot out, and else the only one.
 pub record RebuiltBy (R : Request) (chip : Chip) (area flags : List ℕ) (place bad k : ℕ) : Type 0 where
   pub slots : List ℕ
   pub page : part R.sizes.p k (rebuild_answer R chip area flags bad).area ≡ sum (page_at R.sizes.p chip) slots
-  pub gives : SumOf R place of_any chip.marks bad k slots
+  pub gives : SumOf R place chip.marks bad k slots
   pub by_read : any (eqb bad) (read_slots (whole_move R) (seen chip.marks) k) ≡ false → slots ≡ read_slots (whole_move R) (seen chip.marks) k
   pub only : any (eqb bad) (read_slots (whole_move R) (seen chip.marks) k) ≡ true
-      → (other : List ℕ) → SumOf R place of_bytes chip.marks bad k other → (t : ℕ) → any (eqb t) other ≡ any (eqb t) slots
+      → (other : List ℕ) → SumOf R place chip.marks bad k other → (t : ℕ) → any (eqb t) other ≡ any (eqb t) slots
 
 unfoldable pub OnlyOther : Type 0
 OnlyOther =
     (R : Request) (chip : Chip) (area flags : List ℕ) (bad : ℕ) → (rebuild_answer R chip area flags bad).number ≡ 0 → (wear : Wear)
     → (k : ℕ) → k < original_count R.sizes → flag_of (rebuild_answer R chip area flags bad) k ≡ 1
     → RebuiltBy R chip area flags (mend_answer R.sizes chip wear).place bad k
-
--- ---- every flag is 0 or 1, and the page of one that is lost is 255s, whatever is stored
-pub record LostWritten : Type 0 where
-  pub flags : (R : Request) (chip : Chip) (area flags : List ℕ) (bad : ℕ) → (rebuild_answer R chip area flags bad).number ≡ 0
-      → (k : ℕ) → k < original_count R.sizes
-      → (flag_of (rebuild_answer R chip area flags bad) k ≡ 0) ⊎ (flag_of (rebuild_answer R chip area flags bad) k ≡ 1)
-  pub page : (R : Request) (chip : Chip) (area flags : List ℕ) (bad : ℕ) → (rebuild_answer R chip area flags bad).number ≡ 0
-      → (k : ℕ) → k < original_count R.sizes → flag_of (rebuild_answer R chip area flags bad) k ≡ 0
-      → part R.sizes.p k (rebuild_answer R chip area flags bad).area ≡ filler_page R.sizes.p
 
 -- ---- a slot loses only originals of its own set, and none if it is of the block that is filled at the place
 pub record LostFew : Type 0 where

@@ -1,12 +1,10 @@
 -- Worked cases with counters of erases, as those of Cases.antt: the program's case, of which blocks 0 and 3 are erased once and the others twice.
-use Rattle.std.specs.Prelude.{◌≡◌, List, [], ◌∷◌, ℕ, ◌+◌}
-use Rattle.flash.specs.Lists.{total}
+use Rattle.std.specs.Prelude.{◌≡◌, List, [], ◌∷◌, ℕ}
 use Rattle.flash.specs.Chip.{Chip}
-use Rattle.flash.specs.declared.wear.Wear.{Wear}
-use Rattle.flash.specs.Wear.{counter_end, counter_at, PairCorrect, unworn}
+use Rattle.flash.specs.Wear.{counter_end, unworn}
 use Rattle.method.specs.Answers.{run_answer, mend_answer}
-use Rattle.method.specs.Events.{Call, run, mend, uncut, inside, Event, starting, wear_returned, wear_at_end, erases_reported}
-use Rattle.method.specs.WearCounts.{Counters, NoneEnded, Carried}
+use Rattle.method.specs.Events.{run, mend, uncut, inside, Event, starting, wear_at_end, erases_reported}
+use Rattle.method.specs.WearCounts.{Carried}
 use Rattle.method.specs.Cases.{chip, junk, counts, wears, ran, recovered, resting, three, three_at_rest, three_finished, three_before_erase}
 use Rattle.method.specs.Cases.{three_torn}
 
@@ -25,7 +23,7 @@ abbrev WearsOut : (counters : List ℕ) → (limit : ℕ) → Type 0
 WearsOut counters limit = Refused 12 three_at_rest counters 0 99 limit
 
 -- after one step, and after two: the second is the erase of block 1
-abbrev pub three_begun : Chip
+abbrev three_begun : Chip
 three_begun = chip (5 ∷ 1 ∷ 2 ∷ 4 ∷ []) (1 ∷ 0 ∷ 0 ∷ 0 ∷ [])
 
 abbrev three_erased : Chip
@@ -42,39 +40,6 @@ cut_once =
     record { call = run three (junk 1) unworn 0 2 2; cut = uncut }
     ∷ record { call = run three (junk 1) (wears (0 ∷ 1 ∷ [])) 2 9 2; cut = inside 1 (three_torn 0) }
     ∷ record { call = mend three.sizes (wears (0 ∷ 1 ∷ [])); cut = uncut } ∷ []
-
--- Counters near their end: the limit is met exactly, and by every block. In the same list of calls none of them comes to its end.
-abbrev pub near_end : Wear
-near_end = wears (4294967294 ∷ 4294967293 ∷ 4294967293 ∷ 4294967294 ∷ [])
-
-abbrev nearer : Wear
-nearer = wears (4294967294 ∷ 4294967294 ∷ 4294967293 ∷ 4294967294 ∷ [])
-
-abbrev pub first_near : Call
-first_near = run three (junk 1) near_end 0 2 counter_end
-
-abbrev pub cut_near : List Event
-cut_near =
-    record { call = first_near; cut = uncut }
-    ∷ record { call = run three (junk 1) nearer 2 9 counter_end; cut = inside 1 (three_torn 0) }
-    ∷ record { call = mend three.sizes nearer; cut = uncut } ∷ []
-
--- a record with one counter at its end
-abbrev pub one_ended : Wear
-one_ended = wears (0 ∷ counter_end ∷ 7 ∷ [])
-
--- what the theorems give there
-pub record NearEnd : Type 0 where
-  pub counters : Counters near_end
-  pub carried : Carried cut_near (starting three_at_rest) near_end
-  pub call-none-ended : NoneEnded (wear_returned first_near three_at_rest unworn)
-  pub call-together : total nearer.counters ≡ total near_end.counters + 1
-  pub none-ended : NoneEnded (wear_at_end cut_near (starting three_at_rest) near_end)
-  pub together : total (wear_at_end cut_near (starting three_at_rest) near_end).counters ≡ total near_end.counters + 2
-  pub pair : PairCorrect (wear_at_end cut_near (starting three_at_rest) near_end)
-  -- a counter at its end can be given too, and stays when its block is erased
-  pub one_ended : Counters one_ended
-  pub stays : counter_at (run_answer three three_begun (junk 1) one_ended 1 1 counter_end).wear 1 ≡ counter_end
 
 pub record WearCasesHold : Type 0 where
   -- the limit is met exactly, and passed by one

@@ -9,7 +9,7 @@ use Rattle.flash.specs.inner.Totals.{total_page}
 use Rattle.flash.proofs.Comparisons.{lt-cases}
 use Rattle.split.specs.Split.{set_of}
 use Rattle.split.specs.inner.Rows.{ByDestination}
-use Rattle.split.specs.Bits.{is_marked}
+use Rattle.split.specs.inner.Mask.{is_marked}
 use Rattle.method.specs.declared.tally.Tally.{Tally}
 use Rattle.method.specs.Move.{Move, Plan, AcceptedMove}
 use Rattle.method.specs.Cycle.{sent_to}
@@ -22,7 +22,7 @@ use Rattle.method.proofs.places.PagesHeld.{Change, by-write, by-erase, change, M
 use Rattle.method.proofs.places.PlaceShape.{letter_above, shape-filling}
 use Rattle.method.proofs.places.StepsAtPlaces.{operation-done}
 use Rattle.places.specs.declared.place.Place.{Place}
-use Rattle.places.specs.Place.{is_backward, pass_of, place_of}
+use Rattle.places.specs.inner.Place.{is_backward, pass_of, place_of}
 use Rattle.walk.specs.inner.Rows.{row_length}
 use Rattle.walk.specs.declared.terms.Addends.{Addends}
 use Rattle.walk.specs.inner.Terms.{AddsUp}

@@ -1,5 +1,6 @@
 // Read: an original page, also in mid-move and between a cut and the recovery.
 ghost use Rattle.std.specs.Prelude.{◌≡◌};
+ghost use Rattle.split.specs.Drops.{list_left};
 ghost use Rattle.split.specs.Request.{request_of};
 ghost use Rattle.method.specs.Answers.{read_answer};
 ghost use Rattle.mover.specs.Answers.{read_as};
@@ -9,7 +10,6 @@ use flash::sizes::{Sizes, original_count};
 use flash::totals::total_to_page;
 use recovery::marks::{MarksRead, read_marks};
 use split::drops::MASKS;
-use split::list::{MOST_ENTRIES, copied};
 use walk::moment::moment_in;
 use walk::rows::TABLE;
 use walk::terms::read_terms;
@@ -33,8 +33,8 @@ fn refused(number: u32) -> ReadResult
     }
 }
 
-// Read on a list of the caller's own, which it may complete: checks in the table's order, then the sum.
-pub fn read_own(
+// Read: checks in the table's order, then the sum. A refused read changes nothing that is lent but the list, which is completed once it is judged.
+pub fn read(
     sizes: Sizes,
     list: &mut [u16],
     pins: &[u8],
@@ -44,9 +44,10 @@ pub fn read_own(
     work: &mut [u8],
     k: usize,
 ) -> ReadResult
-    ensures { read_as result work.new
+    ensures work_after { read_as result work.new
         ≡ read_answer (request_of sizes list.old pins.now sets.now)
         (record { store = store.entry.now; marks = marks.now }) work.old k }
+    ensures list_after { list.new ≡ list_left result.number list.old }
 {
     let mut table = [0u8; TABLE];
     let mut drops = [0u64; MASKS];
@@ -84,24 +85,4 @@ pub fn read_own(
         count,
         bytes,
     }
-}
-
-// Read. A refused read changes nothing that is lent.
-pub fn read(
-    sizes: Sizes,
-    list: &[u16],
-    pins: &[u8],
-    sets: &[u8],
-    store: &[u8],
-    marks: &[u8],
-    work: &mut [u8],
-    k: usize,
-) -> ReadResult
-    ensures { read_as result work.new
-        ≡ read_answer (request_of sizes list.now pins.now sets.now)
-        (record { store = store.entry.now; marks = marks.now }) work.old k }
-{
-    let mut own = [0u16; MOST_ENTRIES];
-    let count = copied(list, &mut own);
-    read_own(sizes, &mut own[..count], pins, sets, store, marks, work, k)
 }

@@ -2,7 +2,7 @@
 ghost use Rattle.std.specs.Prelude.{◌≡◌, [], ◌||◌, ◌≤◌, replicate};
 ghost use Rattle.split.specs.Request.{request_of, bad_request};
 ghost use Rattle.flash.specs.Tables.{refusal};
-ghost use Rattle.split.specs.Drops.{completed};
+ghost use Rattle.split.specs.Drops.{list_left};
 ghost use Rattle.split.specs.inner.Dropping.{DropsTold};
 ghost use Rattle.split.specs.inner.Rows.{ByDestination};
 ghost use Rattle.method.specs.Answers.{bad_chip, bad_parts, move_rows};
@@ -68,7 +68,8 @@ pub fn move_refusal(
     requires { (drops.old ≡ replicate 64 0) × (places.old ≡ replicate 64 0) }
     ensures value { result ≡ refusal (move_rows (request_of sizes list.old pins.now sets.now)
         (record { store = store.entry.now; marks = marks.now }) work.now []) }
-    ensures list_after { result ≡ 0 → (list.new ≡ completed list.old) × ByDestination list.new sets.now table.new
+    ensures list_after { list.new ≡ list_left result list.old }
+    ensures by_destination { result ≡ 0 → ByDestination list.new sets.now table.new
         × DropsTold list.old drops.new places.new }
 {
     if !in_range(sizes) {

@@ -2,6 +2,7 @@
 ghost use Rattle.std.specs.Prelude.{◌≡◌, false, min, ◌≤◌, length};
 ghost use Rattle.flash.specs.Lists.{part};
 ghost use Rattle.flash.specs.Geometry.{Bounds, store_len};
+ghost use Rattle.split.specs.Drops.{list_left};
 ghost use Rattle.split.specs.Request.{request_of};
 ghost use Rattle.split.specs.inner.Rows.{ByDestination};
 ghost use Rattle.method.specs.Move.{move_of, AcceptedMove, Lent};
@@ -9,7 +10,7 @@ ghost use Rattle.method.specs.Place.{last_place};
 ghost use Rattle.method.specs.Step.{nothing_done};
 ghost use Rattle.method.specs.Answers.{is_elsewhere, steps_taken, run_carried_out, run_answer};
 ghost use Rattle.walk.specs.inner.Rows.{PagesTable};
-ghost use Rattle.walk.specs.Plan.{plan_by};
+ghost use Rattle.walk.specs.inner.Terms.{plan_by};
 ghost use Rattle.mover.specs.Answers.{ran_as};
 ghost use Rattle.mover.specs.inner.Steps.{DropsIn, OtherTable, last_slot};
 
@@ -24,7 +25,6 @@ use method::tally::Tally;
 use places::place::{Place, last_place};
 use places::place_marks::is_elsewhere;
 use split::drops::MASKS;
-use split::list::{MOST_ENTRIES, copied};
 use split::rows::sets_by_destination;
 use walk::rows::{TABLE, pages_table, sources_table};
 use walk::walk::SLOTS;
@@ -204,8 +204,8 @@ pub fn refused(number: u32, wear: Wear) -> RunResult
     }
 }
 
-// The run on a list of the caller's own, which it may complete: checks in the table's order, then the steps.
-pub fn run_own(
+// The run: checks in the table's order, then the steps. A refused run changes nothing that is lent but the list, which is completed once it is judged.
+pub fn run(
     sizes: Sizes,
     list: &mut [u16],
     pins: &[u8],
@@ -218,9 +218,10 @@ pub fn run_own(
     budget: u32,
     limit: u32,
 ) -> RunResult
-    ensures { ran_as result store.exit.now marks.new work.new
+    ensures work_after { ran_as result store.exit.now marks.new work.new
         ≡ run_answer (request_of sizes list.old pins.now sets.now)
         (record { store = store.entry.now; marks = marks.old }) work.old wear place budget limit }
+    ensures list_after { list.new ≡ list_left result.number list.old }
 {
     let mut table = [0u8; TABLE];
     let mut drops = [0u64; MASKS];
@@ -259,40 +260,5 @@ pub fn run_own(
         &drops,
         &places,
         wear,
-    )
-}
-
-// The run. A refused run changes nothing that is lent.
-pub fn run(
-    sizes: Sizes,
-    list: &[u16],
-    pins: &[u8],
-    sets: &[u8],
-    store: &mut [u8],
-    marks: &mut [u8],
-    work: &mut [u8],
-    wear: Wear,
-    place: usize,
-    budget: u32,
-    limit: u32,
-) -> RunResult
-    ensures { ran_as result store.exit.now marks.new work.new
-        ≡ run_answer (request_of sizes list.now pins.now sets.now)
-        (record { store = store.entry.now; marks = marks.old }) work.old wear place budget limit }
-{
-    let mut own = [0u16; MOST_ENTRIES];
-    let count = copied(list, &mut own);
-    run_own(
-        sizes,
-        &mut own[..count],
-        pins,
-        sets,
-        store,
-        marks,
-        work,
-        wear,
-        place,
-        budget,
-        limit,
     )
 }

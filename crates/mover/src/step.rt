@@ -10,9 +10,8 @@ ghost use Rattle.method.specs.Step.{running_of, write_terms, tallied};
 ghost use Rattle.method.specs.inner.Shape.{Shape};
 ghost use Rattle.walk.specs.inner.Rows.{row_length, table_length, ListIn, PagesIn, BlocksIn};
 ghost use Rattle.walk.specs.inner.Slots.{slots_length};
-ghost use Rattle.walk.specs.Plan.{plan_by};
-ghost use Rattle.walk.specs.inner.Terms.{AddsUp};
-ghost use Rattle.places.specs.Place.{pass_of, place_of};
+ghost use Rattle.walk.specs.inner.Terms.{plan_by, AddsUp};
+ghost use Rattle.places.specs.inner.Place.{pass_of, place_of};
 ghost use Rattle.mover.specs.inner.Steps.{PassTables, SetRows};
 
 use flash::block::erase_block;

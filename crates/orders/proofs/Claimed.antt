@@ -1,20 +1,19 @@
 -- The theorems about the two answers.
-use Rattle.flash.proofs.Kit.{◌≡◌, refl, sym, ap, ◌∙◌, subst, ◌≢◌, ⊎_elim, true, false, ◌||◌, or-true, List, [], ◌∷◌, ℕ, ◌≤◌, ◌<◌, arith, eqb, ltb, lt-ltb, length, get_or, eqb-true, eqb-false}
+use Rattle.flash.proofs.Kit.{◌≡◌, refl, sym, ap, ◌∙◌, subst, ◌≢◌, ⊎_elim, true, false, List, [], ◌∷◌, ℕ, ◌≤◌, ◌<◌, arith, eqb, get_or, eqb-true, eqb-false}
 use Rattle.flash.specs.Tables.{refusal, before as standing, First}
 use Rattle.flash.proofs.Bools.{bool_cases}
-use Rattle.flash.proofs.Bounds.{in-range}
 use Rattle.flash.proofs.Comparisons.{eq-cases, lt-cases}
 use Rattle.flash.proofs.Tables.{first-returned}
-use Rattle.orders.specs.Orders.{bad_order, least_y, forbidding_page}
+use Rattle.orders.specs.Orders.{least_y, forbidding_page}
 use Rattle.orders.specs.Dictionary.{factorial, order_at}
-use Rattle.orders.specs.Answer.{are_sizes, fewest_blocks, most_searched, most_blocks, list_rows, least_rows, best_rows, LeastAnswer, least_answer, BestAnswer, best_answer}
-use Rattle.orders.specs.Claims.{IsOrder, Precedes, LeastGiven, Best, BestGiven, NumbersInOrder, Asked, CallsTaken}
+use Rattle.orders.specs.Answer.{list_rows, least_rows, best_rows, least_answer, best_answer}
+use Rattle.orders.specs.Claims.{IsOrder, Precedes, LeastGiven, Best, BestGiven, NumbersInOrder}
 use Rattle.orders.specs.inner.Search.{FirstLeast}
 use Rattle.orders.proofs.LeastLaws.{least-given}
-use Rattle.orders.proofs.OrderLaws.{good-order, is-order}
+use Rattle.orders.proofs.OrderLaws.{good-order}
 use Rattle.orders.proofs.DictionaryLaws.{factorial-some, each-order, every-order, rising-orders}
 use Rattle.orders.proofs.BestLaws.{best-is, least-exists}
-use Rattle.orders.proofs.RowLaws.{Passed, passed, passed-rows, passed-other, gives-16, least-refused, least-17, least-done, best-refused, best-done}
+use Rattle.orders.proofs.RowLaws.{Passed, passed, passed-rows, passed-other, least-done, best-done}
 
 pub least-claim : LeastGiven
 unfolding LeastGiven least_answer
@@ -108,61 +107,4 @@ pub numbers-in-order : NumbersInOrder
 numbers-in-order = record {
   least = λ n m list order. rw (least-number-is n m list order) (least_first n m list order);
   best = λ n m list order. rw (best-number-is n m list order) (best-first n m list order);
-}
-
--- ---- which calls are carried out
-module _ (n m : ℕ) (list order : List ℕ) where
-  allowed : (most : ℕ) → Asked n m list order → fewest_blocks ≤ n → n ≤ most → Passed n m most list order
-  allowed most A low high =
-      let B = in-range _ A.sizes in
-      record {
-        sizes = A.sizes;
-        n-low = low;
-        n-most = high;
-        n-high = B.n-high;
-        m-low = B.m-low;
-        m-high = B.m-high;
-        list-size = A.list-size;
-        order-size = A.order-size;
-        good = A.good;
-      }
-
-  least-rows : Asked n m list order → fewest_blocks ≤ n → refusal (list_rows n m most_blocks list order) ≡ 0
-  least-rows A low = passed-rows n m most_blocks list order (allowed most_blocks A low (in-range _ A.sizes).n-high)
-
-  bad-order : length order ≡ n → (IsOrder n order → ⊥) → bad_order n order ≡ true
-  bad-order size none = ⊎_elim
-      (λ (e : bad_order n order ≡ true). e)
-      (λ (e : bad_order n order ≡ false). absurd (none (is-order n order size e)))
-      (bool_cases (bad_order n order))
-
-  sixteen : (most : ℕ) → are_sizes n m ≡ true → (ltb n fewest_blocks || ltb most n) ≡ true → refusal (list_rows n m most list order) ≡ 16
-  sixteen most sizes e = gives-16 n m most list order sizes e
-
-  few-test : (most : ℕ) → n < fewest_blocks → (ltb n fewest_blocks || ltb most n) ≡ true
-  few-test most h = rw (lt-ltb n fewest_blocks h)
-
-  many-test : most_searched < n → (ltb n fewest_blocks || ltb most_searched n) ≡ true
-  many-test h = rw (lt-ltb most_searched n h, or-true)
-
-  least-16 : are_sizes n m ≡ true → n < fewest_blocks → (least_answer n m list order).number ≡ 16
-  least-16 sizes h =
-      sym (ap (λ (a : LeastAnswer). a.number)
-      (least-refused n m list order 16 (sym (sixteen most_blocks sizes (few-test most_blocks h))) (λ z. absurd (omega arith))))
-
-  best-16 : are_sizes n m ≡ true → (ltb n fewest_blocks || ltb most_searched n) ≡ true → (best_answer n m list order).number ≡ 16
-  best-16 sizes e =
-      sym (ap (λ (a : BestAnswer). a.number) (best-refused n m list order 16 (sym (sixteen most_searched sizes e)) (λ z. absurd (omega arith))))
-
-pub calls-taken : CallsTaken
-calls-taken = record {
-  least = λ n m list order A low O.
-      sym (ap (λ (a : LeastAnswer). a.number) (least-done n m list order (least-rows n m list order A low) (good-order n order O)));
-  no-order = λ n m list order A low none.
-      sym (ap (λ (a : LeastAnswer). a.number) (least-17 n m list order (least-rows n m list order A low) (bad-order n m list order A.order-size none)));
-  too_few = λ n m list order sizes h. (least-16 n m list order sizes h, best-16 n m list order sizes (few-test n m list order most_searched h));
-  best = λ n m list order A low high.
-      sym (ap (λ (a : BestAnswer). a.number)
-      (best-done n m list order (passed-rows n m most_searched list order (allowed n m list order most_searched A low high))));
-  too_many = λ n m list order sizes h. best-16 n m list order sizes (many-test n m list order h);
 }

@@ -7,7 +7,7 @@ use Rattle.flash.proofs.Comparisons.{eq-cases}
 use Rattle.flash.proofs.Ranges.{any-is, any-range-find}
 use Rattle.split.specs.Drops.{is_dropped}
 use Rattle.split.specs.Split.{source_block, dest_block}
-use Rattle.split.specs.Bits.{is_marked}
+use Rattle.split.specs.inner.Mask.{is_marked}
 use Rattle.split.proofs.DropLaws.{is-kept}
 use Rattle.split.proofs.MarkLaws.{unmarked}
 use Rattle.orders.specs.Orders.{least_y}

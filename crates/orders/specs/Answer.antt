@@ -10,31 +10,20 @@ use Rattle.orders.specs.Dictionary.{best_order}
 abbrev pub are_sizes : (n m : ℕ) → Bool
 are_sizes n m = in_range (record { n = n; m = m; p = 1; s = 0 })
 
--- the fewest blocks that either call takes, and the most that are searched
-abbrev pub fewest_blocks : ℕ
-fewest_blocks = 3
-
-abbrev pub most_searched : ℕ
-most_searched = 7
-
--- the most that there are
-abbrev pub most_blocks : ℕ
-most_blocks = 64
-
 -- what both calls look for, in this order; `most` is the highest n that the call takes
 unfoldable pub list_rows : (n m most : ℕ) → (list order : List ℕ) → List (Row ℕ)
 list_rows n m most list order =
     record { fits = not (are_sizes n m); gives = 1 }
-    ∷ record { fits = ltb n fewest_blocks || ltb most n; gives = 16 }
+    ∷ record { fits = ltb n 3 || ltb most n; gives = 16 }
     ∷ record { fits = not (eqb (length list) (n * m) && eqb (length order) n); gives = 2 }
     ∷ record { fits = bad_list (n * m) list; gives = 3 }
     ∷ []
 
 unfoldable pub least_rows : (n m : ℕ) → (list order : List ℕ) → List (Row ℕ)
-least_rows n m list order = list_rows n m most_blocks list order ++ (record { fits = bad_order n order; gives = 17 } ∷ [])
+least_rows n m list order = list_rows n m 64 list order ++ (record { fits = bad_order n order; gives = 17 } ∷ [])
 
 unfoldable pub best_rows : (n m : ℕ) → (list order : List ℕ) → List (Row ℕ)
-best_rows n m list order = list_rows n m most_searched list order
+best_rows n m list order = list_rows n m 7 list order
 
 pub record LeastAnswer : Type 0 where
   pub number : ℕ

@@ -1,11 +1,11 @@
 -- What is claimed of the two answers, in the words of the request and without the definitions that compute them.
-use Rattle.std.specs.Prelude.{◌≡◌, true, false, ◌≢◌, List, [], ◌∷◌, ℕ, ◌+◌, ◌-◌, ◌*◌, ◌≤◌, ◌<◌, length, get_or}
+use Rattle.std.specs.Prelude.{◌≡◌, ◌≢◌, List, [], ◌∷◌, ℕ, ◌+◌, ◌-◌, ◌*◌, ◌≤◌, ◌<◌, length, get_or}
 use Rattle.flash.specs.Tables.{First}
-use Rattle.split.specs.OneToOne.{dropped, bad_list}
+use Rattle.split.specs.OneToOne.{dropped}
 use Rattle.split.specs.Split.{source_block, dest_block}
 use Rattle.orders.specs.Orders.{block_at}
 use Rattle.orders.specs.Dictionary.{factorial, order_at}
-use Rattle.orders.specs.Answer.{are_sizes, fewest_blocks, most_searched, least_rows, best_rows, least_answer, best_answer}
+use Rattle.orders.specs.Answer.{least_rows, best_rows, least_answer, best_answer}
 
 -- n numbers from 1 to n, each another
 pub record IsOrder (n : ℕ) (order : List ℕ) : Type 0 where
@@ -68,21 +68,3 @@ BestGiven = (n m : ℕ) (list order : List ℕ) → (best_answer n m list order)
 pub record NumbersInOrder : Type 0 where
   pub least : (n m : ℕ) (list order : List ℕ) → First (1 ∷ 16 ∷ 2 ∷ 3 ∷ 17 ∷ []) (least_rows n m list order) (least_answer n m list order).number
   pub best : (n m : ℕ) (list order : List ℕ) → First (1 ∷ 16 ∷ 2 ∷ 3 ∷ []) (best_rows n m list order) (best_answer n m list order).number
-
--- sizes in their ranges, lengths as they are due, and a list that split would not refuse
-pub record Asked (n m : ℕ) (list order : List ℕ) : Type 0 where
-  pub sizes : are_sizes n m ≡ true
-  -- an entry for each page, a byte for each block
-  pub list-size : length list ≡ n * m
-  pub order-size : length order ≡ n
-  pub good : bad_list (n * m) list ≡ false
-
--- which n are 16 and which orders are 17, and that no other is refused
-pub record CallsTaken : Type 0 where
-  pub least : (n m : ℕ) (list order : List ℕ) → Asked n m list order → fewest_blocks ≤ n → IsOrder n order → (least_answer n m list order).number ≡ 0
-  pub no-order : (n m : ℕ) (list order : List ℕ) → Asked n m list order → fewest_blocks ≤ n → (IsOrder n order → ⊥)
-      → (least_answer n m list order).number ≡ 17
-  pub too_few : (n m : ℕ) (list order : List ℕ) → are_sizes n m ≡ true → n < fewest_blocks
-      → ((least_answer n m list order).number ≡ 16) × ((best_answer n m list order).number ≡ 16)
-  pub best : (n m : ℕ) (list order : List ℕ) → Asked n m list order → fewest_blocks ≤ n → n ≤ most_searched → (best_answer n m list order).number ≡ 0
-  pub too_many : (n m : ℕ) (list order : List ℕ) → are_sizes n m ≡ true → most_searched < n → (best_answer n m list order).number ≡ 16

@@ -1,8 +1,7 @@
 -- Worked cases: the papers' sets in the blocks' own order, the best orders of small lists, dropped pages, and each number.
-use Rattle.std.specs.Prelude.{◌≡◌, List, [], ◌∷◌, ◌++◌, ℕ, replicate}
+use Rattle.std.specs.Prelude.{◌≡◌, List, [], ◌∷◌, ℕ, replicate}
 use Rattle.flash.specs.Lists.{range}
-use Rattle.orders.specs.Answer.{fewest_blocks, most_searched, most_blocks, LeastAnswer, BestAnswer, least_answer, best_answer}
-use Rattle.orders.specs.Claims.{IsOrder, Asked}
+use Rattle.orders.specs.Answer.{LeastAnswer, BestAnswer, least_answer, best_answer}
 
 abbrev given : (y page : ℕ) → LeastAnswer
 given y page = record { number = 0; y = y; page = page }
@@ -52,13 +51,6 @@ pub record Examples : Type 0 where
   -- every block sends to every other: each order has y 1, and the first is given
   pub none-better : best_answer 3 2 six (0 ∷ 0 ∷ 0 ∷ []) ≡ found (1 ∷ 2 ∷ 3 ∷ []) 1 4
   pub best-of-four : best_answer 4 1 (1 ∷ 2 ∷ 3 ∷ 0 ∷ []) (0 ∷ 0 ∷ 0 ∷ 0 ∷ []) ≡ found (1 ∷ 4 ∷ 3 ∷ 2 ∷ []) 0 0
-  -- `CallsTaken`: the fewest blocks, the most, and the most that are searched, with a list that moves every page
-  pub asked-fewest : Asked fewest_blocks 2 six (3 ∷ 1 ∷ 2 ∷ [])
-  pub an-order : IsOrder fewest_blocks (3 ∷ 1 ∷ 2 ∷ [])
-  pub no-order : IsOrder fewest_blocks (3 ∷ 1 ∷ 3 ∷ []) → ⊥
-  pub asked-searched : Asked most_searched 1 (range 1 6 ++ (0 ∷ [])) (replicate most_searched 0)
-  pub asked-most : Asked most_blocks 1 (range 1 63 ++ (0 ∷ [])) (range 1 most_blocks)
-  pub taken-most : (least_answer most_blocks 1 (range 1 63 ++ (0 ∷ [])) (range 1 most_blocks)).number ≡ 0
   pub no-pages : least_answer 3 0 [] (1 ∷ 2 ∷ 3 ∷ []) ≡ refused 1
   pub too_many : least_answer 65 1 [] [] ≡ refused 1
   -- 1 before 16

@@ -5,7 +5,7 @@ mod search;
 mod survey;
 mod table;
 
-ghost use Rattle.orders.specs.Claims.{LeastGiven, OrdersNumbered, BestGiven, NumbersInOrder, CallsTaken};
+ghost use Rattle.orders.specs.Claims.{LeastGiven, OrdersNumbered, BestGiven, NumbersInOrder};
 ghost use Rattle.orders.specs.Examples.{Examples};
 
 // The theorems about the definitions, as the contract of a function that does nothing: the check demands their proofs.
@@ -14,6 +14,5 @@ pub fn claims()
     ensures orders_numbered { OrdersNumbered }
     ensures best_given { BestGiven }
     ensures numbers_in_order { NumbersInOrder }
-    ensures calls_taken { CallsTaken }
     ensures examples { Examples }
 {}

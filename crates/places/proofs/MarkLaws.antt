@@ -21,7 +21,7 @@ use Rattle.method.proofs.basics.Indexes.{slot-div, slot-mod, map-range-at}
 use Rattle.method.proofs.places.StepsAtPlaces.{pages-in, filling-in}
 use Rattle.method.proofs.places.PagesHeld.{held_below, held-above, held-written, held-blank}
 use Rattle.places.specs.declared.place.Place.{Place}
-use Rattle.places.specs.Place.{place_of}
+use Rattle.places.specs.inner.Place.{place_of}
 use Rattle.places.proofs.PlaceLaws.{pass-is, block-is, page-is}
 
 -- ---- a test over a range

@@ -10,7 +10,7 @@ use Rattle.method.specs.Place.{Pass, forward, backward, erase, mark_of, last_pla
 use Rattle.method.proofs.places.StepsAtPlaces.{next_block, Stands, stands_at, Turned, pages-in, backward-from, backward-low, forward-high, filling-in, after_write, after-erase, operation-writes, operation-erases, operation-done}
 use Rattle.places.specs.declared.place.Place.{Place}
 use Rattle.places.specs.declared.place.Op.TheVariants.{Write, Done}
-use Rattle.places.specs.Place.{is_backward, pass_of, place_of, op_of}
+use Rattle.places.specs.inner.Place.{is_backward, pass_of, place_of, op_of}
 
 pub pass-told : (pass : Pass) (t : Bool) → t ≡ is_backward pass → pass ≡ pass_of t
 pass-told forward t e = rw e

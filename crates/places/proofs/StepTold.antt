@@ -7,7 +7,7 @@ use Rattle.method.proofs.basics.Indexes.{clash}
 use Rattle.method.proofs.places.StepsAtPlaces.{next_block, backward-low, forward-high, operation-done}
 use Rattle.method.proofs.places.PagesHeld.{Change, by-write, by-erase, change}
 use Rattle.places.specs.declared.place.Op.TheVariants.{Write, Erase, Done}
-use Rattle.places.specs.Place.{is_backward, op_of, pass_of}
+use Rattle.places.specs.inner.Place.{is_backward, op_of, pass_of}
 use Rattle.places.proofs.PlaceLaws.{pass-told}
 
 module _ (Z : Sizes) where

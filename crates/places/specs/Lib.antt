@@ -1,3 +1,3 @@
 -- What the contracts of this crate say.
-pub mod Place
 pub mod Operation
+pub mod inner

@@ -3,7 +3,7 @@
 ghost use Rattle.std.specs.Prelude.{◌≡◌, ◌+◌, ◌≤◌, ◌<◌};
 ghost use Rattle.flash.specs.Geometry.{Bounds};
 ghost use Rattle.method.specs.Place.{erase, operation_at, last_place};
-ghost use Rattle.places.specs.Place.{place_of, op_of};
+ghost use Rattle.places.specs.inner.Place.{place_of, op_of};
 
 use flash::sizes::{Sizes, letter_after};
 

@@ -5,7 +5,7 @@ ghost use Rattle.flash.specs.Geometry.{Bounds, slot_count, store_len};
 ghost use Rattle.flash.specs.Chip.{erased};
 ghost use Rattle.method.specs.Place.{last_place, marks_of};
 ghost use Rattle.method.specs.Answers.{is_elsewhere};
-ghost use Rattle.places.specs.Place.{place_of};
+ghost use Rattle.places.specs.inner.Place.{place_of};
 
 use crate::place::{Place, last_place};
 use flash::ERASED;

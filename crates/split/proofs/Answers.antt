@@ -1,22 +1,35 @@
--- The refusals of the split call, row by row, and its answer for a copy of the list.
-use Rattle.flash.proofs.Kit.{◌≡◌, ◌≢◌, refl, ap, ◌∙◌, ⊎_elim, Bool, true, false, cond, not, ◌||◌, List, [], ◌∷◌, ℕ, zero, suc, ◌≤◌, arith, eqb, length, get_or, replicate, eqb-true, eq-eqb, ne_eqb, not-false}
+-- The refusals of the split call, row by row.
+use Rattle.flash.proofs.Kit.{◌≡◌, ◌≢◌, refl, ap, ◌∙◌, Bool, true, false, cond, not, ◌||◌, List, [], ◌∷◌, ℕ, zero, suc, ◌≤◌, arith, eqb, length, get_or, replicate, eqb-true, eq-eqb, ne_eqb, not-false}
+use Rattle.flash.specs.Lists.{any}
 use Rattle.flash.specs.Tables.{first_fit, number_or0, refusal}
 use Rattle.flash.specs.declared.sizes.Sizes.{Sizes}
 use Rattle.flash.specs.Geometry.{in_range, original_count}
 use Rattle.split.specs.OneToOne.{bad_list}
-use Rattle.split.specs.Drops.{completed}
+use Rattle.split.specs.Drops.{completed, list_left}
 use Rattle.split.specs.Pins.{is_pinned, moves_pinned}
 use Rattle.split.specs.Rule.{split_by_rule}
-use Rattle.split.specs.Request.{Request, request_of, bad_request}
-use Rattle.split.specs.Answer.{SplitAnswer, split_rows, split_answer}
+use Rattle.split.specs.Request.{Request, bad_request}
+use Rattle.split.specs.Answer.{split_rows, split_answer}
 use Rattle.split.specs.inner.Rows.{Accepted}
-use Rattle.split.specs.inner.Lent.{list_within}
-use Rattle.flash.proofs.Bools.{bool_cases, or-false-left, or-false-right}
-use Rattle.flash.proofs.Bounds.{in-range}
+use Rattle.flash.proofs.Bools.{or-false-left, or-false-right}
+use Rattle.flash.proofs.Bounds.{in-range, product_le}
 use Rattle.flash.proofs.Ranges.{none_is}
 use Rattle.flash.proofs.Tables.{refusal-zero, refusal-miss}
 use Rattle.split.proofs.DropLaws.{completed-length, completed-accepted}
-use Rattle.split.proofs.LentLaws.{small, as_lent}
+
+-- a number that is given is one of the table's
+among : (one two three eleven : Bool)
+    → (let number = refusal (record { fits = one; gives = 1 } ∷ record { fits = two; gives = 2 } ∷ record { fits = three; gives = 3 }
+    ∷ record { fits = eleven; gives = 11 } ∷ []) in any (eqb number) (1 ∷ 2 ∷ 3 ∷ 11 ∷ []) ≡ not (eqb number 0))
+unfolding refusal first_fit number_or0 any
+among true two three eleven = refl
+among false true three eleven = refl
+among false false true eleven = refl
+among false false false true = refl
+among false false false false = refl
+
+pub small : (Z : Sizes) → in_range Z ≡ true → original_count Z ≤ 4096
+small Z e = let B = in-range Z e in product_le Z.n Z.m {c = 64} {d = 64} B.n-high B.m-high
 
 -- ---- the rows
 in-turn : (bad moved : Bool)
@@ -88,6 +101,11 @@ passed R e =
       stays = eleven.0;
     }
 
+-- a list that is carried out is completed
+pub left-completed : (number : ℕ) (list list' : List ℕ) → number ≡ 0 → list' ≡ completed list → list' ≡ list_left number list
+unfolding list_left any
+left-completed number list list' z e = rw (z, e)
+
 module _ (R : Request) where
   open R use {sizes as Z, list, pins, sets}
 
@@ -122,6 +140,12 @@ module _ (R : Request) where
   unfolding split_answer
   answered-refused number e ne = rw (← e, ne_eqb number 0 ne)
 
+  pub left-lent : (number : ℕ) → number ≡ refusal (split_rows R) → number ≢ 0 → list ≡ list_left number list
+  unfolding list_left split_rows
+  left-lent number e ne =
+      let given = among (not (in_range Z)) (bad_request R) (bad_list (original_count Z) list) (moves_pinned pins list) in
+      rw (e, given, ← e, ne_eqb number 0 ne)
+
 -- where no page is pinned, none is sent elsewhere
 pub none-pinned : (count : ℕ) (list : List ℕ) → moves_pinned (replicate count 0) list ≡ false
 unfolding moves_pinned is_pinned
@@ -131,17 +155,3 @@ none-pinned count list = none_is _ 0 (length list) (λ k low high. rw (zeros cou
     zeros zero k = refl
     zeros (suc count) zero = refl
     zeros (suc count) (suc k) = zeros count k
-
--- a list of another length is refused alike whatever its entries, and so is what is copied of one that is too long
-module _ (Z : Sizes) (pins sets : List ℕ) where
-  pub split-refuses-list : (list : List ℕ) → (in_range Z ≡ true → length list ≢ original_count Z)
-      → split_answer (request_of Z list pins sets) ≡ record { number = cond (in_range Z) 2 1; sets = sets }
-  unfolding split_answer
-  split-refuses-list list differs = ⊎_elim
-      (λ (e : in_range Z ≡ true). rw (gives-2-list (request_of Z list pins sets) e (differs e), e))
-      (λ (e : in_range Z ≡ false). rw (gives-1 (request_of Z list pins sets) e, e))
-      (bool_cases (in_range Z))
-
-  pub split-lent : (list own : List ℕ) (r : SplitAnswer) → own ≡ list_within 4096 list → r ≡ split_answer (request_of Z own pins sets)
-      → r ≡ split_answer (request_of Z list pins sets)
-  split-lent = as_lent Z _ (λ list. split_answer (request_of Z list pins sets)) split-refuses-list

@@ -4,8 +4,7 @@ use Rattle.flash.proofs.Kit.{◌<◌, not-suc-le-zero, arith, eqb, length, get_o
 use Rattle.flash.proofs.Kit.{eqb-true, eqb-false}
 use Rattle.split.specs.Split.{set_of}
 use Rattle.split.specs.Rule.{End, swapped, other_end}
-use Rattle.split.specs.Bits.{bit_at}
-use Rattle.split.specs.inner.Mask.{FlippedAt, FlippedBoth}
+use Rattle.split.specs.inner.Mask.{bit_at, FlippedAt, FlippedBoth}
 use Rattle.split.specs.inner.Cells.{row_of, cell_of, Uses, by_masks, IsPage, Cell, Exact, swapped_at}
 use Rattle.flash.proofs.Comparisons.{eq-cases}
 use Rattle.split.proofs.MaskLaws.{bit-lt}

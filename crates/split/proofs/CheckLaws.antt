@@ -3,7 +3,7 @@ use Rattle.flash.proofs.Kit.{◌≡◌, refl, sym, ap, ◌∙◌, ◌≢◌, ⊎
 use Rattle.flash.proofs.Kit.{not-suc-le-zero, below_more, eqb, length, get_or, replicate, eqb-true, eq-eqb}
 use Rattle.split.specs.OneToOne.{dropped, bad_list}
 use Rattle.split.specs.Drops.{is_dropped}
-use Rattle.split.specs.Bits.{is_marked}
+use Rattle.split.specs.inner.Mask.{is_marked}
 use Rattle.split.specs.inner.Dropping.{KeptMarked}
 use Rattle.flash.proofs.Bools.{bool_cases, never_both, or_cases}
 use Rattle.flash.proofs.Comparisons.{eq-cases, ne-lt}

@@ -1,14 +1,13 @@
 -- The rule page by page: the tables give the sets that the definition gives.
-use Rattle.flash.proofs.Kit.{◌≡◌, refl, sym, ap, ap₂, ◌∙◌, subst, ◌⊎◌, inl, inr, ◌≢◌, ⊎_elim, Bool, true, false, cond, not, List, [], ◌∷◌, ◌++◌, ℕ, suc, ◌+◌}
+use Rattle.flash.proofs.Kit.{◌≡◌, refl, sym, ap, ap₂, ◌∙◌, subst, ◌⊎◌, ◌≢◌, ⊎_elim, Bool, true, false, cond, not, List, [], ◌∷◌, ◌++◌, ℕ, suc, ◌+◌}
 use Rattle.flash.proofs.Kit.{◌-◌, ◌*◌, ◌/◌, ◌%◌, ◌≤◌, ◌<◌, div-add-mod', mod-lt, add-one, not-suc-le-zero, arith, eqb, length, get_or, take, replicate}
 use Rattle.flash.proofs.Kit.{set as put, length-set, get_or-set_same, get_or-set_other, get_or-take, take-suc-set, take-set-le, eqb-true, eqb-false, eq-eqb}
 use Rattle.flash.proofs.Kit.{ne_eqb, ltb-true, lt-ltb, le-ltb, not-true, not-false}
 use Rattle.split.specs.Split.{set_of}
 use Rattle.split.specs.Rule.{End, source, destination, other_end, block_at, is_used, lowest_unused, pages_met, exchange, give_next, sets_given}
-use Rattle.split.specs.Bits.{bit_at}
-use Rattle.split.specs.inner.Mask.{lowest_zero, FlippedAt}
+use Rattle.split.specs.inner.Mask.{bit_at, lowest_zero, FlippedAt}
 use Rattle.split.specs.inner.Rows.{Accepted}
-use Rattle.split.specs.inner.Cells.{row_of, cell_of, Uses, by_masks, by_order, Masked, Cell, Exact, Numbered}
+use Rattle.split.specs.inner.Cells.{row_of, cell_of, Uses, by_masks, by_order, Cell, Exact, Numbered}
 use Rattle.split.specs.inner.Work.{Working, Blocked}
 use Rattle.flash.proofs.Bools.{bool_cases, fails}
 use Rattle.flash.proofs.Comparisons.{eq-cases, lt-cases}
@@ -18,51 +17,6 @@ use Rattle.split.proofs.MaskLaws.{bit-lt, no_bits, zeros-at}
 use Rattle.split.proofs.CellsLaws.{no-pages, one-noted, bit-now}
 use Rattle.split.proofs.PathLaws.{same_block, set_here, set_else}
 use Rattle.split.proofs.Numbers.{source_row, source-page, digits}
-
-zero_bit : (mask s : ℕ) → eqb (bit_at mask s) 1 ≡ false → bit_at mask s ≡ 0
-zero_bit mask s q = let f : bit_at mask s ≢ 1 = eqb-false _ 1 q in let l = bit-lt mask s in omega arith
-
-one_bit : (mask s : ℕ) → eqb (bit_at mask s) 1 ≡ true → bit_at mask s ≢ 0
-one_bit mask s q z = let f : bit_at mask s ≡ 1 = eqb-true _ 1 q in omega arith
-
--- ---- at the sources: page k is the next, at its block and under its own number
-module _ (m k home : ℕ) (some : 0 < m) (at : home * m + k % m ≡ k) where
-  order-now : by_order m (k + 1) home (k % m) ≡ true
-  order-now = lt-ltb _ (k + 1) (omega arith)
-
-  order-beside : (row c : ℕ) → c < m → (row ≢ home) ⊎ (c ≢ k % m) → by_order m (k + 1) row c ≡ by_order m k row c
-  order-beside row c h ne = ⊎_elim
-      (λ (l : row * m + c < k). lt-ltb _ (k + 1) (omega arith) ∙ sym (lt-ltb _ k l))
-      (λ (l : k ≤ row * m + c).
-      let other : row * m + c ≢ k = λ e.
-      let d = digits m row c home (k % m) h (mod-lt k some) (e ∙ sym at) in
-      ⊎_elim (λ (r : row ≢ home). r d.0) (λ (s : c ≢ k % m). s d.1) ne in
-      le-ltb _ (k + 1) (omega arith) ∙ sym (le-ltb _ k l))
-      (lt-cases (row * m + c) k)
-
-  module _ (masks : List ℕ) (M : Masked m k masks) where
-    -- the lowest set that its block has not
-    own-number : m ≤ 64 → lowest_zero (get_or masks home 0) ≡ k % m
-    unfolding lowest_zero
-    own-number fits = let small = mod-lt k some in let mask = get_or masks home 0 in
-        first-is (λ bit. eqb (bit_at mask bit) 0) 0 64 64 (k % m) (record {
-          low = omega arith;
-          high = omega arith;
-          passes = eq-eqb _ 0 (zero_bit mask (k % m) (M home (k % m) small ∙ le-ltb _ k (omega arith)));
-          before = λ s _ l. ne_eqb _ 0 (one_bit mask s (M home s (omega arith) ∙ lt-ltb _ k (omega arith)));
-        })
-
-    masked-more : (masks' : List ℕ) → FlippedAt masks home (k % m) masks' → Masked m (k + 1) masks'
-    masked-more masks' flip row c h = ⊎_elim
-        (λ (r : row ≡ home). ⊎_elim
-        (λ (s : c ≡ k % m). rw (r, s) (bit-now masks masks' home (k % m) flip (M home (k % m) (mod-lt k some) ∙ le-ltb _ k (omega arith)) ∙ sym order-now))
-        (λ (s : c ≢ k % m). beside (inr s))
-        (eq-cases c (k % m)))
-        (λ (r : row ≢ home). beside (inl r))
-        (eq-cases row home)
-      where
-        beside : (row ≢ home) ⊎ (c ≢ k % m) → by_masks masks' row c ≡ by_order m (k + 1) row c
-        beside ne = ap (λ (bit : ℕ). eqb bit 1) (flip.same row c ne) ∙ M row c h ∙ sym (order-beside row c h ne)
 
 module _ (n m : ℕ) (list : List ℕ) (A : Accepted n m list) where
   pub row_lt : (end : End) (k : ℕ) → k < n * m → row_of m list end k < 64
@@ -165,6 +119,12 @@ module _ (n m : ℕ) (list : List ℕ) (A : Accepted n m list) where
             before = λ s a b. ne_eqb _ 0 (one_bit mask s
                 (used-is destination (by_masks masks) table X s (omega arith) ∙ not-false _ (h.before s a b)));
           })
+        where
+          zero_bit : (mask s : ℕ) → eqb (bit_at mask s) 1 ≡ false → bit_at mask s ≡ 0
+          zero_bit mask s q = let f : bit_at mask s ≢ 1 = eqb-false _ 1 q in let l = bit-lt mask s in omega arith
+
+          one_bit : (mask s : ℕ) → eqb (bit_at mask s) 1 ≡ true → bit_at mask s ≢ 0
+          one_bit mask s q z = let f : bit_at mask s ≡ 1 = eqb-true _ 1 q in omega arith
 
       -- at the source it is the number of the page within its block
       own-set : (table : List ℕ) → Exact m list source k sets (by_order m k) table → low source ≡ k % m
@@ -204,8 +164,15 @@ module _ (n m : ℕ) (list : List ℕ) (A : Accepted n m list) where
               let small = mod-lt k A.some-pages in
               one-noted m list source k sets sets' (by_order m k) (by_order m (k + 1)) targets X (k % m) (row_lt source k more) small
               (le-ltb _ k (omega (arith, source-page m list k))) its below (omega (arith, row_lt source k more, A.m-fits, small))
-              (order-now m k (row_of m list source k) A.some-pages (source-page m list k))
-              (order-beside m k (row_of m list source k) A.some-pages (source-page m list k))
+              (lt-ltb _ (k + 1) (omega (arith, source-page m list k)))
+              (λ row c h ne. ⊎_elim
+              (λ (l : row * m + c < k). lt-ltb _ (k + 1) (omega arith) ∙ sym (lt-ltb _ k l))
+              (λ (l : k ≤ row * m + c).
+              let other : row * m + c ≢ k = λ e.
+              let d = digits m row c (row_of m list source k) (k % m) h small (e ∙ sym (source-page m list k)) in
+              ⊎_elim (λ (r : row ≢ row_of m list source k). r d.0) (λ (s : c ≢ k % m). s d.1) ne in
+              le-ltb _ (k + 1) (omega arith) ∙ sym (le-ltb _ k l))
+              (lt-cases (row * m + c) k))
 
           numbered_more : Numbered m k sets numbers → k < length numbers → Numbered m (k + 1) sets' (put numbers k (k % m))
           numbered_more N room x h = ⊎_elim
@@ -325,36 +292,35 @@ module _ (m : ℕ) (list : List ℕ) (k : ℕ) (numbers targets homes destinatio
     home-row : home ≡ row_of m list source k
     home-row = home-is ∙ sym (source_row m list k)
 
-    pub rooms : (home < 64) × (block < 64)
-    rooms = (rw home-row (row_lt W.blocks m list A source k more), rw block-is (row_lt W.blocks m list A destination k more))
+    own_is : k - home * m ≡ a
+    own_is = let e : home * m + a ≡ k = ap (λ (x : ℕ). x * m + a) home-is ∙ div-add-mod' k m in omega arith
+
+    pub rooms : (home < 64) × (block < 64) × (home * m ≤ k) × (k - home * m < 64)
+    rooms = (
+      rw home-row (row_lt W.blocks m list A source k more),
+      rw block-is (row_lt W.blocks m list A destination k more),
+      (let e : home * m + a ≡ k = ap (λ (x : ℕ). x * m + a) home-is ∙ div-add-mod' k m in omega arith),
+      omega (arith, own_is, a_lt, A.m-fits),
+    )
 
     pub other-lt : (b : ℕ) → b ≡ lowest_zero (get_or destinations block 0) → b < 64
     other-lt b b-is = omega (arith, b_lt b (rw block-is at b-is), A.m-fits)
 
-    module _ (sources : List ℕ) (S : Masked m k sources) (own : ℕ) (own_is : own ≡ lowest_zero (get_or sources home 0)) where
-      at : home * m + a ≡ k
-      at = ap (λ (x : ℕ). x * m + a) home-is ∙ div-add-mod' k m
-
+    module _ (own : ℕ) (own_at : own ≡ k - home * m) (targets'' homes'' destinations' : List ℕ)
+        (targets-are : targets'' ≡ put targets (cell_of own home) block) where
       own-a : own ≡ a
-      own-a = own_is ∙ own-number m k home A.some-pages at sources S A.m-fits
+      own-a = own_at ∙ own_is
 
-      pub own-lt : own < 64
-      own-lt = omega (arith, own-a, a_lt, A.m-fits)
+      pub plain : by_masks destinations block own ≡ false → homes'' ≡ put homes (cell_of own block) home → FlippedAt destinations block own destinations'
+          → Working m list (k + 1) (put numbers k own) targets'' homes'' destinations'
+      plain u homes-are flip = rw (targets-are, homes-are, own-a, block-is, home-row)
+          (given-plain destinations' (rw (block-is, own-a) at u) (rw (block-is, own-a) at flip))
 
-      pub used-here : (sources' : List ℕ) → FlippedAt sources home own sources' → Masked m (k + 1) sources'
-      used-here sources' flip = masked-more m k home A.some-pages at sources S sources' (rw own-a at flip)
-
-      module _ (targets'' homes'' destinations' : List ℕ) (targets-are : targets'' ≡ put targets (cell_of own home) block) where
-        pub plain : by_masks destinations block own ≡ false → homes'' ≡ put homes (cell_of own block) home → FlippedAt destinations block own destinations'
-            → Working m list (k + 1) (put numbers k own) targets'' homes'' destinations'
-        plain u homes-are flip = rw (targets-are, homes-are, own-a, block-is, home-row)
-            (given-plain destinations' (rw (block-is, own-a) at u) (rw (block-is, own-a) at flip))
-
-        pub blocked : (b : ℕ) → b ≡ lowest_zero (get_or destinations block 0) → by_masks destinations block own ≡ true
-            → homes'' ≡ put homes (cell_of b block) home → FlippedAt destinations block b destinations'
-            → Blocked m list k own b (put numbers k own) targets'' homes'' destinations'
-        blocked b b-is u homes-are flip = rw (targets-are, homes-are, own-a, block-is, home-row)
-            (given-blocked b (rw block-is at b-is) destinations' (rw (block-is, own-a) at u) (rw block-is at flip))
+      pub blocked : (b : ℕ) → b ≡ lowest_zero (get_or destinations block 0) → by_masks destinations block own ≡ true
+          → homes'' ≡ put homes (cell_of b block) home → FlippedAt destinations block b destinations'
+          → Blocked m list k own b (put numbers k own) targets'' homes'' destinations'
+      blocked b b-is u homes-are flip = rw (targets-are, homes-are, own-a, block-is, home-row)
+          (given-blocked b (rw block-is at b-is) destinations' (rw (block-is, own-a) at u) (rw block-is at flip))
 
 pub work-starts : (n m : ℕ) (list numbers : List ℕ) → Accepted n m list → length numbers ≡ n * m
     → Working m list 0 numbers (replicate 4096 0) (replicate 4096 0) (replicate 64 0)
@@ -374,7 +340,3 @@ work-starts n m list numbers accepted len = record {
   at-destinations = no-pages m list destination numbers (by_masks (replicate 64 0)) (replicate 4096 0)
       (λ row set. ap (λ (mask : ℕ). eqb (bit_at mask set) 1) (zeros-at 64 row) ∙ ap (λ (bit : ℕ). eqb bit 1) (no_bits set));
 }
-
-pub masks-start : (m : ℕ) → Masked m 0 (replicate 64 0)
-masks-start m row set h = ap (λ (mask : ℕ). eqb (bit_at mask set) 1) (zeros-at 64 row) ∙ ap (λ (bit : ℕ). eqb bit 1) (no_bits set)
-    ∙ sym (le-ltb (row * m + set) 0 (omega arith))

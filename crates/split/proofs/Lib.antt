@@ -8,10 +8,8 @@ pub mod Exchange
 pub mod RuleLaws
 pub mod Turns
 pub mod Answers
-pub mod LentLaws
 pub mod PinLaws
 pub mod Claimed
-pub mod Applied
 pub mod MaskLaws
 pub mod MarkLaws
 pub mod PairLaws

@@ -1,8 +1,7 @@
 -- Laws of a table of masks that has a bit for each of 4,096 pages.
 use Rattle.flash.proofs.Kit.{◌≡◌, refl, ap, ◌∙◌, ◌≢◌, ⊎_elim, true, false, ◌||◌, or-false, or-true, not, List, ℕ, zero, suc, ◌+◌, ◌-◌, ◌/◌, ◌%◌, ◌^◌, ◌≤◌, ◌<◌}
 use Rattle.flash.proofs.Kit.{arith, div-one, div-le_self, div-eq_of_lt, zero-div, shr-shr, pow-suc, eqb, length, get_or, set, replicate, get_or-set_same, get_or-set_other, eq-eqb, ne_eqb}
-use Rattle.split.specs.Bits.{bit_at, is_marked}
-use Rattle.split.specs.inner.Mask.{lowest_zero, WithBit}
+use Rattle.split.specs.inner.Mask.{bit_at, lowest_zero, WithBit, is_marked}
 use Rattle.flash.proofs.Comparisons.{eq-cases, lt-cases}
 use Rattle.split.proofs.MaskLaws.{zeros-at, no_bits, bit-lt, bit-suc, comp-half, comp-odd, ones_below, zero-there}
 

@@ -4,8 +4,7 @@ use Rattle.flash.proofs.Kit.{◌≤◌, ◌<◌, max, pow-suc, div-eq_of_lt, div
 use Rattle.flash.proofs.Kit.{replicate, get_or-set_same, get_or-set_other, count_trailing_zeros, under, pow_pos, pow-lt, pow-add, shr-shr, shl-shr, bit_or}
 use Rattle.flash.proofs.Kit.{or_step, or_shr, bit_xor, xor_step, xor_shr, differ, eqb-true, eqb-false}
 use Rattle.flash.specs.Lists.{range, first}
-use Rattle.split.specs.Bits.{bit_at}
-use Rattle.split.specs.inner.Mask.{lowest_zero, WithBit, FlippedAt, FlippedBoth}
+use Rattle.split.specs.inner.Mask.{bit_at, lowest_zero, WithBit, FlippedAt, FlippedBoth}
 use Rattle.flash.proofs.Bools.{bool_cases}
 use Rattle.flash.proofs.Ranges.{First, Missed, first-cases}
 use Rattle.flash.proofs.Comparisons.{lt-cases, eq-cases}

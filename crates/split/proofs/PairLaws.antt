@@ -5,7 +5,7 @@ use Rattle.flash.proofs.Kit.{drop-cons, drop-length, append-nil, append_snoc, eq
 use Rattle.flash.specs.Lists.{range, any, count, filter, first}
 use Rattle.split.specs.OneToOne.{kept_entries, bad_list}
 use Rattle.split.specs.Drops.{is_dropped, free_places, paired, completed}
-use Rattle.split.specs.Bits.{is_marked}
+use Rattle.split.specs.inner.Mask.{is_marked}
 use Rattle.flash.proofs.Comparisons.{eq-cases, lt-cases}
 use Rattle.flash.proofs.Loops.{front_at, front-more}
 use Rattle.flash.proofs.Filters.{filter-next, filter_same}

@@ -12,8 +12,7 @@ use Rattle.split.specs.Pins.{is_pinned, moves_pinned}
 use Rattle.split.specs.Request.{Request, bad_request}
 use Rattle.split.specs.Answer.{split_rows, split_answer}
 use Rattle.split.specs.PinFirst.{drops_pinned, moves_pinned_kept, rows_once, split_answer_once, SplitPinFirst}
-use Rattle.split.proofs.LentLaws.{small}
-use Rattle.split.proofs.Answers.{gives-1, gives-2, gives-list, lengths-are}
+use Rattle.split.proofs.Answers.{small, gives-1, gives-2, gives-list, lengths-are}
 
 module _ (R : Request) where
   open R use {sizes as Z, list, pins, sets}

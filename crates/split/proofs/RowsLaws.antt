@@ -7,8 +7,7 @@ use Rattle.flash.specs.Lists.{range, all, any, part}
 use Rattle.flash.specs.Geometry.{block_of}
 use Rattle.split.specs.OneToOne.{is_one_to_one}
 use Rattle.split.specs.Split.{source_block, dest_block, set_of, is_split}
-use Rattle.split.specs.Bits.{bit_at}
-use Rattle.split.specs.inner.Mask.{lowest_zero, WithBit}
+use Rattle.split.specs.inner.Mask.{bit_at, lowest_zero, WithBit}
 use Rattle.split.specs.inner.Rows.{Accepted, ByDestination, Entered, Bits, has_each, rows_have_each}
 use Rattle.flash.proofs.Bools.{bool_eq, and_left, and_right, and_both}
 use Rattle.flash.proofs.Searches.{all-at, all_of, any_of, any-find}

@@ -30,18 +30,14 @@ WalkEnds =
     (n m : ℕ) (list : List ℕ) → length list ≡ n * m → is_one_to_one (n * m) list ≡ true
     → (k more : ℕ) → k < n * m → walk_of m list k (k + more) ≡ walk_of m list k k
 
--- the pages that a walk meets at most
-abbrev pub most_met : (n : ℕ) → ℕ
-most_met n = 2 * n - 2
-
 abbrev pub WalkIsShort : Type 0
 WalkIsShort =
     (n m : ℕ) (list : List ℕ) → length list ≡ n * m → is_one_to_one (n * m) list ≡ true
-    → (k : ℕ) → k < n * m → length (walk_of m list k k) ≤ most_met n
+    → (k : ℕ) → k < n * m → length (walk_of m list k k) ≤ 2 * n - 2
 
 -- The bound is met: by page 4 of six, of three blocks.
 abbrev pub WalkBoundMet : Type 0
-WalkBoundMet = length (walk_of 2 (0 ∷ 2 ∷ 1 ∷ 4 ∷ 3 ∷ 5 ∷ []) 4 4) ≡ most_met 3
+WalkBoundMet = length (walk_of 2 (0 ∷ 2 ∷ 1 ∷ 4 ∷ 3 ∷ 5 ∷ []) 4 4) ≡ 2 * 3 - 2
 
 -- A list that is not refused as 3 is completed to a permutation of the page numbers: a page that is kept goes where it is sent, and those
 -- that are dropped, ascending, get places that no kept page is sent to, ascending.

@@ -19,3 +19,7 @@ paired (entry ∷ entries) free =
 -- the completed list
 unfoldable pub completed : List ℕ → List ℕ
 completed list = paired list (free_places list)
+
+-- What a call leaves of the list, which it completes in place once numbers 1, 2, 3 and 11 are ruled out. The calls for C lend it a copy.
+unfoldable pub list_left : (number : ℕ) → List ℕ → List ℕ
+list_left number list = cond (any (eqb number) (1 ∷ 2 ∷ 3 ∷ 11 ∷ [])) list (completed list)

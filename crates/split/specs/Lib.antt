@@ -3,11 +3,9 @@ pub mod OneToOne
 pub mod Drops
 pub mod Split
 pub mod Rule
-pub mod Bits
 pub mod Pins
 pub mod Request
 pub mod Answer
 pub mod PinFirst
 pub mod Claims
-pub mod Applied
 pub mod inner

@@ -2,7 +2,6 @@
 pub mod Rows
 pub mod Mask
 pub mod Dropping
-pub mod Lent
 pub mod Cells
 pub mod Inverse
 pub mod Work

@@ -1,12 +1,13 @@
 // The split call: its refusals in the table's order, then the rule.
 ghost use Rattle.std.specs.Prelude.{◌≡◌, replicate};
 ghost use Rattle.flash.specs.Tables.{refusal};
+ghost use Rattle.split.specs.Drops.{list_left};
 ghost use Rattle.split.specs.Request.{request_of};
 ghost use Rattle.split.specs.Answer.{split_rows, split_answer};
 ghost use Rattle.split.specs.inner.Dropping.{KeptMarked};
 
 use crate::drops::{MASKS, complete_list};
-use crate::list::{MOST_ENTRIES, copied, list_refusal};
+use crate::list::list_refusal;
 use crate::rule::fill;
 use flash::sizes::{Sizes, in_range, original_count};
 
@@ -27,10 +28,11 @@ fn refusal(sizes: Sizes, list: &[u16], pins: &[u8], sets: &[u8], marks: &mut [u6
     list_refusal(list, pins, originals, marks)
 }
 
-// The call on a list of the caller's own, which it may complete.
-pub fn split_own(sizes: Sizes, list: &mut [u16], pins: &[u8], sets: &mut [u8]) -> u32
-    ensures { record { number = result; sets = sets.new }
+// Completes the list and fills the set bytes by the rule, or refuses and leaves both.
+pub fn split(sizes: Sizes, list: &mut [u16], pins: &[u8], sets: &mut [u8]) -> u32
+    ensures sets_after { record { number = result; sets = sets.new }
         ≡ split_answer (request_of sizes list.old pins.now sets.old) }
+    ensures list_after { list.new ≡ list_left result list.old }
 {
     let mut places = [0u64; MASKS];
     let number = refusal(sizes, list, pins, sets, &mut places);
@@ -39,14 +41,4 @@ pub fn split_own(sizes: Sizes, list: &mut [u16], pins: &[u8], sets: &mut [u8]) -
         fill(sizes.n, sizes.m, list, sets);
     }
     number
-}
-
-// Fills the set bytes by the rule, or refuses and leaves them.
-pub fn split(sizes: Sizes, list: &[u16], pins: &[u8], sets: &mut [u8]) -> u32
-    ensures { record { number = result; sets = sets.new }
-        ≡ split_answer (request_of sizes list.now pins.now sets.old) }
-{
-    let mut own = [0u16; MOST_ENTRIES];
-    let count = copied(list, &mut own);
-    split_own(sizes, &mut own[..count], pins, sets)
 }

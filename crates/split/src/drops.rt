@@ -3,7 +3,7 @@ ghost use Rattle.std.specs.Prelude.{◌≡◌, false, ◌||◌, not, ℕ, ◌-�
 ghost use Rattle.flash.specs.Lists.{range, any, first};
 ghost use Rattle.split.specs.OneToOne.{dropped, kept_entries, bad_list};
 ghost use Rattle.split.specs.Drops.{is_dropped, completed};
-ghost use Rattle.split.specs.Bits.{is_marked};
+ghost use Rattle.split.specs.inner.Mask.{is_marked};
 ghost use Rattle.split.specs.inner.Dropping.{KeptMarked, DropsTold};
 
 use crate::mask::{has, lowest_free, with_bit};

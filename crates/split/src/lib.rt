@@ -12,7 +12,6 @@ mod tables;
 
 ghost use Rattle.split.specs.Claims.{SplitEnds, WalkEnds, WalkIsShort, WalkBoundMet, Completes, NoDrops, DropCases, FilledFits};
 ghost use Rattle.split.specs.PinFirst.{SplitPinFirst};
-ghost use Rattle.split.specs.Applied.{SplitApplied};
 
 // The theorems about the definitions, as the contract of a function that does nothing: the check demands their proofs.
 pub fn claims()
@@ -25,5 +24,4 @@ pub fn claims()
     ensures drop_cases { DropCases }
     ensures filled_fits { FilledFits }
     ensures pin_first { SplitPinFirst }
-    ensures applied { SplitApplied }
 {}

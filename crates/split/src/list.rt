@@ -3,31 +3,10 @@ ghost use Rattle.std.specs.Prelude.{◌≡◌, true, cond, not, ◌≤◌, lengt
 ghost use Rattle.split.specs.OneToOne.{bad_list};
 ghost use Rattle.split.specs.Pins.{moves_pinned};
 ghost use Rattle.split.specs.inner.Dropping.{KeptMarked};
-ghost use Rattle.split.specs.inner.Lent.{list_within, copied_into};
 
 use crate::drops::{DROPPED, MASKS, is_marked, mark};
 use crate::pins::moves_pinned;
 use flash::casts::entry;
-
-// Room for the list of any sizes.
-pub const MOST_ENTRIES: usize = 4096;
-
-// Copies a list, and returns how many entries it has: none where there is no room for it.
-pub fn copied(list: &[u16], own: &mut [u16]) -> usize
-    ensures { (result ≡ length (list_within (length own.old) list.now))
-        × (own.new ≡ copied_into own.old list.now) }
-{
-    let count = list.len();
-    if own.len() < count {
-        return 0;
-    }
-    let mut k = 0;
-    while k < count {
-        own[k] = list[k];
-        k += 1;
-    }
-    count
-}
 
 // Whether no entry of a kept page is at or above `originals` and none is met twice; then the marks tell which numbers were met.
 fn check(list: &[u16], originals: usize, marks: &mut [u64; MASKS]) -> bool

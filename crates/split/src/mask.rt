@@ -1,7 +1,6 @@
 // 64-bit masks: bit k tells of set k, or of entry k of a list. What the path asks and changes is numbered in 16 bits, as it is there.
 ghost use Rattle.std.specs.Prelude.{◌≡◌, ◌≢◌, ◌<◌, eqb, length, get_or};
-ghost use Rattle.split.specs.Bits.{bit_at};
-ghost use Rattle.split.specs.inner.Mask.{lowest_zero, WithBit, FlippedAt, FlippedBoth};
+ghost use Rattle.split.specs.inner.Mask.{bit_at, lowest_zero, WithBit, FlippedAt, FlippedBoth};
 
 // The lowest set that is not in the mask; 64 if all are.
 pub fn lowest_free(mask: u64) -> usize

@@ -1,7 +1,7 @@
-// The split rule. Pages get their sets in the order of their numbers. Masks tell the sets used at each block, as source and as destination.
+// The split rule. Pages get their sets in the order of their numbers, so that the blocks before a page's own have all sets, and its
+// own has those below the page's number in it: that number is the lowest set unused there.
 ghost use Rattle.std.specs.Prelude.{◌≡◌, ◌+◌, ◌*◌, ◌<◌, length};
 ghost use Rattle.split.specs.Rule.{split_by_rule};
-ghost use Rattle.split.specs.inner.Cells.{Masked};
 ghost use Rattle.split.specs.inner.Rows.{Accepted};
 ghost use Rattle.flash.specs.inner.Reciprocal.{reciprocal_of};
 ghost use Rattle.split.specs.inner.Work.{Working};
@@ -21,21 +21,19 @@ fn give(
     numbers: &mut [u8],
     targets: &mut [u8; CELLS],
     homes: &mut [u8; CELLS],
-    sources: &mut [u64; BLOCKS],
     destinations: &mut [u64; BLOCKS],
 )
     requires working { Working m list.now k numbers.old targets.old homes.old destinations.old }
-    requires reciprocal_value { (reciprocal ≡ reciprocal_of m) × (k < length list.now) × Masked m k sources.old }
+    requires reciprocal_value { (reciprocal ≡ reciprocal_of m) × (k < length list.now) }
     ensures { Working m list.now (k + 1) numbers.new targets.new homes.new
-        destinations.new × Masked m (k + 1) sources.new }
+        destinations.new }
 {
     let home = block_of(k, m, reciprocal);
     let block = target(list, m, reciprocal, k);
-    let a = lowest_free(sources[home as usize]) as u16;
+    let a = k - home * m;
     let used = destinations[block as usize];
     numbers[k as usize] = a as u8;
     note(targets, a, home, block);
-    flip(sources, home, a);
     if has(used, a) {
         let b = lowest_free(used) as u16;
         note(homes, b, block, home);
@@ -69,7 +67,6 @@ pub fn fill(n: usize, m: usize, list: &[u16], sets: &mut [u8])
     let count = list.len() as u16;
     let mut targets = [0u8; CELLS];
     let mut homes = [0u8; CELLS];
-    let mut sources = [0u64; BLOCKS];
     let mut destinations = [0u64; BLOCKS];
     let mut k = 0u16;
     while k < count {
@@ -81,7 +78,6 @@ pub fn fill(n: usize, m: usize, list: &[u16], sets: &mut [u8])
             sets,
             &mut targets,
             &mut homes,
-            &mut sources,
             &mut destinations,
         );
         k += 1;

@@ -1,7 +1,7 @@
 // The tables of the path, by set and block: of the page that has them, its block at the other end. `targets` is by source block and tells
 // destinations, `homes` is by destination block and tells sources. The blocks of a set lie together, so that a path stays among 128 cells of each.
-// Sets, blocks and the numbers of cells have 16 bits; these last are widened as an index. A note is stored in a byte.
-ghost use Rattle.std.specs.Prelude.{◌≡◌, ◌+◌, ◌≤◌, ◌<◌, length, get_or, set as put};
+// Sets and blocks are given and taken in 16 bits, and widened where a cell is indexed; a note is stored in a byte.
+ghost use Rattle.std.specs.Prelude.{◌≡◌, ◌+◌, ◌<◌, length, get_or, set as put};
 ghost use Rattle.split.specs.inner.Cells.{cell_of, swapped_at};
 
 // The most blocks, and the most sets.
@@ -10,9 +10,6 @@ pub const BLOCKS: usize = 64;
 pub const SETS: usize = 64;
 
 pub const CELLS: usize = SETS * BLOCKS;
-
-// The blocks of a set, in the bits that the path counts in.
-const WIDTH: u16 = 64;
 
 fn from_byte(byte: u8) -> u16
     ensures { (result ≡ byte) × (result < 256) }
@@ -24,14 +21,14 @@ pub fn noted(table: &[u8; CELLS], set: u16, block: u16) -> u16
     requires { (set < 64) × (block < 64) }
     ensures { (result ≡ get_or table.now (cell_of set block) 0) × (result < 256) }
 {
-    from_byte(table[(set * WIDTH + block) as usize])
+    from_byte(table[set as usize * BLOCKS + block as usize])
 }
 
 pub fn note(table: &mut [u8; CELLS], set: u16, block: u16, other: u16)
     requires { (set < 64) × (block < 64) × (other < 256) }
     ensures { table.new ≡ put table.old (cell_of set block) other }
 {
-    table[(set * WIDTH + block) as usize] = other as u8;
+    table[set as usize * BLOCKS + block as usize] = other as u8;
 }
 
 // Exchanges the notes of two sets at a block.
@@ -47,12 +44,10 @@ pub fn exchange(table: &mut [u8; CELLS], block: u16, a: u16, b: u16)
 
 // Exchanges two bytes of the row that begins at `start`.
 pub fn swap(bytes: &mut [u8], start: u16, first: u16, second: u16)
-    requires { (start + first < length bytes.old) × (start + second < length bytes.old) × (length bytes.old ≤ 4096) }
+    requires { (start + first < length bytes.old) × (start + second < length bytes.old) }
     ensures { bytes.new ≡ swapped_at bytes.old (start + first) (start + second) }
 {
-    let one = start + first;
-    let two = start + second;
-    let byte = bytes[one as usize];
-    bytes[one as usize] = bytes[two as usize];
-    bytes[two as usize] = byte;
+    let byte = bytes[start as usize + first as usize];
+    bytes[start as usize + first as usize] = bytes[start as usize + second as usize];
+    bytes[start as usize + second as usize] = byte;
 }

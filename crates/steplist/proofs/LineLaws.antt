@@ -5,7 +5,7 @@ use Rattle.method.specs.Place.{Operation, write, erase, done}
 use Rattle.listing.specs.Lines.{write_line, erase_line}
 use Rattle.places.specs.declared.place.Op.{Op}
 use Rattle.places.specs.declared.place.Op.TheVariants.{Write, Erase, Done}
-use Rattle.places.specs.Place.{op_of}
+use Rattle.places.specs.inner.Place.{op_of}
 use Rattle.steplist.specs.Output.{step_line}
 
 abbrev pub op_line : (place : ℕ) → (work : List ℕ) → Op → List ℕ

@@ -1,9 +1,7 @@
 -- The worked input and its listing, byte by byte; and inputs that are not listed.
 use Rattle.std.specs.Prelude.{◌≡◌, true, false, List, [], ◌∷◌, ℕ}
-use Rattle.listing.specs.Input.{request, input_of, within_limit}
 use Rattle.listing.specs.Lines.{refused_line, unreadable_line}
-use Rattle.listing.specs.Examples.{three_sizes, parted}
-use Rattle.checker.specs.Answer.{said, check_answer}
+use Rattle.listing.specs.Examples.{parted}
 use Rattle.steplist.specs.Output.{output}
 
 -- `3 1 1 0 1 2 0 1 2 4`
@@ -84,9 +82,6 @@ pub record Examples : Type 0 where
   pub large-entry : output false (spaced (1 ∷ 1 ∷ 1 ∷ 0 ∷ 65536 ∷ 7 ∷ [])) ≡ refused_line 3
   pub nine-blocks : output false (spaced (9 ∷ 1 ∷ 1 ∷ 0 ∷ [])) ≡ refused_line 1
   pub by-originals : output true input ≡ listing_by_originals
-  -- `OriginalsPass`: what the input asks for, and that the check says "yes"
-  pub asked : input_of (within_limit input) ≡ request three_sizes (1 ∷ 2 ∷ 0 ∷ []) (1 ∷ 2 ∷ 4 ∷ [])
-  pub passes : check_answer 3 1 (1 ∷ 2 ∷ 0 ∷ []) (output true input) ≡ said true
   -- a list that drops a page is listed with bytes alone
   pub dropped : output true (spaced (1 ∷ 1 ∷ 1 ∷ 0 ∷ 65535 ∷ 7 ∷ [])) ≡ refused_line 3
   pub larger : output true (spaced (1 ∷ 1 ∷ 1 ∷ 0 ∷ 65536 ∷ 7 ∷ [])) ≡ refused_line 3

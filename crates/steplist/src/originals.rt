@@ -4,7 +4,7 @@ ghost use Rattle.flash.specs.Lists.{range, first};
 ghost use Rattle.method.specs.Move.{move_of, AcceptedMove};
 ghost use Rattle.method.specs.Cycle.{coded};
 ghost use Rattle.method.specs.Step.{originals_of};
-ghost use Rattle.places.specs.Place.{pass_of};
+ghost use Rattle.places.specs.inner.Place.{pass_of};
 ghost use Rattle.checker.specs.Method.{ascending};
 ghost use Rattle.steplist.specs.inner.Originals.{originals_as, Within};
 

@@ -18,14 +18,28 @@ pub const MOST_ORIGINALS: usize = 64;
 // A limit that no block of a new module comes to.
 const NO_LIMIT: u32 = 4294967295;
 
+// The calls complete the list that they are lent, so they get a copy of it.
+fn copy_list(target: &mut [u16], source: &[u16])
+    requires { length source.now ≡ length target.old }
+    ensures { target.new ≡ source.now }
+{
+    let mut k = 0;
+    while k < target.len() {
+        target[k] = source[k];
+        k += 1;
+    }
+}
+
 pub fn split_unpinned(sizes: Sizes, list: &[u16], sets: &mut [u8]) -> u32
     requires { (sizes.n ≤ 8) × (sizes.m ≤ 8) × (length list.now ≡ original_count sizes) }
     ensures { record { number = result; sets = sets.new }
         ≡ split_answer (unpinned sizes list.now sets.old) }
 {
     let pins = [0u8; MOST_ORIGINALS];
+    let mut own = [0u16; MOST_ORIGINALS];
     let count = original_count(sizes);
-    split(sizes, list, &pins[..count], sets)
+    copy_list(&mut own[..count], list);
+    split(sizes, &mut own[..count], &pins[..count], sets)
 }
 
 pub fn run_unpinned(
@@ -44,10 +58,12 @@ pub fn run_unpinned(
         work.old unworn place budget counter_end }
 {
     let pins = [0u8; MOST_ORIGINALS];
+    let mut own = [0u16; MOST_ORIGINALS];
     let count = original_count(sizes);
+    copy_list(&mut own[..count], list);
     run(
         sizes,
-        list,
+        &mut own[..count],
         &pins[..count],
         sets,
         store,

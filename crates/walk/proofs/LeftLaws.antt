@@ -8,7 +8,7 @@ use Rattle.flash.specs.Chip.{mark_at, is_full}
 use Rattle.flash.proofs.Blocks.{full_at}
 use Rattle.flash.proofs.Bools.{bool_cases, bool_eq}
 use Rattle.flash.proofs.Bounds.{product_le}
-use Rattle.split.specs.Bits.{is_marked}
+use Rattle.split.specs.inner.Mask.{is_marked}
 use Rattle.method.specs.Move.{Move, Plan, move_of, AcceptedMove}
 use Rattle.method.specs.Read.{Term, stored, filler, full_of, term_at, read_slots, read_terms}
 use Rattle.method.specs.inner.Shape.{Shape}
@@ -20,8 +20,7 @@ use Rattle.method.proofs.walks.Terms.{terms-kept, terms-dropped}
 use Rattle.walk.specs.declared.moment.Moment.{Moment}
 use Rattle.walk.specs.inner.Moments.{Tells, moment_in, HasMoment}
 use Rattle.walk.specs.inner.Slots.{StartsWith}
-use Rattle.walk.specs.Plan.{plan_by}
-use Rattle.walk.specs.inner.Terms.{AddsUp, only_filler, drops_plain, last_left}
+use Rattle.walk.specs.inner.Terms.{plan_by, AddsUp, only_filler, drops_plain, last_left}
 use Rattle.walk.proofs.ForwardLaws.{slots-are}
 use Rattle.walk.proofs.GatherLaws.{count-is}
 use Rattle.walk.proofs.MomentLaws.{tells}

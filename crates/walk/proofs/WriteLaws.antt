@@ -8,7 +8,7 @@ use Rattle.flash.specs.Lists.{concat_map}
 use Rattle.flash.proofs.Bools.{bool_cases}
 use Rattle.flash.proofs.Comparisons.{eq-cases, lt-cases}
 use Rattle.split.specs.Split.{set_of}
-use Rattle.split.specs.Bits.{is_marked}
+use Rattle.split.specs.inner.Mask.{is_marked}
 use Rattle.method.specs.Move.{Move, Plan, move_of, AcceptedMove}
 use Rattle.method.specs.Read.{Term, stored, filler, term_at, read_slots, read_terms}
 use Rattle.method.specs.Cycle.{D, pred, is_top, coded, sent_to}
@@ -26,8 +26,7 @@ use Rattle.walk.specs.declared.terms.Addends.{Addends}
 use Rattle.walk.specs.inner.Moments.{Tells, moment_in}
 use Rattle.walk.specs.inner.Rows.{PagesRow, SourcesRow}
 use Rattle.walk.specs.inner.Slots.{SumsAs, plain_at, forward_by, backward_by}
-use Rattle.walk.specs.Plan.{plan_by}
-use Rattle.walk.specs.inner.Terms.{AddsUp, only_filler, drops_plain, last_left, rest_left, first_out, first_left}
+use Rattle.walk.specs.inner.Terms.{plan_by, AddsUp, only_filler, drops_plain, last_left, rest_left, first_out, first_left}
 use Rattle.walk.proofs.BackwardLaws.{backward-slots}
 use Rattle.walk.proofs.ForwardLaws.{own-slots, slots-are}
 use Rattle.walk.proofs.TermLaws.{Stands, stands-none, stands-stored, stands-filler, stands_same, stands-all, swapped, last-few, adds-up}

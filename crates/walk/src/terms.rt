@@ -4,7 +4,7 @@ ghost use Rattle.std.specs.Prelude.{◌≡◌, ◌≢◌, cond, List, ℕ, ◌+�
 ghost use Rattle.flash.specs.Geometry.{number_at, slot_count};
 ghost use Rattle.flash.specs.inner.Reciprocal.{reciprocal_of};
 ghost use Rattle.split.specs.Split.{set_of};
-ghost use Rattle.split.specs.Bits.{is_marked};
+ghost use Rattle.split.specs.inner.Mask.{is_marked};
 ghost use Rattle.method.specs.Move.{move_of, AcceptedMove};
 ghost use Rattle.method.specs.Cycle.{sent_to};
 ghost use Rattle.method.specs.Place.{forward, backward};
@@ -14,8 +14,7 @@ ghost use Rattle.method.specs.inner.Shape.{Shape};
 ghost use Rattle.walk.specs.inner.Moments.{HasMoment};
 ghost use Rattle.walk.specs.inner.Rows.{PagesIn, BlocksIn, ListIn, PagesRow, SourcesRow};
 ghost use Rattle.walk.specs.inner.Slots.{slots_length};
-ghost use Rattle.walk.specs.Plan.{plan_by};
-ghost use Rattle.walk.specs.inner.Terms.{AddsUp, only_filler, drops_plain, last_left, rest_left, first_out, first_left};
+ghost use Rattle.walk.specs.inner.Terms.{plan_by, AddsUp, only_filler, drops_plain, last_left, rest_left, first_out, first_left};
 
 use crate::moment::Moment;
 use crate::walk::{SLOTS, backward_slots, forward_slots, read_slots};

@@ -157,7 +157,7 @@ module _ (R : Request) (chip₀ : Chip) (S : Start R chip₀) where
   }
 
 -- ---- equal marks
-pub read_answer_lem : (R : Request) (chip : Chip) (work : List ℕ) (k : ℕ) → (read_answer R chip work k).number ≡ 0
+read_answer_lem : (R : Request) (chip : Chip) (work : List ℕ) (k : ℕ) → (read_answer R chip work k).number ≡ 0
     → read_answer R chip work k ≡ read_gives (length (stored_slots (read_terms (plan R) chip.marks k))) (read_page (plan R) chip k)
 unfolding read_answer
 read_answer_lem R chip work k e = ⊎_elim
@@ -173,10 +173,5 @@ by-marks R marks k chip same work e = rw (← same) (read_answer_lem R chip work
 pub demand-3 : Demand3
 demand-3 = record {
   kept = λ R chip₀ S events O. along R chip₀ S (Keeps R chip₀) (keeps R chip₀ S) events (starting chip₀) (started R chip₀ S) O;
-  same-slots = λ X marks k. (
-    read_terms X marks k,
-    λ R e chip same work ok.
-        subst (λ (Y : Plan). read_answer R chip work k ≡ read_gives (length (stored_slots (read_terms Y marks k))) (sum (term_page R.sizes.p chip) (read_terms Y marks k)))
-        e (by-marks R marks k chip same work ok),
-  );
+  same-slots = λ R marks k. (read_terms (plan R) marks k, by-marks R marks k);
 }

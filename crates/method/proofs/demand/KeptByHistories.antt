@@ -4,31 +4,28 @@ use Rattle.flash.proofs.Kit.{eq-eqb}
 use Rattle.flash.specs.Lists.{count}
 use Rattle.flash.specs.Tables.{refusal}
 use Rattle.flash.specs.declared.sizes.Sizes.{Sizes}
-use Rattle.flash.specs.Geometry.{slot_of, original_count, slot_count, store_len, marks_len, work_len}
-use Rattle.flash.specs.PageSum.{sum}
+use Rattle.flash.specs.Geometry.{slot_of, original_count, slot_count, store_len, work_len}
 use Rattle.flash.specs.declared.wear.Wear.{Wear}
 use Rattle.flash.specs.Chip.{Chip, page_at, is_whole}
 use Rattle.flash.proofs.Searches.{count-take}
 use Rattle.split.specs.Drops.{is_dropped}
-use Rattle.split.specs.Split.{is_split}
 use Rattle.split.specs.Request.{Request}
 use Rattle.split.proofs.DropLaws.{completed-kept}
 use Rattle.method.specs.Move.{Plan, plan, AcceptedMove, Lent}
 use Rattle.method.specs.Place.{operations, last_place, filled}
-use Rattle.method.specs.Read.{filler_page, stored_slots, read_slots, read_terms}
-use Rattle.method.specs.State.{is_at_rest, originals_in, counts_as, state_of}
+use Rattle.method.specs.Read.{filler_page, stored_slots, read_slots}
+use Rattle.method.specs.State.{originals_in, counts_as}
 use Rattle.method.specs.Step.{is_erase, erases_block}
 use Rattle.method.specs.Worn.{is_worn_out}
-use Rattle.method.specs.Answers.{run_rows, read_rows, run_carried_out, steps_taken, MendAnswer, mend_answer, read_gives, read_answer, run_answer}
+use Rattle.method.specs.Answers.{read_rows, run_carried_out, steps_taken, MendAnswer, mend_answer, read_gives, read_answer, run_answer}
 use Rattle.method.specs.Runs.{Start}
 use Rattle.method.specs.Events.{History}
-use Rattle.method.specs.Demand3.{SameMove, slots_read, Stays, Keeps}
+use Rattle.method.specs.Demand3.{Stays, Keeps}
 use Rattle.method.proofs.basics.MoveShape.{Holding, counted, counts-kept, counts-dropped, holding-shows}
 use Rattle.method.proofs.basics.AcceptedCalls.{StandsAt, RunTaken, run-taken, taken-run}
 use Rattle.method.proofs.places.StepsAtPlaces.{filled-early}
 use Rattle.method.proofs.places.PlaceShape.{letter_above, which-pass}
 use Rattle.method.proofs.walks.Terms.{terms-kept, terms-dropped, stored-few, stored-each, sum-terms, page-dropped, page-kept, added-once}
-use Rattle.method.proofs.walks.StoredPages.{Reads}
 use Rattle.method.proofs.walks.ReadsOriginals.{reads}
 use Rattle.method.proofs.states.StatesOfPlaces.{is_state}
 use Rattle.method.proofs.states.RunsAddUp.{run-answer, start-accepted, start_fits, start-full, start-page}
@@ -92,28 +89,27 @@ module _ (R : Request) (chip₀ : Chip) (S : Start R chip₀) where
     taken : (work : List ℕ) → length work ≡ work_len W → (k : ℕ) → k < original_count W → refusal (read_rows R chip work k) ≡ 0
     taken work l = read_taken R A (start_fits R chip₀ S) chip work (lent work l) K.place K.moment
 
-    read_of : (k : ℕ) → k < original_count W → Reads X.move chip.marks W.n (read_slots X.move chip.marks k) k
-    read_of k k-in =
-        let T = moment-shape W chip.marks K.place K.moment in
-        reads X.move A chip.marks T.low T.high k k-in (letter_above T.pass) (which-pass T.pass) T.shape
-
-    sum_is : (k : ℕ) → k < original_count W → is_dropped R.list k ≡ false
-        → sum (counted X chip) (read_slots X.move chip.marks k) ≡ page_at W.p chip₀ (slot_of W.m k)
-    sum_is k k-in kept =
-        (read_of k k-in).original (counts_as X originals) (counted X chip) (holding-shows X originals chip (start-full R chip₀ S) K.holds)
-        ∙ counts-kept X originals k kept ∙ start-page R chip₀ S k
-
-    -- ---- what this request is answered
-    pub own_read : (k : ℕ) → k < original_count W → is_dropped R.list k ≡ false → (work : List ℕ) → length work ≡ work_len W
-        → read_answer R chip work k ≡ read_gives (length (slots_read R chip k)) (page_at W.p chip₀ (slot_of W.m k))
+    stays : (k : ℕ) → k < original_count W → is_dropped R.list k ≡ false → Stays R chip k (page_at W.p chip₀ (slot_of W.m k))
     unfolding read_answer
-    own_read k k-in kept work l =
-        rw (taken work l k k-in, page-seen X chip k, terms-seen X chip.marks k, page-kept X chip k kept, sum_is k k-in kept)
+    stays k k-in kept =
+        let T = moment-shape W chip.marks K.place K.moment in
+        let D = reads X.move A chip.marks T.low T.high k k-in (letter_above T.pass) (which-pass T.pass) T.shape in
+        let slots = read_slots X.move chip.marks k in
+        let shows = holding-shows X originals chip (start-full R chip₀ S) K.holds in
+        let page = D.original (counts_as X originals) (counted X chip) shows ∙ counts-kept X originals k kept ∙ start-page R chip₀ S k in
+        let total = sum-terms X chip slots ∙ page in
+        record {
+          few = rw (terms-kept X chip.marks k kept) (omega (arith, stored-few X chip.marks slots, D.few));
+          stored = rw (terms-kept X chip.marks k kept) (stored-each X chip.marks (λ t. t < slot_count W) slots (λ i l. (D.sited i l).inside));
+          whole = rw (terms-kept X chip.marks k kept) (stored-each X chip.marks (λ t. is_whole chip.marks t ≡ true) slots (λ i l. (D.sited i l).whole));
+          total = rw (terms-kept X chip.marks k kept) (⊎_elim (λ e. inl (e ∙ total)) (λ e. inr (e ∙ total)) (added-once X chip slots D.coded-first));
+          read-gives = λ work l. rw (taken work l k k-in, page-seen X chip k, terms-seen X chip.marks k, page-kept X chip k kept, page);
+        }
 
-    pub own-dropped : (k : ℕ) → k < original_count W → is_dropped R.list k ≡ true → (work : List ℕ) → length work ≡ work_len W
+    dropped : (k : ℕ) → k < original_count W → is_dropped R.list k ≡ true → (work : List ℕ) → length work ≡ work_len W
         → read_answer R chip work k ≡ read_gives 0 (filler_page W.p)
     unfolding read_answer stored_slots
-    own-dropped k k-in gone work l =
+    dropped k k-in gone work l =
         rw (taken work l k k-in, page-seen X chip k, terms-seen X chip.marks k, page-dropped X chip k gone, terms-dropped X chip.marks k gone)
 
     few-erases : count is_erase h.begun ≤ 2 * W.n + h.mends
@@ -138,10 +134,10 @@ module _ (R : Request) (chip₀ : Chip) (S : Start R chip₀) where
       C : Recovered W chip K.place answer
       C = recovers W A.ranges chip K.store_length K.place K.moment worn
 
-      pub own-goes-on : (work : List ℕ) → length work ≡ work_len W → (wear : Wear) (limit : ℕ) → is_worn_out W.n wear answer.place limit ≡ false
+      goes_on : (work : List ℕ) → length work ≡ work_len W → (wear : Wear) (limit : ℕ) → is_worn_out W.n wear answer.place limit ≡ false
           → (budget : ℕ) → last_place W ≤ budget → (run_answer R answer.chip work wear answer.place budget limit).finished ≡ 1
       unfolding run_carried_out steps_taken
-      own-goes-on work l wear limit lasts budget enough =
+      goes_on work l wear limit lasts budget enough =
           let T : RunTaken R answer.chip work wear K.place limit = record {
             accepted = A;
             lent = record { store_length = C.store_length; marks-length = C.marks-length; work-length = l };
@@ -152,83 +148,17 @@ module _ (R : Request) (chip₀ : Chip) (S : Start R chip₀) where
           let to_end : K.place + min budget (last_place W - K.place) ≡ last_place W = omega (arith, K.moment.in-move) in
           rw (C.place_is, run-answer R answer.chip work wear K.place budget limit (taken-run R _ _ _ _ limit T), to_end, eq-eqb (last_place W) (last_place W) refl)
 
--- ---- every request for the move is answered alike
-module _ (R : Request) (chip₀ : Chip) (S : Start R chip₀) (h : History) (K : Kept (plan R) (originals_in R.sizes chip₀) h) where
-  module _ (N : Request) (J : SameMove R N) where
-    back : plan R ≡ plan N
-    back = sym J.planned
-
-    starts : Start N chip₀
-    starts = record {
-      store_length = subst (λ (Y : Plan). length chip₀.store ≡ store_len Y.move.sizes) back S.store_length;
-      marks-length = subst (λ (Y : Plan). length chip₀.marks ≡ marks_len Y.move.sizes) back S.marks-length;
-      at_rest = subst (λ (Y : Plan). is_at_rest Y.move.sizes chip₀ ≡ true) back S.at_rest;
-      list-accepted = J.taken;
-      split-correct = subst (λ (Y : Plan). is_split Y.move.sizes.n Y.move.sizes.m Y.move.list Y.move.sets ≡ true) back S.split-correct;
+    pub keeps : Keeps R chip₀ h
+    keeps = record {
+      stays = stays;
+      dropped = dropped;
+      erases = few-erases;
+      block-erases = block-erases;
+      final = λ e k k-in kept.
+          ap (λ (to : ℕ). page_at W.p chip (slot_of W.m to)) (sym (completed-kept R.list k kept)) ∙ final e k k-in
+          ∙ counts-kept X originals k kept ∙ start-page R chip₀ S k;
+      final-dropped = λ e k k-in gone. final e k k-in ∙ counts-dropped X originals k gone;
+      placed = λ work wear place limit e. (let T = run-taken R chip work wear place limit e in is_state X A originals chip place T.stands K.store_length K.holds);
+      recovers = λ worn. (C worn).number_is;
+      goes_on = goes_on;
     }
-
-    kept : Kept (plan N) (originals_in N.sizes chip₀) h
-    kept = subst (λ (Y : Plan). Kept Y (originals_in Y.move.sizes chip₀) h) back K
-
-    read-gives : (k : ℕ) → k < original_count R.sizes → is_dropped R.list k ≡ false → (work : List ℕ) → length work ≡ work_len R.sizes
-        → read_answer N h.chip work k ≡ read_gives (length (slots_read R h.chip k)) (page_at R.sizes.p chip₀ (slot_of R.sizes.m k))
-    read-gives k =
-        subst (λ (Y : Plan). k < original_count Y.move.sizes → Y.is_dropped k ≡ false → (work : List ℕ) → length work ≡ work_len Y.move.sizes
-        → read_answer N h.chip work k ≡ read_gives (length (stored_slots (read_terms Y h.chip.marks k))) (page_at Y.move.sizes.p chip₀ (slot_of Y.move.sizes.m k)))
-        J.planned (own_read N chip₀ starts h kept k)
-
-    dropped : (k : ℕ) → k < original_count R.sizes → is_dropped R.list k ≡ true → (work : List ℕ) → length work ≡ work_len R.sizes
-        → read_answer N h.chip work k ≡ read_gives 0 (filler_page R.sizes.p)
-    dropped k =
-        subst (λ (Y : Plan). k < original_count Y.move.sizes → Y.is_dropped k ≡ true → (work : List ℕ) → length work ≡ work_len Y.move.sizes
-        → read_answer N h.chip work k ≡ read_gives 0 (filler_page Y.move.sizes.p))
-        J.planned (own-dropped N chip₀ starts h kept k)
-
-    goes_on : (worn : Wear) → (let mended = mend_answer R.sizes h.chip worn in
-        (work : List ℕ) → length work ≡ work_len R.sizes → (wear : Wear) (limit : ℕ) → is_worn_out R.sizes.n wear mended.place limit ≡ false
-        → (budget : ℕ) → last_place R.sizes ≤ budget → (run_answer N mended.chip work wear mended.place budget limit).finished ≡ 1)
-    goes_on worn =
-        subst (λ (Y : Plan). (let mended = mend_answer Y.move.sizes h.chip worn in
-        (work : List ℕ) → length work ≡ work_len Y.move.sizes → (wear : Wear) (limit : ℕ) → is_worn_out Y.move.sizes.n wear mended.place limit ≡ false
-        → (budget : ℕ) → last_place Y.move.sizes ≤ budget → (run_answer N mended.chip work wear mended.place budget limit).finished ≡ 1))
-        J.planned (own-goes-on N chip₀ starts h kept worn)
-
-  abbrev X₀ : Plan
-  X₀ = plan R
-
-  abbrev at : Chip
-  at = h.chip
-
-  placed : (N : Request) → plan N ≡ plan R → (work : List ℕ) (wear : Wear) (place limit : ℕ) → refusal (run_rows N at work wear place limit) ≡ 0
-      → at ≡ state_of X₀ (originals_in R.sizes chip₀) place
-  placed N same work wear place limit e =
-      let stands = subst (λ (Y : Plan). StandsAt Y.move.sizes at place) same (run-taken N at work wear place limit e).stands in
-      is_state X₀ (start-accepted R chip₀ S) (originals_in R.sizes chip₀) at place stands K.store_length K.holds
-
-  stays : (k : ℕ) → k < original_count R.sizes → is_dropped R.list k ≡ false → Stays R at k (page_at R.sizes.p chip₀ (slot_of R.sizes.m k))
-  stays k k-in kept =
-      let D = read_of R chip₀ S h K k k-in in
-      let slots = read_slots X₀.move at.marks k in
-      let total = sum-terms X₀ at slots ∙ sum_is R chip₀ S h K k k-in kept in
-      record {
-        few = rw (terms-kept X₀ at.marks k kept) (omega (arith, stored-few X₀ at.marks slots, D.few));
-        stored = rw (terms-kept X₀ at.marks k kept) (stored-each X₀ at.marks (λ t. t < slot_count R.sizes) slots (λ i l. (D.sited i l).inside));
-        whole = rw (terms-kept X₀ at.marks k kept) (stored-each X₀ at.marks (λ t. is_whole at.marks t ≡ true) slots (λ i l. (D.sited i l).whole));
-        total = rw (terms-kept X₀ at.marks k kept) (⊎_elim (λ e. inl (e ∙ total)) (λ e. inr (e ∙ total)) (added-once X₀ at slots D.coded-first));
-        read-gives = λ N J. read-gives N J k k-in kept;
-      }
-
-  pub keeps : Keeps R chip₀ h
-  keeps = record {
-    stays = stays;
-    dropped = λ k k-in gone N J. dropped N J k k-in gone;
-    erases = few-erases R chip₀ S h K;
-    block-erases = block-erases R chip₀ S h K;
-    final = λ e k k-in kept.
-        ap (λ (to : ℕ). page_at R.sizes.p at (slot_of R.sizes.m to)) (sym (completed-kept R.list k kept)) ∙ final R chip₀ S h K e k k-in
-        ∙ counts-kept X₀ (originals_in R.sizes chip₀) k kept ∙ start-page R chip₀ S k;
-    final-dropped = λ e k k-in gone. final R chip₀ S h K e k k-in ∙ counts-dropped X₀ (originals_in R.sizes chip₀) k gone;
-    placed = placed;
-    recovers = λ worn. (C R chip₀ S h K worn).number_is;
-    goes_on = λ worn N J. goes_on N J worn;
-  }

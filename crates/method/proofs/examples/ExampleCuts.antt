@@ -8,15 +8,15 @@ use Rattle.flash.proofs.Bools.{both, or_cases}
 use Rattle.flash.proofs.Ranges.{all_in}
 use Rattle.flash.proofs.Same.{same-eq}
 use Rattle.method.specs.Place.{Operation, write, erase, done}
-use Rattle.method.specs.Cut.{is_torn_mark, touches, Kept, Touched, CutLeaves}
+use Rattle.method.specs.Cut.{is_torn_mark, touches, Kept, Touched, CutInside}
 
-module _ (is_torn : ℕ → Bool) (Z : Sizes) (before after : Chip) (t : ℕ) where
+module _ (Z : Sizes) (before after : Chip) (t : ℕ) where
   unfoldable pub is_kept : Bool
   is_kept = eqb (mark_at after.marks t) (mark_at before.marks t) && is_same (page_at Z.p after t) (page_at Z.p before t)
 
   unfoldable pub is_touched : Operation → Bool
-  is_touched (write pass block page) = is_torn (mark_at after.marks t)
-  is_touched (erase block) = is_torn (mark_at after.marks t) || is_kept
+  is_touched (write pass block page) = is_torn_mark (mark_at after.marks t)
+  is_touched (erase block) = is_torn_mark (mark_at after.marks t) || is_kept
   is_touched done = is_kept
 
   kept : is_kept ≡ true → Kept Z before after t
@@ -25,26 +25,26 @@ module _ (is_torn : ℕ → Bool) (Z : Sizes) (before after : Chip) (t : ℕ) wh
       let same = both (eqb (mark_at after.marks t) (mark_at before.marks t)) _ e in
       record { mark = eqb-true _ _ same.0; page = same-eq _ _ same.1 }
 
-  touched : (op : Operation) → is_touched op ≡ true → Touched is_torn Z op before after t
+  touched : (op : Operation) → is_touched op ≡ true → Touched is_torn_mark Z op before after t
   unfolding is_touched
   touched (write pass block page) e = record { mark = e }
   touched (erase block) e = ⊎_elim (λ torn. inr (record { mark = torn })) (λ same. inl (kept same)) (or_cases _ _ e)
   touched done e = kept e
 
-module _ (is_torn : ℕ → Bool) (Z : Sizes) (op : Operation) (before after : Chip) where
+module _ (Z : Sizes) (op : Operation) (before after : Chip) where
   unfoldable pub may_leave : (t : ℕ) → Bool
-  may_leave t = cond (touches Z op t) (is_touched is_torn Z before after t op) (is_kept is_torn Z before after t)
+  may_leave t = cond (touches Z op t) (is_touched Z before after t op) (is_kept Z before after t)
 
   pub cut-by-slots : length after.store ≡ store_len Z → length after.marks ≡ marks_len Z → all may_leave (range 0 (slot_count Z)) ≡ true
-      → CutLeaves is_torn Z op before after
+      → CutInside Z op before after
   unfolding may_leave
   cut-by-slots s m slots =
       let each = all_in may_leave 0 (slot_count Z) slots in
       record {
         store_length = s;
         marks-length = m;
-        inside = λ t h e. touched is_torn Z before after t op (rw e at (each t (omega arith) (omega arith)));
-        outside = λ t h e. kept is_torn Z before after t (rw e at (each t (omega arith) (omega arith)));
+        inside = λ t h e. touched Z before after t op (rw e at (each t (omega arith) (omega arith)));
+        outside = λ t h e. kept Z before after t (rw e at (each t (omega arith) (omega arith)));
       }
 
 unfoldable pub cuts-open : Unit {0}

@@ -43,7 +43,7 @@ listed : ◌≡◌ {A = SplitAnswer}
 unfolding all-open
 listed = refl
 
-largest-split : split_answer (unpinned (sizes 64 1) entries (junk 64)) ≡ record { number = 0; sets = replicate 64 0 }
+pub largest-split : split_answer (unpinned (sizes 64 1) entries (junk 64)) ≡ record { number = 0; sets = replicate 64 0 }
 unfolding split_answer
 largest-split = rw (undropped-completed entries undropped) listed
 
@@ -91,7 +91,7 @@ no_steps : run_carried_out (plan asked) (resting 64) (junk 1) unworn 0 (steps_ta
 unfolding all-open
 no_steps = refl
 
-largest-run : runs asked (resting 64) (junk 1) 0 0 ≡ ran 0 (counts 0 0 0 0 0) 0 (resting 64) (junk 1) []
+pub largest-run : runs asked (resting 64) (junk 1) 0 0 ≡ ran 0 (counts 0 0 0 0 0) 0 (resting 64) (junk 1) []
 largest-run = run-answer asked (resting 64) (junk 1) unworn 0 0 counter_end run-taken ∙ no_steps
 
 -- ---- read
@@ -110,15 +110,6 @@ one-page : read_gives (length (stored_slots (read_terms (plan asked) view.marks 
 unfolding all-open
 one-page = refl
 
-largest-read : read_answer asked (resting 64) (junk 1) 63 ≡ record { number = 0; count = 1; bytes = 1; work = 64 ∷ [] }
+pub largest-read : read_answer asked (resting 64) (junk 1) 63 ≡ record { number = 0; count = 1; bytes = 1; work = 64 ∷ [] }
 unfolding read_answer
 largest-read = rw read_taken one-page
-
--- what the proof of the cases leans on
-pub record Largest : Type 0 where
-  pub split : split_answer (unpinned (sizes 64 1) entries (junk 64)) ≡ record { number = 0; sets = replicate 64 0 }
-  pub run : runs asked (resting 64) (junk 1) 0 0 ≡ ran 0 (counts 0 0 0 0 0) 0 (resting 64) (junk 1) []
-  pub read : read_answer asked (resting 64) (junk 1) 63 ≡ record { number = 0; count = 1; bytes = 1; work = 64 ∷ [] }
-
-pub largest : Largest
-largest = record { split = largest-split; run = largest-run; read = largest-read }

@@ -1,30 +1,26 @@
 -- The worked cases of the reach of one page hold: each by computing the definitions.
-use Rattle.flash.proofs.Kit.{[], ◌∷◌, refl, lit<}
+use Rattle.flash.proofs.Kit.{refl, lit<}
 use Rattle.flash.specs.Lists.{total}
-use Rattle.method.specs.Reach.{lies, is_reached, reached, slots_apart, Changed, runs_of}
-use Rattle.method.specs.Cases.{three, three_at_rest}
-use Rattle.method.specs.ReachCases.{changed_to, ReachCasesHold}
+use Rattle.method.specs.Reach.{lies, is_reached, reached, slots_apart, runs_of}
+use Rattle.method.specs.ReachCases.{ReachCasesHold}
 use Rattle.method.proofs.basics.Open.{all-open}
 
 unfoldable pub reach-open : Unit {0}
 unfolding all-open lies is_reached reached slots_apart runs_of total
 reach-open = tt
 
-pub reach-changed : Changed three three_at_rest (changed_to (1 ∷ 2 ∷ 6 ∷ [])) 2
-unfolding reach-open
-reach-changed = record {
-  one-starts = record { store_length = refl; marks-length = refl; at_rest = refl; list-accepted = refl; split-correct = refl };
-  other-starts = record { store_length = refl; marks-length = refl; at_rest = refl; list-accepted = refl; split-correct = refl };
-  inside = lit< {m = 2} {n = 3} tt;
-  kept = refl;
-  single = refl;
-}
-
 pub reach-cases-hold : ReachCasesHold
 unfolding reach-open
 reach-cases-hold = record {
+  changed = record {
+    one-starts = record { store_length = refl; marks-length = refl; at_rest = refl; list-accepted = refl; split-correct = refl };
+    other-starts = record { store_length = refl; marks-length = refl; at_rest = refl; list-accepted = refl; split-correct = refl };
+    inside = lit< {m = 2} {n = 3} tt;
+    kept = refl;
+    single = refl;
+  };
+  lasting = record { work-length = refl; lasts = refl };
   from-the-top = refl;
-  most = refl;
   between = refl;
   to-the-top = refl;
   told = refl;

@@ -17,7 +17,7 @@ use Rattle.method.specs.State.{originals_in, state_of}
 use Rattle.method.specs.Mend.{Reading, seen, reading}
 use Rattle.method.specs.Answers.{bad_chip, marks_answer, fits_none, mend_rows, mended, mend_answer}
 use Rattle.method.specs.Rebuild.{rebuilt_from, rebuilt_flag, rebuild_answer, RebuildAnswer, whole_move}
-use Rattle.method.specs.Unreadable.{flag_of, of_any, Unseen, SumOf}
+use Rattle.method.specs.Unreadable.{flag_of, Unseen, SumOf}
 use Rattle.method.proofs.rebuild.Lists.{has}
 use Rattle.method.proofs.rebuild.UsedSums.{own-sum, other-sum}
 use Rattle.method.proofs.rebuild.Taken.{RebuildTaken, FromCases, by-own, by-other, lost-torn, lost-full, from-cases, flag_is}
@@ -53,17 +53,17 @@ module _ (R : Request) (chip : Chip) (area flags : List ℕ) (bad : ℕ) (T : Re
       rw (ok, T.told) (mended-place Z chip wear T.found)
 
   -- ---- a sum of pages that are the same in both stores gives no original in which they differ
-  module _ (k : ℕ) (k-in : k < original_count Z) (U : Unseen of_any R chip.marks place bad k) where
-    told-apart : (slots : List ℕ) → SumOf R place of_any chip.marks bad k slots → ⊥
+  module _ (k : ℕ) (k-in : k < original_count Z) (U : Unseen R chip.marks place bad k) where
+    told-apart : (slots : List ℕ) → SumOf R place chip.marks bad k slots → ⊥
     told-apart slots X =
         U.differ
-        (sym (X.gives U.one U.one-starts refl)
+        (sym (X.gives U.one U.one-starts)
         ∙ sum_same (page_at P (state_of (plan R) (originals_in Z U.one) place)) (page_at P (state_of (plan R) (originals_in Z U.other) place)) slots
         (λ i l.
         let t : ℕ = get_or slots i 0 in
         let h : has t slots ≡ true = any_of (eqb t) slots i 0 l (eq-eqb t t refl) in
         U.same t (X.inside t h) (λ e. never_both (subst (λ (u : ℕ). has u slots ≡ true) e h) X.left_out) (X.full t h))
-        ∙ X.gives U.other U.other-starts refl)
+        ∙ X.gives U.other U.other-starts)
 
     flag-zero : FromCases M T.accepted chip.marks T.found T.told bad k k-in → rebuilt_flag (rebuilt_from M (seen chip.marks) T.found bad k) ≡ 0
     unfolding rebuilt_flag
@@ -72,7 +72,7 @@ module _ (R : Request) (chip : Chip) (area flags : List ℕ) (bad : ℕ) (T : Re
     flag-zero (lost-torn q b t f) = rw f
     flag-zero (lost-full q J z f) = rw f
 
-  pub seen-lost : (k : ℕ) → k < original_count Z → Unseen of_any R chip.marks place bad k → flag_of (rebuild_answer R chip area flags bad) k ≡ 0
+  pub seen-lost : (k : ℕ) → k < original_count Z → Unseen R chip.marks place bad k → flag_of (rebuild_answer R chip area flags bad) k ≡ 0
   seen-lost k k-in U =
       ap (λ (a : RebuildAnswer). flag_of a k) T.answer ∙ flag_is M chip T.found bad k k-in
       ∙ flag-zero k k-in U (from-cases M T.accepted chip.marks T.found T.told bad k k-in)

@@ -18,7 +18,7 @@ use Rattle.method.specs.Step.{originals_of}
 use Rattle.method.specs.Mend.{seen}
 use Rattle.method.specs.Runs.{Start}
 use Rattle.method.specs.Rebuild.{set_page, zero_slots, rebuilt_from, rebuilt_flag, RebuildAnswer, whole_move}
-use Rattle.method.specs.Unreadable.{flag_of, of_bytes, of_any, Unseen, LostExactly}
+use Rattle.method.specs.Unreadable.{flag_of, Unseen, LostExactly}
 use Rattle.method.specs.inner.Shape.{Shape}
 use Rattle.method.proofs.basics.EachNumber.{Each}
 use Rattle.method.proofs.basics.Indexes.{clash}
@@ -33,7 +33,7 @@ use Rattle.method.proofs.rebuild.OtherSum.{has-each, zero_of, rest-inside}
 use Rattle.method.proofs.rebuild.SameShape.{slots_same}
 use Rattle.method.proofs.rebuild.Taken.{RebuildTaken, rebuild-taken, FromCases, by-own, by-other, lost-torn, lost-full, from-cases, flag_is}
 use Rattle.method.proofs.rebuild.Units.{bit_page, bit-add}
-use Rattle.method.proofs.rebuild.UnitStores.{in_blocks, ButOne, but-torn, but_last, unit_value, unit_store, unit-starts, unit-bytes, value_in, is-value, unit_pages, unit-shows, unit_size, zeros-at}
+use Rattle.method.proofs.rebuild.UnitStores.{in_blocks, ButOne, but-torn, but_last, unit_value, unit_store, unit-starts, value_in, is-value, unit_pages, unit-shows, unit_size, zeros-at}
 use Rattle.method.proofs.rebuild.ZeroSum.{L, last_slot, last_originals, rest, rest-bytes}
 use Rattle.method.proofs.rebuild.Lost.{mend-place, seen-lost}
 
@@ -94,14 +94,12 @@ module _ (R : Request) (chip : Chip) (area flags : List ℕ) (bad : ℕ) (T : Re
         bit-apart P A.ranges.p-low (sym (first-page nowhere) ∙ e ∙ first-page here ∙ ap (bit_page P) bit)
 
     unseen-by : ((t : ℕ) → t < slot_count Z → t ≢ bad → is_unfinished m chip.marks (t / m) ≡ false → t / m ≡ O.low → page nowhere t ≡ page here t)
-        → Unseen of_bytes R chip.marks place bad k
+        → Unseen R chip.marks place bad k
     unseen-by special = record {
       one = store nowhere;
       other = store here;
       one-starts = starts nowhere;
       other-starts = starts here;
-      one-such = unit-bytes R chip area flags bad T O bad nowhere;
-      other-such = unit-bytes R chip area flags bad T O bad here;
       differ = differs;
       same = λ t h ne finished. ⊎_elim
           (λ (e : t / m ≡ O.low). special t h ne finished e)
@@ -119,7 +117,7 @@ module _ (R : Request) (chip : Chip) (area flags : List ℕ) (bad : ℕ) (T : Re
       subst (λ (y : ℕ). is_full m chip.marks b y ≡ false) is (S.between b (omega arith) (omega arith) (x + 3 - Z.s)) in
       rw (no 0 (omega arith), no 1 (omega arith), no 2 (omega arith))
 
-  torn-unseen : (block : ℕ) → T.found.to_erase ≡ some block → has bad (read_slots M chip.marks k) ≡ true → Unseen of_bytes R chip.marks place bad k
+  torn-unseen : (block : ℕ) → T.found.to_erase ≡ some block → has bad (read_slots M chip.marks k) ≡ true → Unseen R chip.marks place bad k
   torn-unseen block t q =
       let B = block-torn Z A.ranges chip.marks T.found T.told block t in
       let same = slots_same M A block (suc block) (letter_above B.pass) chip.marks (marks_of Z place) B.shape B.begun.shape k k-in in
@@ -189,7 +187,7 @@ module _ (R : Request) (chip : Chip) (area flags : List ℕ) (bad : ℕ) (T : Re
           (bool_cases (test Q.set))
 
     full-unseen : has bad (read_slots M chip.marks k) ≡ true → ((set : ℕ) (set-ok : set < m) → set ≡ set_of M.sets k → (bad ≢ last_slot M A (marks_of Z place) place J' set set-ok) × (has bad (rest M A (marks_of Z place) place J' set set-ok) ≡ false))
-        → Unseen of_bytes R chip.marks place bad k
+        → Unseen R chip.marks place bad k
     full-unseen q out =
         let set-ok = set-in M A k k-in in
         let own : has bad (read_slots M O.begun k) ≡ true = ⊎_elim
@@ -201,7 +199,7 @@ module _ (R : Request) (chip : Chip) (area flags : List ℕ) (bad : ℕ) (T : Re
         last-zeros (λ q. false) (λ set ok x. absurd (never_both x refl)) t h e
         ∙ sym (last-zeros (λ q. eqb q (set_of M.sets k)) (λ set ok x. (out set ok (eqb-true set (set_of M.sets k) x)).1) t h e))
 
-  lost-unseen : FromCases M A chip.marks T.found T.told bad k k-in → rebuilt_flag (rebuilt_from M (seen chip.marks) T.found bad k) ≡ 0 → Unseen of_bytes R chip.marks place bad k
+  lost-unseen : FromCases M A chip.marks T.found T.told bad k k-in → rebuilt_flag (rebuilt_from M (seen chip.marks) T.found bad k) ≡ 0 → Unseen R chip.marks place bad k
   unfolding rebuilt_flag
   lost-unseen (by-own q f) e = absurd (clash (sym (rw f at e)))
   lost-unseen (by-other q J z f) e = absurd (clash (sym (rw f at e)))
@@ -219,10 +217,10 @@ pub lost-exactly : LostExactly
 lost-exactly = record {
   unseen = λ R chip area flags bad e wear k k-in f.
       let T = rebuild-taken R chip area flags bad e in
-      subst (λ (p : ℕ). Unseen of_bytes R chip.marks p bad k) (sym (mend-place R chip area flags bad T wear))
+      subst (λ (p : ℕ). Unseen R chip.marks p bad k) (sym (mend-place R chip area flags bad T wear))
       (lost-unseen R chip area flags bad T k k-in (from-cases (whole_move R) T.accepted chip.marks T.found T.told bad k k-in)
       (sym (ap (λ (a : RebuildAnswer). flag_of a k) T.answer ∙ flag_is (whole_move R) chip T.found bad k k-in) ∙ f));
   lost = λ R chip area flags bad e wear k k-in U.
       let T = rebuild-taken R chip area flags bad e in
-      seen-lost R chip area flags bad T k k-in (subst (λ (p : ℕ). Unseen of_any R chip.marks p bad k) (mend-place R chip area flags bad T wear) U);
+      seen-lost R chip area flags bad T k k-in (subst (λ (p : ℕ). Unseen R chip.marks p bad k) (mend-place R chip area flags bad T wear) U);
 }

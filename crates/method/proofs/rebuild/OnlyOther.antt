@@ -1,5 +1,5 @@
 -- By which sum each original is rebuilt, and what a slot loses.
-use Rattle.flash.proofs.Kit.{◌≡◌, sym, ap, ◌∙◌, subst, ◌⊎◌, inl, inr, ⊎_elim, true, some, List, ℕ, ◌/◌, ◌<◌, arith}
+use Rattle.flash.proofs.Kit.{◌≡◌, sym, ap, ◌∙◌, subst, true, some, List, ℕ, ◌/◌, ◌<◌, arith}
 use Rattle.flash.specs.Lists.{part}
 use Rattle.flash.specs.declared.sizes.Sizes.{Sizes}
 use Rattle.flash.specs.Geometry.{original_count, letter}
@@ -9,10 +9,10 @@ use Rattle.split.specs.Split.{set_of}
 use Rattle.split.specs.Request.{Request}
 use Rattle.method.specs.Move.{Move, AcceptedMove}
 use Rattle.method.specs.Place.{filling}
-use Rattle.method.specs.Read.{read_slots, filler_page}
+use Rattle.method.specs.Read.{read_slots}
 use Rattle.method.specs.Mend.{seen}
 use Rattle.method.specs.Rebuild.{apart, rebuilt_from, rebuilt_page, rebuilt_flag, rebuilt, rebuild_answer, RebuildAnswer, whole_move}
-use Rattle.method.specs.Unreadable.{flag_of, is_of_set, RebuiltBy, OnlyOther, LostWritten, LostFew}
+use Rattle.method.specs.Unreadable.{flag_of, is_of_set, RebuiltBy, OnlyOther, LostFew}
 use Rattle.method.proofs.basics.Indexes.{clash}
 use Rattle.method.proofs.cycles.SetCycles.{set-in}
 use Rattle.method.proofs.recovery.MarksSeen.{slots-seen}
@@ -84,20 +84,6 @@ module _ (R : Request) (chip : Chip) (area flags : List ℕ) (bad : ℕ) (T : Re
   lost-of-set (lost-torn q b t f) e = read-of-set R chip area flags bad T k k-in bad q
   lost-of-set (lost-full q J z f) e = read-of-set R chip area flags bad T k k-in bad q
 
-  flag-either : Cases → (rebuilt_flag (rebuilt_from M (seen chip.marks) T.found bad k) ≡ 0) ⊎ (rebuilt_flag (rebuilt_from M (seen chip.marks) T.found bad k) ≡ 1)
-  unfolding rebuilt_flag
-  flag-either (by-own q f) = inr (rw f)
-  flag-either (by-other q J z f) = inr (rw f)
-  flag-either (lost-torn q b t f) = inl (rw f)
-  flag-either (lost-full q J z f) = inl (rw f)
-
-  lost-page : Cases → rebuilt_flag (rebuilt_from M (seen chip.marks) T.found bad k) ≡ 0 → rebuilt_page P chip (rebuilt_from M (seen chip.marks) T.found bad k) ≡ filler_page P
-  unfolding rebuilt_flag rebuilt_page
-  lost-page (by-own q f) e = absurd (clash (sym (rw f at e)))
-  lost-page (by-other q J z f) e = absurd (clash (sym (rw f at e)))
-  lost-page (lost-torn q b t f) e = rw f
-  lost-page (lost-full q J z f) e = rw f
-
   module _ (filled : filling Z place ≡ bad / m) where
     -- read sums no page of a block that is torn
     torn-apart : has bad (read_slots M chip.marks k) ≡ true → (b : ℕ) → T.found.to_erase ≡ some b → ⊥
@@ -127,18 +113,6 @@ only-other R chip area flags bad e wear k k-in f =
     let T = rebuild-taken R chip area flags bad e in
     subst (λ (p : ℕ). RebuiltBy R chip area flags p bad k) (sym (mend-place R chip area flags bad T wear))
     (rebuilt-by R chip area flags bad T k k-in (cases R chip area flags bad T k k-in) (sym (flag R chip area flags bad T k k-in) ∙ f))
-
-pub lost-written : LostWritten
-lost-written = record {
-  flags = λ R chip area flags bad e k k-in.
-      let T = rebuild-taken R chip area flags bad e in
-      let is = flag R chip area flags bad T k k-in in
-      ⊎_elim (λ z. inl (is ∙ z)) (λ o. inr (is ∙ o)) (flag-either R chip area flags bad T k k-in (cases R chip area flags bad T k k-in));
-  page = λ R chip area flags bad e k k-in f.
-      let T = rebuild-taken R chip area flags bad e in
-      page R chip area flags bad T k k-in
-      ∙ lost-page R chip area flags bad T k k-in (cases R chip area flags bad T k k-in) (sym (flag R chip area flags bad T k k-in) ∙ f);
-}
 
 pub lost-few : LostFew
 lost-few = record {

@@ -10,7 +10,7 @@ use Rattle.method.specs.Move.{Move, AcceptedMove}
 use Rattle.method.specs.Place.{marks_of}
 use Rattle.method.specs.Read.{read_slots}
 use Rattle.method.specs.Rebuild.{apart, whole_move}
-use Rattle.method.specs.Unreadable.{of_bytes, of_any, SumOf}
+use Rattle.method.specs.Unreadable.{SumOf}
 use Rattle.method.proofs.cycles.SetCycles.{set-in}
 use Rattle.method.proofs.states.RunsAddUp.{start-page}
 use Rattle.method.proofs.rebuild.Lists.{has, either, has-apart, apart_distinct, mix, sum-byte, mix-apart}
@@ -19,7 +19,7 @@ use Rattle.method.proofs.rebuild.ZeroSum.{zero-distinct, zero-bytes}
 use Rattle.method.proofs.rebuild.OtherSum.{EachHas, each-apart, zero_of, zero-inside}
 use Rattle.method.proofs.rebuild.LastPages.{last-in-zero}
 use Rattle.method.proofs.rebuild.Taken.{RebuildTaken}
-use Rattle.method.proofs.rebuild.UnitStores.{ButOne, but_last, value_in, unit_store, unit-starts, unit-bytes, unit_pages, unit-shows, unit-sum}
+use Rattle.method.proofs.rebuild.UnitStores.{ButOne, but_last, value_in, unit_store, unit-starts, unit_pages, unit-shows, unit-sum}
 use Rattle.method.proofs.rebuild.OwnSets.{last_of, only-last, zero-of-set}
 
 -- what is added twice cancels
@@ -80,7 +80,7 @@ module _ (R : Request) (chip : Chip) (area flags : List ℕ) (bad : ℕ) (T : Re
       only-last R chip area flags bad T J k k-in t (zero-inside M A chip.marks place J (set_of M.sets k) set-ok t h) e (zero-of-set R chip area flags bad T J k k-in t h)
 
   -- ---- one sum
-  module _ (slots : List ℕ) (X : SumOf R place of_bytes chip.marks bad k slots) where
+  module _ (slots : List ℕ) (X : SumOf R place chip.marks bad k slots) where
     on-last : (t : ℕ) → has t slots ≡ true → t / m ≡ J.block → t ≡ last
     on-last t h e = only-last R chip area flags bad T J k k-in t (X.inside t h) e (X.own-set t h)
 
@@ -100,7 +100,7 @@ module _ (R : Request) (chip : Chip) (area flags : List ℕ) (bad : ℕ) (T : Re
           let store : Chip = unit_store R chip area flags bad T O u every in
           let starts = unit-starts R chip area flags bad T O u every in
           sym (sum-byte (unit_pages R chip area flags bad T O u every) 0 slots)
-          ∙ ap (λ (p : List ℕ). get_or p 0 0) (X.gives store starts (unit-bytes R chip area flags bad T O u every) ∙ sym (start-page R store starts k))
+          ∙ ap (λ (p : List ℕ). get_or p 0 0) (X.gives store starts ∙ sym (start-page R store starts k))
 
       without : has last slots ≡ false → has u slots ≡ has u begun
       without out = unit-sum R chip area flags bad T O u every slots X.once
@@ -145,12 +145,7 @@ module _ (R : Request) (chip : Chip) (area flags : List ℕ) (bad : ℕ) (T : Re
         let there : (has last slots && has bad zeros) ≡ has last slots = rw (z, and-true) in
         either-left-out (has bad begun) (has last slots) (sym X.left_out ∙ fixed bad ∙ ap (either (has bad begun)) there)
 
-  -- what holds for all stores holds for those of bytes
-  of-bytes : (slots : List ℕ) → SumOf R place of_any chip.marks bad k slots → SumOf R place of_bytes chip.marks bad k slots
-  of-bytes slots X = record { once = X.once; inside = X.inside; full = X.full; left_out = X.left_out; own-set = X.own-set; gives = λ c S such. X.gives c S refl }
-
-  pub same-slots : has bad zeros ≡ true → (one other : List ℕ) → SumOf R place of_bytes chip.marks bad k one → SumOf R place of_any chip.marks bad k other
+  pub same-slots : has bad zeros ≡ true → (one other : List ℕ) → SumOf R place chip.marks bad k one → SumOf R place chip.marks bad k other
       → (t : ℕ) → has t one ≡ has t other
   same-slots z one other X Y t =
-      let Y' = of-bytes other Y in
-      fixed one X t ∙ ap (λ (b : Bool). either (has t begun) (b && has t zeros)) (has_last one X z ∙ sym (has_last other Y' z)) ∙ sym (fixed other Y' t)
+      fixed one X t ∙ ap (λ (b : Bool). either (has t begun) (b && has t zeros)) (has_last one X z ∙ sym (has_last other Y z)) ∙ sym (fixed other Y t)

@@ -1,13 +1,11 @@
 -- Stores at rest in which the originals whose read has a slot are ones, all others zeros: what their pages are at a place that they lead to, but for those of
 -- one block.
-use Rattle.flash.proofs.Kit.{◌≡◌, refl, sym, ap, ◌∙◌, ◌≢◌, Bool, true, false, cond, ◌&&◌, List, [], ◌∷◌, ℕ, suc, ◌+◌, ◌*◌, ◌/◌, ◌%◌, ◌≤◌, ◌<◌}
-use Rattle.flash.proofs.Kit.{div-add-mod', mod-lt, div-lt_iff_lt-mul, arith, eqb, ltb, eq-eqb, and-false, length, get_or, replicate, get_or-replicate, length-replicate}
-use Rattle.flash.specs.Lists.{range, all, part, concat_map}
+use Rattle.flash.proofs.Kit.{◌≡◌, refl, sym, ap, ◌∙◌, ◌≢◌, Bool, true, false, cond, ◌&&◌, List, ℕ, suc, ◌+◌, ◌/◌, ◌%◌, ◌≤◌, ◌<◌}
+use Rattle.flash.proofs.Kit.{div-add-mod', mod-lt, div-lt_iff_lt-mul, arith, eqb, eq-eqb, and-false, length, get_or}
+use Rattle.flash.specs.Lists.{part}
 use Rattle.flash.specs.declared.sizes.Sizes.{Sizes}
 use Rattle.flash.specs.Geometry.{slot, original_count, slot_count}
 use Rattle.flash.specs.Chip.{Chip, page_at}
-use Rattle.flash.proofs.Bools.{and_both}
-use Rattle.flash.proofs.Searches.{all_append, all_of}
 use Rattle.split.specs.Request.{Request}
 use Rattle.split.proofs.OneToOneLaws.{Distinct}
 use Rattle.method.specs.Move.{Move, plan, AcceptedMove}
@@ -15,7 +13,6 @@ use Rattle.method.specs.Place.{Pass, last_place, pass_at, filling, marks_of}
 use Rattle.method.specs.State.{originals_in, chip_at_rest, state_of}
 use Rattle.method.specs.Runs.{Start}
 use Rattle.method.specs.Rebuild.{whole_move}
-use Rattle.method.specs.Unreadable.{of_bytes}
 use Rattle.method.specs.inner.Shape.{Shape}
 use Rattle.method.proofs.basics.MoveShape.{Shows}
 use Rattle.method.proofs.places.PlaceShape.{letter_above}
@@ -26,23 +23,6 @@ use Rattle.method.proofs.rebuild.PageSets.{set_at, held_beside}
 use Rattle.method.proofs.rebuild.States.{state-size, state-shows, made, made-part, made-starts}
 use Rattle.method.proofs.rebuild.Taken.{RebuildTaken, page-length}
 use Rattle.method.proofs.rebuild.Units.{bit_page, bit_length, bit_byte, bit-same, bit_of, UnitPage, unit-page, zero-page}
-
--- ---- bytes
-abbrev is_byte : ℕ → Bool
-is_byte byte = ltb byte 256
-
-all_replicate : (size byte : ℕ) → is_byte byte ≡ true → all is_byte (replicate size byte) ≡ true
-all_replicate size byte e = all_of is_byte (replicate size byte) 0 (λ i h. rw (get_or-replicate size i byte 0 (omega (arith, length-replicate {A = ℕ} size byte))) e)
-
-all-concat : (test : ℕ → Bool) (value : ℕ → List ℕ) → ((j : ℕ) → all test (value j) ≡ true) → (js : List ℕ) → all test (concat_map value js) ≡ true
-unfolding all concat_map
-all-concat test value each [] = refl
-all-concat test value each (j ∷ js) = all_append test (value j) (concat_map value js) ∙ and_both _ _ (each j) (all-concat test value each js)
-
-bit-bytes : (P : ℕ) (b : Bool) → all is_byte (bit_page P b) ≡ true
-unfolding bit_page
-bit-bytes P true = all_replicate P 1 refl
-bit-bytes P false = all_replicate P 0 refl
 
 module _ (R : Request) (chip : Chip) (area flags : List ℕ) (bad : ℕ) (T : RebuildTaken R chip area flags bad) where
   open R.sizes use {n, m, p as P}
@@ -110,14 +90,6 @@ module _ (R : Request) (chip : Chip) (area flags : List ℕ) (bad : ℕ) (T : Re
 
     pub unit-starts : Start R unit_store
     unit-starts = made-starts Z unit_value unit-whole R refl T.undropped T.list-accepted A.split
-
-    -- they are of the bytes 255, 1 and 0
-    pub unit-bytes : of_bytes unit_store ≡ true
-    unfolding of_bytes chip_at_rest
-    unit-bytes =
-        all_append is_byte (replicate (m * P) 255) (made Z unit_value unit-whole)
-        ∙ and_both _ _ (all_replicate (m * P) 255 refl)
-        (all-concat is_byte unit_value (λ j. bit-bytes P (bit_of M A O.begun O.low O.pass O.shape u test j)) (range 0 (original_count Z)))
 
     abbrev pub value_in : (j : ℕ) → List ℕ
     value_in j = part P j (originals_in Z unit_store)

@@ -15,7 +15,7 @@ use Rattle.method.specs.Read.{read_slots}
 use Rattle.method.specs.State.{originals_in, state_of}
 use Rattle.method.specs.Runs.{Start}
 use Rattle.method.specs.Rebuild.{apart, whole_move}
-use Rattle.method.specs.Unreadable.{of_any, is_of_set, SumOf}
+use Rattle.method.specs.Unreadable.{is_of_set, SumOf}
 use Rattle.method.specs.inner.Shape.{Shape}
 use Rattle.method.proofs.basics.MoveShape.{Shows}
 use Rattle.method.proofs.cycles.SetCycles.{set-in}
@@ -95,7 +95,7 @@ module _ (R : Request) (chip : Chip) (area flags : List ℕ) (bad : ℕ) (T : Re
     own = read_slots M chip.marks k
 
     -- ---- read's
-    pub own-sum : has bad own ≡ false → SumOf R place of_any chip.marks bad k own
+    pub own-sum : has bad own ≡ false → SumOf R place chip.marks bad k own
     unfolding letter
     own-sum out =
         let r = reads_now M T.accepted chip.marks T.found T.told bad k k-in in
@@ -107,7 +107,7 @@ module _ (R : Request) (chip : Chip) (area flags : List ℕ) (bad : ℕ) (T : Re
               full-finished m chip.marks _ (letter Z t.index) (omega arith) t.full);
           left_out = out;
           own-set = read-of-set R chip area flags bad T k k-in;
-          gives = λ c S any.
+          gives = λ c S.
               ap (sum (page_of c)) (same-slots k k-in)
               ∙ (reads M T.accepted (marks_of Z place) both.low both.high k k-in (letter_above both.pass) (which-pass both.pass) both.there).original (value_of c) (page_of c) (shows c S)
               ∙ start-page R c S k;
@@ -118,7 +118,7 @@ module _ (R : Request) (chip : Chip) (area flags : List ℕ) (bad : ℕ) (T : Re
       abbrev zeros : List ℕ
       zeros = zero_of M T.accepted chip.marks place J k k-in
 
-      pub other-sum : has bad own ≡ true → has bad zeros ≡ true → SumOf R place of_any chip.marks bad k (apart own zeros)
+      pub other-sum : has bad own ≡ true → has bad zeros ≡ true → SumOf R place chip.marks bad k (apart own zeros)
       unfolding either
       other-sum q z =
           let inside = each-has (λ t. t < slot_count Z) (apart own zeros) (other-inside M T.accepted chip.marks place J k k-in) in
@@ -129,7 +129,7 @@ module _ (R : Request) (chip : Chip) (area flags : List ℕ) (bad : ℕ) (T : Re
             full = λ t h. all_finished J t (inside t h);
             left_out = has-apart bad own zeros ∙ rw (q, z);
             own-set = each-apart (λ t. is_of_set R place k t ≡ true) own zeros (read-of-set R chip area flags bad T k k-in) (zero-of-set R chip area flags bad T J k k-in);
-            gives = λ c S any.
+            gives = λ c S.
                 ap (λ (ts : List ℕ). sum (page_of c) (apart ts zeros)) (same-slots k k-in)
                 ∙ other-original M T.accepted (marks_of Z place) place (filled-there Z chip.marks place J) k k-in (value_of c) (page_of c) (shows c S) (page-size c S)
                 ∙ start-page R c S k;

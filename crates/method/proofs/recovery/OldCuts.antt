@@ -1,28 +1,16 @@
 -- Cuts that leave 255 and no other mark obey the rule of the cut, and no two blocks are unfinished where the marks fit a moment.
-use Rattle.flash.proofs.Kit.{◌≡◌, inl, inr, ⊎_elim, Bool, true, List, ℕ, ◌≤◌, ◌<◌, arith, eqb, leb, eqb-true, le-leb, leb-true, lt-leb, ltb-true}
+use Rattle.flash.proofs.Kit.{◌≡◌, inl, inr, ⊎_elim, Bool, true, List, ℕ, ◌≤◌, ◌<◌, arith, eqb, eqb-true}
 use Rattle.flash.specs.declared.sizes.Sizes.{Sizes}
-use Rattle.flash.specs.Geometry.{is_letter}
 use Rattle.flash.specs.Chip.{Chip, erased, mark_at, is_unfinished}
-use Rattle.flash.proofs.Bools.{and_left, and_right, and_both}
 use Rattle.flash.proofs.Bounds.{in-range}
 use Rattle.method.specs.Place.{Operation, write, erase, done}
 use Rattle.method.specs.Cut.{is_torn_mark, Kept, Torn, Touched}
-use Rattle.method.specs.Claims.{TornMarks, OldCuts, OneUnfinished}
+use Rattle.method.specs.Claims.{OldCuts, OneUnfinished}
 use Rattle.method.proofs.places.PlaceShape.{Shaped, letter_above}
 use Rattle.method.proofs.recovery.LinesAgree.{finished}
 use Rattle.method.proofs.recovery.FittingMarks.{shaped}
 use Rattle.method.proofs.recovery.MarksFade.{torn-of}
 
--- ---- the marks that a cut may leave
-pub torn-marks : TornMarks
-unfolding is_torn_mark is_letter
-torn-marks = record {
-  every = λ mark low high. and_both (leb 3 mark) (leb mark 255) (le-leb 3 mark low) (le-leb mark 255 high);
-  only = λ mark e. (leb-true 3 mark (and_left (leb 3 mark) (leb mark 255) e), leb-true mark 255 (and_right (leb 3 mark) (leb mark 255) e));
-  no-letter = λ mark e. rw (lt-leb 3 mark (ltb-true mark 3 e));
-}
-
--- ---- cuts that leave 255 alone
 abbrev old : ℕ → Bool
 old mark = eqb mark erased
 

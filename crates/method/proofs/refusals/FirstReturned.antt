@@ -5,7 +5,7 @@ use Rattle.flash.proofs.Tables.{first-returned}
 use Rattle.split.specs.Answer.{split_rows}
 use Rattle.method.specs.Answers.{order, move_rows, run_rows, mend_rows, read_rows}
 use Rattle.method.specs.Rebuild.{rebuild_rows}
-use Rattle.method.specs.Claims.{FirstReturned, NumbersGiven}
+use Rattle.method.specs.Claims.{FirstReturned}
 
 pub first-by-all : FirstReturned
 unfolding order before split_rows move_rows run_rows mend_rows read_rows rebuild_rows
@@ -15,14 +15,4 @@ first-by-all = record {
   by-mend = λ Z chip. first-returned order (mend_rows Z chip) 0 refl;
   by_read = λ R chip work k. first-returned order (read_rows R chip work k) 0 refl;
   by-rebuild = λ R chip area flags bad. first-returned order (rebuild_rows R chip area flags bad) 0 refl;
-}
-
-pub numbers-given : NumbersGiven
-unfolding split_rows move_rows run_rows mend_rows read_rows rebuild_rows
-numbers-given = record {
-  by-split = λ R. refl;
-  by-run = λ R chip work wear place limit. refl;
-  by-mend = λ Z chip. refl;
-  by_read = λ R chip work k. refl;
-  by-rebuild = λ R chip area flags bad. refl;
 }

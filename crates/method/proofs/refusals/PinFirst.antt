@@ -14,7 +14,7 @@ use Rattle.split.specs.Split.{is_split}
 use Rattle.split.specs.Pins.{is_pinned, moves_pinned}
 use Rattle.split.specs.Request.{Request, bad_request}
 use Rattle.split.specs.PinFirst.{drops_pinned, moves_pinned_kept, rows_once}
-use Rattle.split.proofs.LentLaws.{small}
+use Rattle.split.proofs.Answers.{small}
 use Rattle.split.proofs.DropLaws.{one-to-one-undropped}
 use Rattle.split.proofs.PinLaws.{same_test, drops-moved}
 use Rattle.method.specs.Move.{move}

@@ -1,6 +1,6 @@
 -- What a page that is written costs: the stored pages that are summed for it, at most n.
-use Rattle.flash.proofs.Kit.{◌≡◌, refl, ap, ap₂, ◌∙◌, inr, ⊎_elim, true, false, cond, or-true, List, [], ◌∷◌, ◌++◌, map, ℕ, suc, ◌+◌, ◌≤◌, ◌<◌}
-use Rattle.flash.proofs.Kit.{add-zero, arith, length}
+use Rattle.flash.proofs.Kit.{◌≡◌, refl, sym, ap, ap₂, ◌∙◌, inr, ⊎_elim, true, false, cond, or-true, List, [], ◌∷◌, ◌++◌, map, ℕ, suc, ◌+◌, ◌≤◌, ◌<◌}
+use Rattle.flash.proofs.Kit.{add-zero, add-one, arith, length}
 use Rattle.flash.specs.Lists.{range, any, concat_map}
 use Rattle.flash.specs.Geometry.{number_at, slot_of, letter}
 use Rattle.flash.proofs.Blocks.{full-same}
@@ -91,7 +91,7 @@ module _ (X : Plan) (A : AcceptedMove X.move) (marks : List ℕ) (block : ℕ) (
   few-behind : is_top M set i ≡ false → suc (length (read_slots M marks (D M set u))) ≤ n
   few-behind not_top =
       let all : coded_slot M marks set i ∷ read_slots M marks (D M set u) ≡ go_back M marks set n i =
-      behind not_top ∙ back-bound M A marks set set-ok i i-in (suc n) (omega arith) in
+      behind not_top ∙ ap (λ (bound : ℕ). go_back M marks set bound i) (sym (add-one n)) ∙ back-bound M A marks set set-ok i 1 i-in in
       omega (arith, ap length all, back-few M A marks set set-ok i i-in)
 
   pub coded-cost : pages_read X forward block set marks ≡ cond (X.is_dropped (D M set i)) 0 1 + cond (is_top M set i) 0 (cost X marks (D M set u))

@@ -157,12 +157,12 @@ module _ (M : Move) (A : AcceptedMove M) (marks : List ℕ) (low high : ℕ) (k 
   -- rule 3's walk has an end
   pub reads-on-bound : (i : ℕ) → (i ≡ 0) ⊎ (i ≡ 2) → Shape M.sizes marks low high i → full_of M marks 2 (dest M set v) ≡ false
       → (full_of M marks 1 (top M set v - 1) || any (full_of M marks 0) (range 0 (n + 1))) ≡ false
-      → (bound : ℕ) → n - 1 ≤ bound → go_on M marks set bound v ≡ go_on M marks set n v
-  reads-on-bound i which S not_there not_back bound wide = ⊎_elim
+      → (extra : ℕ) → go_on M marks set (n + extra) v ≡ go_on M marks set n v
+  reads-on-bound i which S not_there not_back extra = ⊎_elim
       (λ (e : i ≡ 0). absurd (never_both (plain-left (rw e at S)) not_back))
       (λ (e : i ≡ 2).
       let gone = or-false-left (full_of M marks 1 (top M set v - 1)) (any (full_of M marks 0) (range 0 (n + 1))) not_back in
-      on-bound M A marks set set-ok v v-in (top-final (rw e at S) gone) not_there bound wide)
+      on-bound M A marks set set-ok v v-in (top-final (rw e at S) gone) not_there extra)
       which
 
 -- what is summed is what original k counts as

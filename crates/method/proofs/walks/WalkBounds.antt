@@ -1,12 +1,12 @@
 -- The bounds of read's walks are never what ends them.
-use Rattle.flash.proofs.Kit.{◌≡◌, sym, ap, ◌∙◌, ⊎_elim, true, false, List, ℕ, zero, suc, ◌-◌, ◌≤◌, ◌<◌, arith, length}
+use Rattle.flash.proofs.Kit.{◌≡◌, sym, ap, ◌∙◌, ⊎_elim, true, false, List, ℕ, zero, suc, ◌+◌, ◌≤◌, ◌<◌, arith, length}
 use Rattle.flash.proofs.Bools.{bool_cases, never_both}
 use Rattle.method.specs.Move.{Move, AcceptedMove}
 use Rattle.method.specs.Cycle.{dest, pred, top, is_top}
 use Rattle.method.specs.Read.{full_of, coded_slot, go_back, go_on}
 use Rattle.method.proofs.cycles.Orbits.{DataBlock, iterate}
 use Rattle.method.proofs.cycles.Tops.{top-top, top-behind, top-ahead, top-is_top}
-use Rattle.method.proofs.walks.WalkSlots.{Ends, ends_by, way, length-way, walk_is, back_ends, back_last, back-walk, on_ends, on_last, on-walk}
+use Rattle.method.proofs.walks.WalkSlots.{Ends, ends_by, way, length-way, walk_is, walk_more, back_ends, back_last, back-walk, on_ends, on_last, on-walk}
 
 module _ (M : Move) (A : AcceptedMove M) (marks : List ℕ) (set : ℕ) (set-ok : set < M.sizes.m) where
   open M.sizes use {n}
@@ -24,14 +24,12 @@ module _ (M : Move) (A : AcceptedMove M) (marks : List ℕ) (set : ℕ) (set-ok 
       omega (arith, e.1, t.1) in
       (d, omega (arith, e.1, t.1), e.2, before-top)
 
-  back-way : (v : ℕ) (v-in : DataBlock n v) (bound : ℕ) → n ≤ bound → go_back M marks set bound v ≡ way (pred M set) (coded_slot M marks set) (back_last M marks set) (back-ends v v-in).0 v
-  back-way v v-in bound h =
+  pub back-bound : (v extra : ℕ) → DataBlock n v → go_back M marks set (n + extra) v ≡ go_back M marks set n v
+  back-bound v extra v-in =
       let e = back-ends v v-in in
-      back-walk M marks set bound v
-      ∙ walk_is (pred M set) (coded_slot M marks set) (back_last M marks set) (back_ends M marks set) bound e.0 v e.2 (omega (arith, e.1))
-
-  pub back-bound : (v : ℕ) → DataBlock n v → (bound : ℕ) → n ≤ bound → go_back M marks set bound v ≡ go_back M marks set n v
-  back-bound v v-in bound h = back-way v v-in bound h ∙ sym (back-way v v-in n (omega arith))
+      back-walk M marks set (n + extra) v
+      ∙ walk_more (pred M set) (coded_slot M marks set) (back_last M marks set) (back_ends M marks set) n extra e.0 v e.2 e.1
+      ∙ sym (back-walk M marks set n v)
 
   -- it takes at most n slots
   pub back-few : (v : ℕ) → DataBlock n v → length (go_back M marks set n v) ≤ n
@@ -39,7 +37,8 @@ module _ (M : Move) (A : AcceptedMove M) (marks : List ℕ) (set : ℕ) (set-ok 
   back-few v v-in =
       let e = back-ends v v-in in
       let c : ℕ = iterate (pred M set) e.0 v in
-      let is = back-way v v-in n (omega arith) in
+      let is : go_back M marks set n v ≡ way (pred M set) (coded_slot M marks set) (back_last M marks set) e.0 v =
+      back-walk M marks set n v ∙ walk_is (pred M set) (coded_slot M marks set) (back_last M marks set) (back_ends M marks set) n e.0 v e.2 e.1 in
       let size = length-way (pred M set) (coded_slot M marks set) (back_last M marks set) e.0 v in
       ⊎_elim
       (λ (t : is_top M set c ≡ true). rw is (omega (arith, rw t at size, e.1)))
@@ -58,10 +57,9 @@ module _ (M : Move) (A : AcceptedMove M) (marks : List ℕ) (set : ℕ) (set-ok 
     pub on-ends : (d : ℕ) × (suc d < n) × Ends (dest M set) (on_ends M marks set) d (dest M set v)
     on-ends = let t = top-ahead M A set set-ok v v-in in on-from t.0 t.1 t.2
 
-    on-way : (bound : ℕ) → n - 1 ≤ bound → go_on M marks set bound v ≡ way (dest M set) (coded_slot M marks set) (on_last M marks set) on-ends.0 (dest M set v)
-    on-way bound h =
-        on-walk M marks set bound v
-        ∙ walk_is (dest M set) (coded_slot M marks set) (on_last M marks set) (on_ends M marks set) bound on-ends.0 (dest M set v) on-ends.2 (omega (arith, on-ends.1))
-
-    pub on-bound : (bound : ℕ) → n - 1 ≤ bound → go_on M marks set bound v ≡ go_on M marks set n v
-    on-bound bound h = on-way bound h ∙ sym (on-way n (omega arith))
+    pub on-bound : (extra : ℕ) → go_on M marks set (n + extra) v ≡ go_on M marks set n v
+    on-bound extra =
+        let e = on-ends in
+        on-walk M marks set (n + extra) v
+        ∙ walk_more (dest M set) (coded_slot M marks set) (on_last M marks set) (on_ends M marks set) n extra e.0 (dest M set v) e.2 (omega (arith, e.1))
+        ∙ sym (on-walk M marks set n v)

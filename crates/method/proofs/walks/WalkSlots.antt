@@ -65,6 +65,10 @@ module _ (f slot : ℕ → ℕ) (last : ℕ → List ℕ) where
     walk_is (suc bound) (suc d) b E h =
         rw (E.not-before 0 (omega arith)) (ap (λ (ts : List ℕ). slot b ∷ ts) (walk_is bound d (f b) (ends_next f ends d b E) (omega arith)))
 
+    -- a wider bound changes nothing
+    pub walk_more : (bound extra d b : ℕ) → Ends f ends d b → d < bound → walk (bound + extra) b ≡ walk bound b
+    walk_more bound extra d b E h = walk_is (bound + extra) d b E (omega arith) ∙ sym (walk_is bound d b E h)
+
 cond-or : (a b : Bool) (x y z : List ℕ) → cond a x (cond b y z) ≡ cond (a || b) (cond a x y) z
 cond-or true b x y z = refl
 cond-or false b x y z = refl

@@ -54,6 +54,6 @@ walks-end M A marks found e k h =
             let t = r.sited i l in
             full-finished Z.m marks _ (letter Z t.index) (omega arith) t.full;
       };
-      back = back-bound M A marks (set_of M.sets k) (set-in M A k h) (block_of Z.m k) (block_in M A k h);
+      back = λ extra. back-bound M A marks (set_of M.sets k) (set-in M A k h) (block_of Z.m k) extra (block_in M A k h);
       on = reads-on-bound M A marks shape.low shape.high k h (letter_above shape.pass) (which-pass shape.pass) shape.shape;
     }

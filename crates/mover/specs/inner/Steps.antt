@@ -4,7 +4,7 @@ use Rattle.flash.specs.declared.sizes.Sizes.{Sizes}
 use Rattle.flash.specs.Geometry.{slot, number_at, original_count}
 use Rattle.split.specs.Split.{set_of}
 use Rattle.split.specs.inner.Rows.{ByDestination}
-use Rattle.split.specs.Bits.{is_marked}
+use Rattle.split.specs.inner.Mask.{is_marked}
 use Rattle.method.specs.Move.{Move, AcceptedMove}
 use Rattle.method.specs.Cycle.{sent_to}
 use Rattle.method.specs.Place.{filling, filled}

@@ -3,7 +3,7 @@ use Rattle.std.specs.Prelude.{◌≡◌, Bool, true, false, List, ℕ, ◌+◌, 
 use Rattle.flash.specs.Lists.{range, down_from, any, first}
 use Rattle.split.specs.Drops.{is_dropped}
 use Rattle.split.specs.Split.{source_block, dest_block}
-use Rattle.split.specs.Bits.{is_marked}
+use Rattle.split.specs.inner.Mask.{is_marked}
 
 -- the bit of two blocks
 abbrev pub cell : (source target : ℕ) → ℕ

@@ -2,7 +2,7 @@
 use Rattle.std.specs.Prelude.{◌≡◌, Bool, true, List, ℕ, ◌+◌, ◌-◌, ◌*◌, ◌/◌, ◌%◌, ◌<◌, eqb, ltb, get_or, set as put}
 use Rattle.split.specs.Split.{set_of}
 use Rattle.split.specs.Rule.{End, other_end, block_at}
-use Rattle.split.specs.Bits.{bit_at}
+use Rattle.split.specs.inner.Mask.{bit_at}
 
 -- the block of a page at an end, from 0
 abbrev pub row_of : (m : ℕ) → List ℕ → End → (k : ℕ) → ℕ
@@ -21,10 +21,6 @@ by_masks masks row set = eqb (bit_at (get_or masks row 0) set) 1
 
 abbrev pub by_order : (m pages : ℕ) → Uses
 by_order m pages row set = ltb (row * m + set) pages
-
--- and masks at the sources tell the same
-abbrev pub Masked : (m pages : ℕ) → (masks : List ℕ) → Type 0
-Masked m pages masks = (row set : ℕ) → set < m → by_masks masks row set ≡ by_order m pages row set
 
 module _ (m : ℕ) (list : List ℕ) (end : End) (pages : ℕ) (sets : List ℕ) where
   -- a page of the set at the block, among the first

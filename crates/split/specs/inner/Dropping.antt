@@ -3,7 +3,7 @@ use Rattle.std.specs.Prelude.{◌≡◌, List, ℕ, ◌<◌, eqb, length, get_or
 use Rattle.flash.specs.Lists.{any}
 use Rattle.split.specs.OneToOne.{kept_entries}
 use Rattle.split.specs.Drops.{is_dropped, completed}
-use Rattle.split.specs.Bits.{is_marked}
+use Rattle.split.specs.inner.Mask.{is_marked}
 
 -- bits of the numbers that kept pages are sent to
 pub record KeptMarked (list masks : List ℕ) : Type 0 where

@@ -2,7 +2,7 @@
 use Rattle.std.specs.Prelude.{◌≡◌, Bool, true, List, ℕ, ◌*◌, ◌%◌, ◌≤◌, ◌<◌, eqb, length, get_or}
 use Rattle.flash.specs.Lists.{range, all, any, part}
 use Rattle.split.specs.OneToOne.{is_one_to_one}
-use Rattle.split.specs.Bits.{bit_at}
+use Rattle.split.specs.inner.Mask.{bit_at}
 
 -- what the calls know of a list that is not refused as 1, 2 or 3
 pub record Accepted (n m : ℕ) (list : List ℕ) : Type 0 where

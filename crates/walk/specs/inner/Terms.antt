@@ -5,9 +5,14 @@ use Rattle.flash.specs.Geometry.{store_len}
 use Rattle.flash.specs.PageSum.{sum}
 use Rattle.flash.specs.Chip.{Chip}
 use Rattle.flash.specs.inner.Totals.{total_page}
-use Rattle.split.specs.Bits.{is_marked}
+use Rattle.split.specs.inner.Mask.{is_marked}
+use Rattle.method.specs.Move.{Plan, move_of}
 use Rattle.method.specs.Read.{Term, term_page, stored_slots}
 use Rattle.walk.specs.declared.terms.Addends.{Addends}
+
+-- what is carried out, with the dropped pages as bits
+abbrev pub plan_by : Sizes → (list sets drops : List ℕ) → Plan
+plan_by sizes list sets drops = record { move = move_of sizes list sets; is_dropped = is_marked drops }
 
 -- as many stored pages as the terms have, and they add up to the same page
 pub record AddsUp (Z : Sizes) (terms : List Term) (slots : List ℕ) (r : Addends) : Type 0 where

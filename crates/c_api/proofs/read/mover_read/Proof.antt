@@ -17,13 +17,13 @@ sizes-of-requires c κs = search needs
 array-borrow-prefix-entries : tie.Need-array-borrow-prefix-entries
 array-borrow-prefix-entries c = omega (arith, count_fits _ _ _ c.before.before.decode.ensures.0)
 
-slice-aggregate-read-own : tie.Need-slice-aggregate-read-own
-slice-aggregate-read-own c =
+slice-aggregate-read : tie.Need-slice-aggregate-read
+slice-aggregate-read c =
     let d = c.before.before.before.decode in
     sym (length-take-le _ d.new.1.0 (omega (arith, count_fits _ _ _ d.ensures.0, d.auto.1.0)))
 
-read-own-requires : tie.Need-read-own-requires
-read-own-requires c κs = search needs
+read-requires : tie.Need-read-requires
+read-requires c κs = search needs
 
 same_length : tie.Need-same-length
 same_length c = search needs
@@ -33,9 +33,9 @@ returns c =
     let done = c.before.before.before in
     let z = done.before.before.before in
     let d = z.before.before.decode.ensures in
-    rw z.sizes-of.ensures at (read-exported _ _ _ _ _ (front-is _ _ _ _ d.0 d.1) _ _ _ _ done.read-own.ensures)
+    rw z.sizes-of.ensures at (read-exported _ _ _ _ _ (front-is _ _ _ _ d.0 d.1) _ _ _ _ done.read.ensures.0)
 
 pub mover-read-spec : {M : Type 1} → statement M
 mover-read-spec =
     tie.close
-    (tie.spec slice-aggregate-decode decode-requires sizes-of-requires array-borrow-prefix-entries slice-aggregate-read-own read-own-requires same_length returns)
+    (tie.spec slice-aggregate-decode decode-requires sizes-of-requires array-borrow-prefix-entries slice-aggregate-read read-requires same_length returns)

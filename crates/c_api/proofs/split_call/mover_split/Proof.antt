@@ -17,13 +17,13 @@ sizes-of-requires c κs = search needs
 array-borrow-prefix-entries : tie.Need-array-borrow-prefix-entries
 array-borrow-prefix-entries c = omega (arith, count_fits _ _ _ c.before.before.decode.ensures.0)
 
-slice-aggregate-split-own : tie.Need-slice-aggregate-split-own
-slice-aggregate-split-own c =
+slice-aggregate-split : tie.Need-slice-aggregate-split
+slice-aggregate-split c =
     let d = c.before.before.before.decode in
     sym (length-take-le _ d.new.1.0 (omega (arith, count_fits _ _ _ d.ensures.0, d.auto.1.0)))
 
-split-own-requires : tie.Need-split-own-requires
-split-own-requires c κs = search needs
+split-requires : tie.Need-split-requires
+split-requires c κs = search needs
 
 same_length : tie.Need-same-length
 same_length c = search needs
@@ -33,9 +33,9 @@ returns c =
     let done = c.before.before.before in
     let z = done.before.before.before in
     let d = z.before.before.decode.ensures in
-    rw z.sizes-of.ensures at (split-exported _ _ _ _ _ (front-is _ _ _ _ d.0 d.1) _ done.split-own.ensures)
+    rw z.sizes-of.ensures at (split-exported _ _ _ _ _ (front-is _ _ _ _ d.0 d.1) _ done.split.ensures.0)
 
 pub mover-split-spec : {M : Type 1} → statement M
 mover-split-spec =
     tie.close
-    (tie.spec slice-aggregate-decode decode-requires sizes-of-requires array-borrow-prefix-entries slice-aggregate-split-own split-own-requires same_length returns)
+    (tie.spec slice-aggregate-decode decode-requires sizes-of-requires array-borrow-prefix-entries slice-aggregate-split split-requires same_length returns)

@@ -1,7 +1,7 @@
--- `move_refusal` gives the first number of rows 1, 2, 3, 11 and 4 that fits; where none fits it leaves the list completed, and the sets by destination.
-use Rattle.flash.proofs.Kit.{[], ◌≡◌, sym, ap, ◌∙◌, subst, ◌≢◌, true, false, cond, ◌&&◌, not, ℕ, ◌*◌, ◌≤◌, arith, eqb, length, needs, not-false}
+-- `move_refusal` gives the first number of rows 1, 2, 3, 11 and 4 that fits; past 11 it leaves the list completed, and where none fits the sets by destination.
+use Rattle.flash.proofs.Kit.{[], ◌≡◌, refl, sym, ap, ◌∙◌, subst, ◌≢◌, true, false, cond, ◌&&◌, not, ℕ, ◌*◌, ◌≤◌, arith, eqb, length, needs, not-false}
 use Rattle.split.specs.OneToOne.{bad_list}
-use Rattle.split.specs.Drops.{completed}
+use Rattle.split.specs.Drops.{completed, list_left}
 use Rattle.split.specs.Pins.{moves_pinned}
 use Rattle.split.specs.Split.{is_split}
 use Rattle.split.specs.Request.{Request, request_of}
@@ -13,7 +13,7 @@ use Rattle.flash.specs.Chip.{Chip}
 use Rattle.flash.proofs.Bounds.{in-range, product_le}
 use Rattle.method.specs.Answers.{bad_parts, move_rows}
 use Rattle.method.proofs.basics.AcceptedCalls.{parts-ok}
-use Rattle.mover.proofs.PlanLaws.{none_told}
+use Rattle.mover.proofs.PlanLaws.{left-judged, left_split, left-undropped, none_told}
 use Rattle.mover.proofs.RefusalLaws.{move-number, by-list, by-drops, past-drops}
 use Rattle.mover.proofs.refusals.move_refusal.Statement.{statement}
 use Rattle.mover.proofs.refusals.move_refusal.Tie as tie
@@ -28,9 +28,10 @@ in-range-requires : tie.Need-in-range-requires
 in-range-requires c κs = search needs
 
 returns : tie.Need-returns
+unfolding list_left any
 returns c =
     let s = c.before.before.before.before.before.before.before.before in
-    (sym (move-number (asked s) (chip s) s.args.work.now ∙ rw (← c.before.in-range.ensures, c.if1.true)), λ z. absurd (omega arith))
+    (sym (move-number (asked s) (chip s) s.args.work.now ∙ rw (← c.before.in-range.ensures, c.if1.true)), (refl, λ z. absurd (omega arith)))
 
 -- ---- the sizes are in their ranges
 abbrev begun : tie.Else1 → tie.Start
@@ -49,10 +50,11 @@ same_length : tie.Need-same-length
 same_length c = search needs
 
 returns-2 : tie.Need-returns-2
+unfolding list_left any
 returns-2 c =
     let e = c.before.before.before in
     let s = begun e in
-    (sym (move-number (asked s) (chip s) s.args.work.now ∙ rw (ranged e, ← c.before.bad-parts.ensures, c.if2.true)), λ z. absurd (omega arith))
+    (sym (move-number (asked s) (chip s) s.args.work.now ∙ rw (ranged e, ← c.before.bad-parts.ensures, c.if2.true)), (refl, λ z. absurd (omega arith)))
 
 -- ---- past rows 1 and 2
 abbrev start : tie.Else2 → tie.Start
@@ -96,9 +98,10 @@ returns-3 c =
     let r = c.before in
     let e = r.before.before.before.before.before.before.before in
     let s = start e in
+    let list = s.args.list.now in
     let ne = subst (λ (x : ℕ). x ≢ 0) (judged r) c.if4.true in (
       judged r ∙ sym (by-drops (asked s) (chip s) s.args.work.now (in-sizes e) (parts e) ne),
-      λ z. absurd (c.if4.true z),
+      (rw (judged r) (left-judged (bad_list (s.args.sizes.n * s.args.sizes.m) list) (moves_pinned s.args.pins.now list) list ne), λ z. absurd (c.if4.true z)),
     )
 
 -- ---- and it is completed
@@ -146,7 +149,7 @@ returns-4 c =
     let found : c.sets-refusal.result ≡ cond split 0 4 =
     c.sets-refusal.ensures.0 ∙ rw (done, completed-accepted (Z.n * Z.m) list (lengths e).0 (past f).0) in (
       found ∙ sym (past f).1,
-      λ z. (done, c.sets-refusal.ensures.1 z, k.complete.ensures.1),
+      (done ∙ rw found (left_split split list), λ z. (c.sets-refusal.ensures.1 z, k.complete.ensures.1)),
     )
 
 -- ---- without drops
@@ -179,7 +182,8 @@ same-length-4 : tie.Need-same-length-4
 same-length-4 c = search needs
 
 returns-5 : tie.Need-returns-5
-returns-5 c = (sym (decided c.before ∙ rw c.if5.true), λ z. absurd (omega arith))
+unfolding list_left any
+returns-5 c = (sym (decided c.before ∙ rw c.if5.true), (refl, λ z. absurd (omega arith)))
 
 same-length-5 : tie.Need-same-length-5
 same-length-5 c = search needs
@@ -190,7 +194,7 @@ returns-6 c =
     let s = start (else3 m).before.before.before in
     let list = s.args.list.now in (
       sym (decided m ∙ rw c.if5.false),
-      λ z. (sym (undropped-completed list (none (else3 m))), m.before.before.sets-refusal2.ensures.1 z, none_told list _ _ (none (else3 m)) s.pre.0 s.pre.1),
+      (left-undropped _ list (undropped-completed list (none (else3 m))), λ z. (m.before.before.sets-refusal2.ensures.1 z, none_told list _ _ (none (else3 m)) s.pre.0 s.pre.1)),
     )
 
 pub move-refusal-spec : {M : Type 1} → statement M

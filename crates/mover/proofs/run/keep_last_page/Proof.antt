@@ -6,7 +6,7 @@ use Rattle.flash.proofs.Bounds.{product_le, slot-in-marks, slot-in-store}
 use Rattle.method.specs.Place.{filling, filled}
 use Rattle.method.proofs.places.StepsAtPlaces.{filling-in}
 use Rattle.places.specs.declared.place.Place.{Place}
-use Rattle.places.specs.Place.{place_of}
+use Rattle.places.specs.inner.Place.{place_of}
 use Rattle.mover.specs.inner.Steps.{last_slot}
 use Rattle.mover.proofs.run.keep_last_page.Statement.{statement}
 use Rattle.mover.proofs.run.keep_last_page.Tie as tie

@@ -13,8 +13,8 @@ use Rattle.method.proofs.basics.AcceptedCalls.{stands_at}
 use Rattle.method.proofs.places.Tallies.{few-tallied}
 use Rattle.method.proofs.states.StepsLeadOn.{Stood}
 use Rattle.walk.specs.inner.Slots.{slots_length}
-use Rattle.walk.specs.Plan.{plan_by}
-use Rattle.places.specs.Place.{place_of}
+use Rattle.walk.specs.inner.Terms.{plan_by}
+use Rattle.places.specs.inner.Place.{place_of}
 use Rattle.places.proofs.PlaceLaws.{last-small, number_is, is-place, page-is}
 use Rattle.places.proofs.StepTold.{bounds-erase}
 use Rattle.mover.specs.inner.Steps.{OtherTable, last_slot}

@@ -4,9 +4,9 @@ use Rattle.flash.proofs.Bounds.{slot-in-marks, slot-in-store, block-in-marks, bl
 use Rattle.method.specs.Move.{Move, move_of, Plan}
 use Rattle.method.specs.Place.{write, erase, done, operation_at}
 use Rattle.method.specs.Step.{perform, tallied}
-use Rattle.places.specs.Place.{pass_of}
+use Rattle.places.specs.inner.Place.{pass_of}
 use Rattle.places.proofs.StepTold.{IsWrite, is-write, IsErase, is-erase, told-done}
-use Rattle.walk.specs.Plan.{plan_by}
+use Rattle.walk.specs.inner.Terms.{plan_by}
 use Rattle.mover.specs.inner.Steps.{PassTables}
 use Rattle.mover.proofs.StepLaws.{wrote, wrote-bytes, wrote-reads, stepped, WriteKnown, write_known}
 use Rattle.mover.proofs.step.step.Statement.{statement}

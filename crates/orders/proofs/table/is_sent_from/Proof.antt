@@ -1,7 +1,7 @@
 -- `is_sent_from` looks at one block after the other.
 use Rattle.flash.proofs.Kit.{◌≡◌, sym, ap, ◌∙◌, Bool, false, List, ℕ, ◌+◌, ◌*◌, ◌-◌, ◌≤◌, ◌<◌, arith, needs, length, get_or, below_more}
 use Rattle.flash.proofs.Ranges.{any-is, none_is}
-use Rattle.split.specs.Bits.{is_marked}
+use Rattle.split.specs.inner.Mask.{is_marked}
 use Rattle.orders.specs.inner.Table.{cell, is_sent_from}
 use Rattle.orders.proofs.table.is_sent_from.Statement.{statement}
 use Rattle.orders.proofs.table.is_sent_from.Tie as tie

@@ -1,6 +1,6 @@
 -- `mark_sends` marks the bit of each page that is kept.
 use Rattle.flash.proofs.Kit.{◌≡◌, sym, ap, ◌∙◌, subst, ⊎_elim, ◌||◌, ℕ, ◌+◌, ◌*◌, ◌-◌, ◌/◌, ◌≤◌, ◌<◌, arith, needs, eqb, length}
-use Rattle.split.specs.Bits.{is_marked}
+use Rattle.split.specs.inner.Mask.{is_marked}
 use Rattle.split.proofs.DropLaws.{is-kept, is-dropped}
 use Rattle.orders.specs.inner.Table.{Sends}
 use Rattle.orders.proofs.TableLaws.{none-sent, sent-dropped, sent-more, cell-is}

@@ -3,7 +3,7 @@ use Rattle.flash.proofs.Kit.{◌≡◌, sym, ap, ◌∙◌, true, ℕ, arith, ne
 use Rattle.flash.specs.Geometry.{in_range}
 use Rattle.flash.proofs.Bounds.{in-range}
 use Rattle.method.specs.Place.{operation_at}
-use Rattle.places.specs.Place.{op_of}
+use Rattle.places.specs.inner.Place.{op_of}
 use Rattle.places.specs.Operation.{told_of, operation_answer}
 use Rattle.places.proofs.PlaceLaws.{number_is, is-place}
 use Rattle.places.proofs.StepTold.{IsWrite, is-write, IsErase, is-erase, told-done}

@@ -4,7 +4,7 @@ use Rattle.flash.specs.declared.sizes.Sizes.{Sizes}
 use Rattle.flash.specs.Chip.{Chip}
 use Rattle.method.specs.Place.{last_place}
 use Rattle.method.specs.Answers.{is_elsewhere}
-use Rattle.places.specs.Place.{place_of}
+use Rattle.places.specs.inner.Place.{place_of}
 use Rattle.places.proofs.PlaceLaws.{number_is, is-place}
 use Rattle.places.proofs.MarkLaws.{InSlots, in-slots, too_far, other-marks, torn-is}
 use Rattle.places.proofs.place_marks.is_elsewhere.Statement.{statement}

@@ -3,8 +3,7 @@ use Rattle.flash.proofs.Kit.{◌≡◌, sym, ◌∙◌, true, false, arith, not-
 use Rattle.flash.specs.Geometry.{in_range}
 use Rattle.flash.proofs.Bounds.{in-range}
 use Rattle.split.specs.Request.{Request, request_of, bad_request}
-use Rattle.split.proofs.LentLaws.{small}
-use Rattle.split.proofs.Answers.{gives-1, gives-2, gives-list, lengths-are}
+use Rattle.split.proofs.Answers.{small, gives-1, gives-2, gives-list, lengths-are}
 use Rattle.split.proofs.call.refusal.Statement.{statement}
 use Rattle.split.proofs.call.refusal.Tie as tie
 

@@ -1,24 +1,44 @@
--- The split call answers for a copy of the list what it answers for the list.
-use Rattle.flash.proofs.Kit.{sym, arith, needs, length-take-le}
-use Rattle.split.proofs.Answers.{split-lent}
-use Rattle.split.proofs.LentLaws.{within-fits, front-is}
+-- The split call answers as its definition does: by the rule on the completed list where no row fits, else with the row's number and nothing
+-- changed.
+use Rattle.flash.proofs.Kit.{◌≡◌, sym, ap, ◌∙◌, needs}
+use Rattle.flash.specs.Tables.{refusal}
+use Rattle.split.specs.Rule.{split_by_rule}
+use Rattle.split.specs.Request.{request_of}
+use Rattle.split.specs.Answer.{split_rows}
+use Rattle.split.proofs.Answers.{lent-good, accepted, answered-0, left-completed, answered-refused, left-lent}
 use Rattle.split.proofs.call.split.Statement.{statement}
 use Rattle.split.proofs.call.split.Tie as tie
 
-array-borrow-prefix-own : tie.Need-array-borrow-prefix-own
-array-borrow-prefix-own c = omega (arith, within-fits _ _ _ c.before.copied.ensures.0)
+-- no row fits
+none-fits : (c : tie.Then1) → (let a = c.before.before.before.before.before.before.before.before.args in
+    refusal (split_rows (request_of a.sizes a.list.now a.pins.now a.sets.now)) ≡ 0)
+none-fits c = sym c.before.refusal.ensures.0 ∙ c.if1.true
 
-slice-aggregate-split-own : tie.Need-slice-aggregate-split-own
-slice-aggregate-split-own c =
-    let d = c.before.before.copied in
-    sym (length-take-le _ d.new.1.0 (omega (arith, within-fits _ _ _ d.ensures.0, d.auto.1.0)))
+complete-list-requires : tie.Need-complete-list-requires
+complete-list-requires c κs =
+    let t = c.before.before in
+    let good = lent-good _ (none-fits t) in
+    (good.0, good.1, t.before.refusal.ensures.1 t.if1.true)
+
+fill-requires : tie.Need-fill-requires
+fill-requires c κs =
+    let l = c.before.before.before.before in
+    rw l.complete-list.ensures (accepted _ (none-fits l.before.before.before))
 
 returns : tie.Need-returns
 returns c =
-    let done = c.before.before.before in
-    let d = done.before.before.before.before.copied.ensures in
-    split-lent _ _ _ _ _ _ (front-is _ _ _ _ d.0 d.1) done.split-own.ensures
+    let f = c.before.before in
+    let l = f.before.before.before.before.before in
+    let r = l.before.before.before.before in
+    let zero = l.before.before.before.if1.true in
+    let list = l.complete-list.ensures in
+    (answered-0 _ _ _ r.refusal.ensures.0 zero (f.fill.ensures ∙ ap (split_by_rule _ _) list), left-completed _ _ _ zero list)
+
+returns-2 : tie.Need-returns-2
+returns-2 c = (answered-refused _ _ c.before.refusal.ensures.0 c.if1.false, left-lent _ _ c.before.refusal.ensures.0 c.if1.false)
 
 pub split-spec : {M : Type 1} → statement M
 split-spec =
-    tie.close (tie.spec (λ c. search needs) (λ c κs. search needs) array-borrow-prefix-own slice-aggregate-split-own (λ c κs. search needs) (λ c. search needs) returns)
+    tie.close
+    (tie.spec (λ c κs. search needs) complete-list-requires fill-requires (λ c. search needs) (λ c. search needs) returns (λ c. search needs) (λ c. search needs)
+    returns-2)

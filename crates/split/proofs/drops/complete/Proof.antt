@@ -3,7 +3,7 @@ use Rattle.flash.proofs.Kit.{◌≡◌, ap, ◌∙◌, not, ℕ, ◌<◌, arith,
 use Rattle.flash.specs.Lists.{any}
 use Rattle.split.specs.OneToOne.{kept_entries}
 use Rattle.split.specs.Drops.{completed}
-use Rattle.split.specs.Bits.{is_marked}
+use Rattle.split.specs.inner.Mask.{is_marked}
 use Rattle.split.proofs.MarkLaws.{unmarked}
 use Rattle.split.proofs.DropLaws.{completed-below, completed-free}
 use Rattle.split.proofs.drops.complete.Statement.{statement}

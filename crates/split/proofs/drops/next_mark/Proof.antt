@@ -3,7 +3,7 @@ use Rattle.flash.proofs.Kit.{◌≡◌, sym, ◌∙◌, false, ⊎_elim, ℕ, �
 use Rattle.flash.proofs.Comparisons.{lt-cases}
 use Rattle.flash.proofs.Ranges.{first-is, none_is}
 use Rattle.flash.proofs.Searches.{first-none}
-use Rattle.split.specs.Bits.{is_marked}
+use Rattle.split.specs.inner.Mask.{is_marked}
 use Rattle.split.proofs.MarkLaws.{skips, skipped-lt, skipped-marked}
 use Rattle.split.proofs.drops.next_mark.Statement.{statement}
 use Rattle.split.proofs.drops.next_mark.Tie as tie

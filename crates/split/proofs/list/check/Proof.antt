@@ -1,7 +1,7 @@
 -- `check` tells whether the entries of the kept pages are one-to-one, and leaves their marks.
 use Rattle.flash.proofs.Kit.{◌≡◌, refl, sym, ap, ◌∙◌, ⊎_elim, not, ℕ, ◌-◌, arith, needs, length}
 use Rattle.flash.proofs.Bools.{never_both}
-use Rattle.split.specs.Bits.{is_marked}
+use Rattle.split.specs.inner.Mask.{is_marked}
 use Rattle.split.proofs.DropLaws.{is-kept, is-dropped}
 use Rattle.split.proofs.CheckLaws.{Checked, none-checked, all-checked, all-marked, check-dropped, too_large, repeated, check-kept}
 use Rattle.split.proofs.list.check.Statement.{statement}

@@ -1,6 +1,5 @@
 -- `exchange_along_path` exchanges the two sets along the path and leaves the tables exact.
 use Rattle.flash.proofs.Kit.{◌≡◌, refl, sym, ◌∙◌, ◌+◌, ◌*◌, ◌≤◌, ◌<◌, true, arith, length}
-use Rattle.flash.proofs.Bounds.{product_le}
 use Rattle.split.specs.inner.Cells.{by_masks}
 use Rattle.split.proofs.PathLaws.{Walking, row_lt, h-lt, h-before, turn-less, turn-goes}
 use Rattle.split.proofs.Numbers.{unchanged}
@@ -79,19 +78,13 @@ before c =
     let W = (loop-of t).loop.inv.0 in
     (h-before _ _ _ _ _ _ _ _ _ _ W (more t) _ n.noted.ensures.0, omega (arith, W.room, W.numbers-sized))
 
-short : (c : tie.After-exchange2 invariant-loop decreases-loop) → (let n = noted_of c.before.before in length (loop-of n.before.before).loop.numbers ≤ 4096)
-short c =
-    let l = loop-of (noted_of c.before.before).before.before in
-    let B = (start l).pre.0 in
-    omega (arith, l.loop.inv.1, B.numbers-sized, product_le B.blocks (start l).args.m {c = 64} {d = 64} B.accepted.n-fits B.accepted.m-fits)
-
 mul-swap : tie.Need-overflow-mul-swap invariant-loop decreases-loop
 mul-swap c = record { fits = omega (arith, before c.before) }
 
 swap-requires : tie.Need-swap-requires invariant-loop decreases-loop
 swap-requires c κs =
     let R = (loop-of (noted_of c.before.before.before).before.before).loop.inv.0.ready in
-    (omega (arith, before c.before, R.a_lt), omega (arith, before c.before, R.b_lt), short c.before)
+    (omega (arith, before c.before, R.a_lt), omega (arith, before c.before, R.b_lt))
 
 abbrev second : tie.After-slice-known2 invariant-loop decreases-loop → tie.After-exchange2 invariant-loop decreases-loop
 second c = c.before.before.before.before

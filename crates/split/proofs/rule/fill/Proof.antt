@@ -1,19 +1,18 @@
 -- `fill` fills the set bytes by the rule.
 use Rattle.flash.proofs.Kit.{◌≡◌, refl, ◌∙◌, ◌-◌, ◌≤◌, arith, needs, length}
 use Rattle.flash.proofs.Bounds.{product_le}
-use Rattle.split.specs.inner.Cells.{Masked}
 use Rattle.split.specs.inner.Work.{Working}
-use Rattle.split.proofs.Filling.{work-starts, masks-start}
+use Rattle.split.proofs.Filling.{work-starts}
 use Rattle.split.proofs.InverseLaws.{rows-permuted, rows-done}
 use Rattle.split.proofs.rule.fill.Statement.{statement}
 use Rattle.split.proofs.rule.fill.Tie as tie
 
 abbrev invariant-loop : tie.invariant-loop
-invariant-loop n m list sets₀ reciprocal pages count targets₀ homes₀ sources₀ destinations₀ k₀ sets targets homes sources destinations k =
-    Working m list k sets targets homes destinations × (k ≤ length list) × (length sets ≡ length sets₀) × Masked m k sources
+invariant-loop n m list sets₀ reciprocal pages count targets₀ homes₀ destinations₀ k₀ sets targets homes destinations k =
+    Working m list k sets targets homes destinations × (k ≤ length list) × (length sets ≡ length sets₀)
 
 abbrev decreases-loop : tie.decreases-loop
-decreases-loop n m list sets₀ reciprocal pages count targets₀ homes₀ sources₀ destinations₀ k₀ sets targets homes sources destinations k = length list - k
+decreases-loop n m list sets₀ reciprocal pages count targets₀ homes₀ destinations₀ k₀ sets targets homes destinations k = length list - k
 
 reciprocal-requires : tie.Need-reciprocal-requires invariant-loop decreases-loop
 reciprocal-requires c κs = c.before.before.requires.0.some-pages
@@ -28,16 +27,16 @@ cast-count : tie.Need-overflow-cast-count invariant-loop decreases-loop
 cast-count c = record { fits = omega (arith, short c.before.before.before) }
 
 loop-holds : tie.Need-loop-init invariant-loop decreases-loop
-loop-holds c = let start = c.before.before.before in (work-starts _ _ _ _ start.requires.0 start.requires.1, omega arith, refl, masks-start _)
+loop-holds c = let start = c.before.before.before in (work-starts _ _ _ _ start.requires.0 start.requires.1, omega arith, refl)
 
 give-requires : tie.Need-give-requires invariant-loop decreases-loop
 give-requires c κs =
-    let i = c.before.before.before.before.before in
-    (i.before.loop.invariant.0, (i.before.before.reciprocal.ensures, i.loop-test.true, i.before.loop.invariant.3))
+    let i = c.before.before.before.before in
+    (i.before.loop.invariant.0, (i.before.before.reciprocal.ensures, i.loop-test.true))
 
 add-k : tie.Need-overflow-add-k invariant-loop decreases-loop
 add-k c =
-    let i = c.before.before.before.before.before.before.before.before in
+    let i = c.before.before.before.before.before.before.before in
     record { fits = omega (arith, i.loop-test.true, short i.before.before.before.before.before) }
 
 loop-less : tie.Need-loop-smaller invariant-loop decreases-loop
@@ -46,8 +45,8 @@ loop-less c = search needs
 loop-again : tie.Need-loop-preserved invariant-loop decreases-loop
 loop-again c =
     let g = c.before.before.give in
-    let i = c.before.before.before.before.before.before.before.before in
-    (g.ensures.0, omega arith, omega (arith, g.auto.1.1.1.1.0, i.before.loop.invariant.2), g.ensures.1)
+    let i = c.before.before.before.before.before.before.before in
+    (g.ensures, omega arith, omega (arith, g.auto.1.1.1.1.0, i.before.loop.invariant.2))
 
 invert-rows-requires : tie.Need-invert-rows-requires invariant-loop decreases-loop
 invert-rows-requires c κs =

@@ -5,7 +5,7 @@ use Rattle.method.specs.Place.{operation_at}
 use Rattle.listing.specs.Lines.{originals_line, erase_line}
 use Rattle.listing.proofs.InputLaws.{few-originals}
 use Rattle.listing.proofs.PrintLaws.{nothing-printed}
-use Rattle.places.specs.Place.{op_of}
+use Rattle.places.specs.inner.Place.{op_of}
 use Rattle.places.proofs.PlaceLaws.{number_is, is-place}
 use Rattle.places.proofs.StepTold.{IsWrite, is-write, IsErase, is-erase, told-done}
 use Rattle.checker.specs.Method.{step_text}

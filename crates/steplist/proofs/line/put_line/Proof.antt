@@ -3,7 +3,7 @@ use Rattle.flash.proofs.Kit.{◌≡◌, ap, ◌∙◌, ℕ, arith, needs}
 use Rattle.method.specs.Place.{operation_at}
 use Rattle.listing.proofs.PrintLaws.{nothing-printed}
 use Rattle.places.specs.declared.place.Op.{Op}
-use Rattle.places.specs.Place.{op_of}
+use Rattle.places.specs.inner.Place.{op_of}
 use Rattle.places.proofs.PlaceLaws.{number_is, is-place}
 use Rattle.steplist.specs.Output.{step_line}
 use Rattle.steplist.proofs.LineLaws.{op_line, line-told}

@@ -10,7 +10,7 @@ use Rattle.method.specs.State.{held_originals}
 use Rattle.method.specs.Step.{originals_of}
 use Rattle.method.proofs.cycles.SetCycles.{sent-in}
 use Rattle.method.proofs.states.PagesWritten.{number_in}
-use Rattle.places.specs.Place.{pass_of}
+use Rattle.places.specs.inner.Place.{pass_of}
 use Rattle.checker.specs.Method.{inserted, ascending}
 use Rattle.steplist.proofs.originals.originals_of.Statement.{statement}
 use Rattle.steplist.proofs.originals.originals_of.Tie as tie

@@ -3,7 +3,7 @@ use Rattle.flash.proofs.Kit.{◌≡◌, sym, ap, ◌∙◌, ⊎_elim, ◌<◌, a
 use Rattle.flash.proofs.Bools.{both}
 use Rattle.method.specs.Place.{mark_of, last_place}
 use Rattle.places.specs.declared.place.Op.TheVariants.{Write}
-use Rattle.places.specs.Place.{pass_of, op_of}
+use Rattle.places.specs.inner.Place.{pass_of, op_of}
 use Rattle.places.proofs.PlaceLaws.{all_done, goes_on, writes, page-full}
 use Rattle.places.proofs.place.Place.operation.Statement.{statement}
 use Rattle.places.proofs.place.Place.operation.Tie as tie
