@@ -14,7 +14,7 @@ use split::list::is_good;
 const MOST_SLOTS: usize = 128;
 
 // The number, the faulty line, counted from 1, and whether the listing is accepted.
-#[derive(Drop)]
+#[derive(Clone, Copy)]
 pub struct Checked {
     pub number: u32,
     pub line: usize,

@@ -14,7 +14,7 @@ const W: u8 = 87;
 const E: u8 = 69;
 
 // What a line says, with the mask of the originals that a write sums, and the position behind its line feed.
-#[derive(Drop)]
+#[derive(Clone, Copy)]
 pub enum Told {
     Write {
         block: usize,
@@ -36,7 +36,7 @@ pub enum Told {
 }
 
 // The originals of a write: whether there are some and they rise, their mask, and the position behind them.
-#[derive(Drop)]
+#[derive(Clone, Copy)]
 pub struct Originals {
     pub good: bool,
     pub mask: u64,

@@ -17,7 +17,7 @@ const ZERO: u8 = 48;
 pub const SPACE: u8 = 32;
 
 // What stands at a position: whether it is a number, its value up to the cap, and the position behind its digits.
-#[derive(Drop)]
+#[derive(Clone, Copy)]
 pub struct Number {
     pub good: bool,
     pub value: usize,

@@ -11,7 +11,7 @@ use crate::line::{Told, read_line};
 use crate::pages::{erase, is_bad_write, is_requested};
 
 // How far the listing is behind a line, or the answer.
-#[derive(Drop)]
+#[derive(Clone, Copy)]
 pub enum Turn {
     On {
         writes: usize,

@@ -1,6 +1,8 @@
 // The chip as the mover sees it: sizes, pages, blocks. The definitions are in specs/.
 // A function here may have a `requires`: only the crates above call it, and their proofs show it.
 
+#![tactic(auto)]
+
 pub mod block;
 pub mod bytes;
 pub mod casts;

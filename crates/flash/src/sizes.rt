@@ -13,7 +13,7 @@ pub const MOST_PAGES: usize = 64;
 pub const MOST_PAGE_BYTES: usize = 4096;
 
 // What each call is given besides the lent parts. The definitions use this struct as it is.
-#[derive(Drop)]
+#[derive(Clone, Copy)]
 pub struct Sizes {
     pub n: usize, // data blocks, 1 to 64, numbered 1 to n; block 0 is the spare
     pub m: usize, // pages of a block, 1 to 64

@@ -12,7 +12,7 @@ use crate::bytes::{FEW, copy, count_few};
 use crate::casts::wide;
 
 // The slots of one pass and how many of them count: the first stands for those that are missing.
-#[derive(Drop)]
+#[derive(Clone, Copy)]
 struct Terms {
     count: usize,
     one: usize,

@@ -10,7 +10,7 @@ pub const BLOCKS: usize = 65;
 const END: u32 = 4294967295;
 
 // A counter for each of blocks 0 to 64; the count of the most worn block and the lowest such block. The two may be wrong: `refresh` makes them afresh.
-#[derive(Drop)]
+#[derive(Clone, Copy)]
 pub struct Wear {
     pub counters: [u32; BLOCKS],
     pub highest: u32,
@@ -43,7 +43,7 @@ fn replaces(highest: u32, kept: u8, count: u32, block: u8) -> bool
 }
 
 // The pair of a record.
-#[derive(Drop)]
+#[derive(Clone, Copy)]
 pub struct Most {
     pub highest: u32,
     pub block: u8,

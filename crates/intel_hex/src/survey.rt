@@ -11,7 +11,7 @@ pub const SPANS: usize = 257;
 pub const FELL: usize = 4294967295;
 
 // For an image of `size` bytes: the number, repeated bytes apart, and the position of the record that decides it.
-#[derive(Drop)]
+#[derive(Clone, Copy)]
 pub struct Found {
     pub size: usize,
     pub number: u32,

@@ -17,7 +17,7 @@ pub const INPUT_LIMIT: usize = 4096;
 pub const MOST_NUMBERS: usize = 4160;
 
 // Whether as many numbers as an area holds were found.
-#[derive(Drop)]
+#[derive(Clone, Copy)]
 pub enum Filled {
     // They are in the area; the position behind the last.
     Full { next: usize },
@@ -96,7 +96,7 @@ fn read_numbers(text: &[u8], from: usize, count: usize, p: usize, numbers: &mut 
 }
 
 // What the input asks for.
-#[derive(Drop)]
+#[derive(Clone, Copy)]
 pub enum InputRead {
     Unreadable,
     // `refused 1`

@@ -1,5 +1,7 @@
 // The step program's text: its input is read and its lines are printed, on slices. The definitions are in specs/.
 // A function that prints requires the room that its text takes; those that read require nothing of the text.
+
+#![tactic(auto)]
 pub mod digits;
 pub mod fit;
 pub mod input;

@@ -6,7 +6,7 @@ ghost use Rattle.listing.specs.ReaderAnswers.{told_as};
 const MOST_DIGITS: usize = 5;
 
 // What is found from a position on.
-#[derive(Drop)]
+#[derive(Clone, Copy)]
 pub enum Word {
     // A number, and the position behind it.
     Number { value: u32, next: usize },

@@ -1,6 +1,6 @@
 // What a run counts of its steps. `bytes` are those of the pages written that are not erased, `reads` the stored pages that were summed for them.
 
-#[derive(Drop)]
+#[derive(Clone, Copy)]
 pub struct Tally {
     pub steps: u32,
     pub writes: u32,

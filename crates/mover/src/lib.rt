@@ -1,5 +1,7 @@
 // The mover: run, read and rebuild, each proved equal to its definition in crate `method`.
 
+#![tactic(auto)]
+
 pub mod read;
 pub mod rebuild;
 mod rebuild_refusals;

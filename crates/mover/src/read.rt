@@ -16,7 +16,7 @@ use walk::terms::read_terms;
 use walk::walk::SLOTS;
 
 // What a read returns: the refusal number, how many stored pages were summed, and how many bytes of the sum are not erased; 0 with a refusal.
-#[derive(Drop)]
+#[derive(Clone, Copy)]
 pub struct ReadResult {
     pub number: u32,
     pub count: u32,

@@ -24,7 +24,7 @@ use walk::walk::{SLOTS, row_slots};
 use walk::zero::{ZERO, backward_zero, forward_zero};
 
 // What the marks tell: the moment; and where no block is torn, the pass and the first block above those that are coded.
-#[derive(Drop)]
+#[derive(Clone, Copy)]
 pub struct Told {
     pub moment: Moment,
     pub torn: bool,

@@ -30,7 +30,7 @@ use walk::rows::{TABLE, pages_table, sources_table};
 use walk::walk::SLOTS;
 
 // What a run returns: the refusal number, and 0 in every other number with it, the counters apart. `finished` is 1, or 0 for stopped.
-#[derive(Drop)]
+#[derive(Clone, Copy)]
 pub struct RunResult {
     pub number: u32,
     pub place: u32,

@@ -13,7 +13,7 @@ use split::drops::MASKS;
 use split::list::is_good;
 
 // What both calls return: the number, the least y, and the page that forbids the next lower one.
-#[derive(Drop)]
+#[derive(Clone, Copy)]
 pub struct OrderResult {
     pub number: u32,
     pub y: usize,

@@ -8,7 +8,7 @@ use flash::casts::entry;
 use flash::quotient::{quotient, reciprocal};
 use split::drops::DROPPED;
 
-#[derive(Drop)]
+#[derive(Clone, Copy)]
 pub struct Found {
     pub y: usize,
     pub page: usize,

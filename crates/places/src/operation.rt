@@ -7,7 +7,7 @@ use flash::sizes::{Sizes, in_range};
 
 // The refusal number, or 0; the kind: 0 for a write, 1 for an erase, 2 where no step is left; the block, the page and its mark.
 // A number that does not apply is 0.
-#[derive(Drop)]
+#[derive(Clone, Copy)]
 pub struct OperationResult {
     pub number: u32,
     pub kind: u32,

@@ -8,7 +8,7 @@ ghost use Rattle.places.specs.inner.Place.{place_of, op_of};
 use flash::sizes::{Sizes, letter_after};
 
 // What is to be done at a place.
-#[derive(Drop)]
+#[derive(Clone, Copy)]
 pub enum Op {
     // A page is written with its mark: a coded page in the forward pass, an original in the backward pass.
     Write {
@@ -24,7 +24,7 @@ pub enum Op {
 }
 
 // The step number, the pass, the block that is being filled, and how many of its pages are written.
-#[derive(Drop)]
+#[derive(Clone, Copy)]
 pub struct Place {
     pub at: usize,
     pub backward: bool,

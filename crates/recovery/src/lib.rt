@@ -1,4 +1,6 @@
 // Recovery after a cut: what the marks tell, and the call mend.
 
+#![tactic(auto)]
+
 pub mod marks;
 pub mod mend;

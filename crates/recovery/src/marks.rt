@@ -15,7 +15,7 @@ use flash::bytes::is_filled;
 use flash::sizes::{Sizes, letter_after};
 
 // What the marks tell: the pass, and where in it. `answer_of` in specs/ lists the number and the values of each case.
-#[derive(Drop)]
+#[derive(Clone, Copy)]
 pub enum MarksRead {
     // They fit no moment of the move.
     NoMoment,

@@ -10,7 +10,7 @@ use flash::sizes::{Sizes, in_range, slot_count, store_length};
 use flash::wear::{Wear, rise};
 
 // The number of the refusal, or 0; the place in the move, the erases, 0 or 1, and the counters with them.
-#[derive(Drop)]
+#[derive(Clone, Copy)]
 pub struct MendResult {
     pub number: u32,
     pub place: u32,

@@ -16,7 +16,7 @@ use listing::lines::put_end;
 use places::place::last_place;
 
 // How far the listing has come: the next position, and what was counted.
-#[derive(Drop)]
+#[derive(Clone, Copy)]
 pub struct Shown {
     pub at: usize,
     pub writes: usize,

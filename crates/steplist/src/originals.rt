@@ -14,7 +14,7 @@ use walk::rows::{ROW, set_rows};
 use walk::walk::top_of;
 
 // One original, or two in rising order.
-#[derive(Drop)]
+#[derive(Clone, Copy)]
 pub enum Originals {
     One { original: usize },
     Two { low: usize, high: usize },

@@ -4,7 +4,7 @@ ghost use Rattle.walk.specs.inner.Moments.{moment_in};
 
 // Blocks below `coded` are full of s + 1, blocks from `plain` on full of s, and blocks from `done` on full of s + 2. Where no
 // block is, the number is n + 1.
-#[derive(Drop)]
+#[derive(Clone, Copy)]
 pub struct Moment {
     pub coded: usize,
     pub plain: usize,

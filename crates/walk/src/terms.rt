@@ -23,7 +23,7 @@ use flash::sizes::Sizes;
 use split::drops::is_marked;
 
 // The pages of the first `count` slots of an array, and a page of 255s where `filler` says so. Two of these cancel.
-#[derive(Drop)]
+#[derive(Clone, Copy)]
 pub struct Addends {
     pub count: usize,
     pub filler: bool,
