@@ -1,0 +1,12 @@
+-- `is_filled` meets its contract: the gathered bits are 0 while each byte is the value.
+use Rattle.flash.proofs.Kit.{◌≡◌, ◌≤◌, ◌-◌, eqb, length, take}
+use Rattle.flash.specs.Lists.{all}
+use Rattle.flash.proofs.bytes.is_filled.Given as goal
+
+-- no bit differs while each byte before i is the value
+abbrev pub invariant-loop-i : goal.invariant-loop-i
+invariant-loop-i l =
+    (l.i ≤ length l.bytes) × (eqb l.different 0 ≡ all (λ byte. eqb byte l.value) (take l.i l.bytes))
+
+abbrev pub decreases-loop-i : goal.decreases-loop-i
+decreases-loop-i l = length l.bytes - l.i
