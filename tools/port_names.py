@@ -39,7 +39,7 @@ def turned(word, declared):
 
 def texts(top, ends):
     for folder, dirs, files in os.walk(top):
-        dirs[:] = sorted(d for d in dirs if d not in ("out", ".git", "target"))
+        dirs[:] = sorted(d for d in dirs if d not in ("out", ".git"))
         for name in sorted(files):
             if name.endswith(ends):
                 yield os.path.join(folder, name)
