@@ -1,5 +1,5 @@
 -- The proofs of what specs/Claims.antt claims.
-use Rattle.flash.proofs.Kit.{◌≡◌, refl, ◌∙◌, Bool, true, false, ◌||◌, not, ℕ, arith, leb, length, eq-eqb}
+use Rattle.flash.proofs.Kit.{◌≡◌, refl, ◌∙◌, Bool, true, false, ◌||◌, not, arith, leb, eq-eqb}
 use Rattle.flash.specs.Lists.{range, any, filter, first}
 use Rattle.flash.specs.Geometry.{original_count}
 use Rattle.split.specs.OneToOne.{met_twice, is_one_to_one, kept_entries, bad_list}

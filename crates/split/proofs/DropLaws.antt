@@ -1,5 +1,5 @@
 -- What is said of a lent list that is not refused as 3, and of the list that completes it: as many places are free as pages are dropped.
-use Rattle.flash.proofs.Kit.{◌≡◌, refl, sym, ap, ◌∙◌, ◌≢◌, ⊎_elim, Bool, true, false, ◌&&◌, ◌||◌, or-false, not, List, [], ◌∷◌, ℕ, zero, suc, ◌+◌}
+use Rattle.flash.proofs.Kit.{◌≡◌, refl, sym, ap, ◌∙◌, ◌≢◌, ⊎_elim, Bool, true, false, ◌&&◌, ◌||◌, not, List, [], ◌∷◌, ℕ, zero, suc}
 use Rattle.flash.proofs.Kit.{◌≤◌, ◌<◌, not-suc-le-zero, one-add, arith, eqb, leb, length, get_or, List·getD-eq-default, take, drop, take-length, get_or-drop}
 use Rattle.flash.proofs.Kit.{eqb-true, eqb-false, eq-eqb, ne_eqb, leb-false, lt-leb, not-true, not-false}
 use Rattle.flash.specs.Lists.{range, any, count, filter}
@@ -9,7 +9,6 @@ use Rattle.flash.proofs.Bools.{bool_cases, never_both, or-false-left, or-false-r
 use Rattle.flash.proofs.Comparisons.{eq-cases, ne-lt}
 use Rattle.flash.proofs.Searches.{all_of, none-at, none_of, any_of, count_none}
 use Rattle.flash.proofs.Ranges.{length-range, one-counted}
-use Rattle.flash.proofs.Loops.{any-more}
 use Rattle.flash.proofs.Filters.{length-filter, filter_passes, filter-all, any-filter, count-not, count-or, filter-in, filter-ascends}
 use Rattle.split.proofs.OneToOneLaws.{Distinct, one-to-one-of, entry_lt}
 
@@ -134,7 +133,7 @@ module _ (originals : ℕ) (list : List ℕ) where
 -- distinct numbers below n take as many places
 taken : (n : ℕ) (xs : List ℕ) → any (leb n) xs ≡ false → met_twice xs ≡ false → count (λ place. any (eqb place) xs) (range 0 n) ≡ length xs
 unfolding any met_twice
-taken n [] small differ = count_none (λ place. any (eqb place) []) (range 0 n) (none_of _ (range 0 n) 0 (λ i h. refl))
+taken n [] small differ = count_none (λ place. any (eqb place) []) (range 0 n) (none_of (λ place. any (eqb place) []) (range 0 n) 0 (λ i h. refl))
 taken n (x ∷ xs) small differ =
     count-or (λ place. eqb place x) (λ place. any (eqb place) xs) (range 0 n)
     (λ place e. ap (λ (y : ℕ). any (eqb y) xs) (eqb-true place x e) ∙ or-false-left (any (eqb x) xs) (met_twice xs) differ)

@@ -1,5 +1,5 @@
 -- The rule page by page: the tables give the sets that the definition gives.
-use Rattle.flash.proofs.Kit.{◌≡◌, refl, sym, ap, ap₂, ◌∙◌, subst, ◌⊎◌, ◌≢◌, ⊎_elim, Bool, true, false, cond, not, List, [], ◌∷◌, ◌++◌, ℕ, suc, ◌+◌}
+use Rattle.flash.proofs.Kit.{◌≡◌, refl, sym, ap, ap₂, ◌∙◌, subst, ◌≢◌, ⊎_elim, Bool, true, false, cond, not, List, [], ◌∷◌, ◌++◌, ℕ, suc, ◌+◌}
 use Rattle.flash.proofs.Kit.{◌-◌, ◌*◌, ◌/◌, ◌%◌, ◌≤◌, ◌<◌, div-add-mod', mod-lt, add-one, not-suc-le-zero, arith, eqb, length, get_or, take, replicate}
 use Rattle.flash.proofs.Kit.{set as put, length-set, get_or-set_same, get_or-set_other, get_or-take, take-suc-set, take-set-le, eqb-true, eqb-false, eq-eqb}
 use Rattle.flash.proofs.Kit.{ne_eqb, ltb-true, lt-ltb, le-ltb, not-true, not-false}

@@ -1,5 +1,5 @@
 -- The bytes of the source blocks while the rule works, one for each set: which page has it, by its number within the block.
-use Rattle.flash.proofs.Kit.{◌≡◌, sym, ap, ◌∙◌, ◌≢◌, ⊎_elim, Bool, true, false, List, ℕ, zero, suc, ◌+◌, ◌-◌, ◌*◌, ◌/◌, ◌%◌, ◌≤◌, ◌<◌, div-add-mod'}
+use Rattle.flash.proofs.Kit.{◌≡◌, sym, ap, ◌∙◌, ◌≢◌, ⊎_elim, Bool, true, false, List, ℕ, zero, suc, ◌+◌, ◌*◌, ◌/◌, ◌%◌, ◌≤◌, ◌<◌, div-add-mod'}
 use Rattle.flash.proofs.Kit.{arith, eqb, length, get_or}
 use Rattle.flash.specs.Lists.{range, count}
 use Rattle.split.specs.Split.{source_block, set_of}

@@ -1,5 +1,5 @@
 -- Where the path for page k starts, and that the rule has done with the page where it ends.
-use Rattle.flash.proofs.Kit.{◌≡◌, refl, sym, ap, ap₂, ◌∙◌, subst, true, false, true≢false, List, [], ◌∷◌, ◌++◌, ℕ, ◌+◌, ◌-◌, ◌*◌, ◌<◌, add-one, arith}
+use Rattle.flash.proofs.Kit.{◌≡◌, refl, sym, ap, ap₂, ◌∙◌, subst, false, true≢false, List, [], ◌∷◌, ◌++◌, ℕ, ◌+◌, ◌-◌, ◌*◌, ◌<◌, add-one, arith}
 use Rattle.flash.proofs.Kit.{length, take, set as put, take-suc, not-true}
 use Rattle.split.specs.Split.{set_of}
 use Rattle.split.specs.Rule.{source, destination, block_at, sets_given}

@@ -1,5 +1,5 @@
 -- The loop of the exchange: the tables lead along the path, and are exact again at its end.
-use Rattle.flash.proofs.Kit.{◌≡◌, refl, sym, ap, ap₂, ◌∙◌, ◌⊎◌, inl, ◌≢◌, ⊎_elim, true, false, true≢false, List, ℕ, suc, ◌+◌, ◌-◌, ◌*◌, ◌/◌, ◌%◌, ◌≤◌}
+use Rattle.flash.proofs.Kit.{◌≡◌, refl, sym, ap, ap₂, ◌∙◌, inl, ◌≢◌, ⊎_elim, true, false, true≢false, List, ℕ, suc, ◌+◌, ◌-◌, ◌*◌, ◌/◌, ◌%◌, ◌≤◌}
 use Rattle.flash.proofs.Kit.{◌<◌, div-add-mod', arith, eqb, length, get_or, take, set as put, length-set, get_or-set_same, get_or-set_other, eq-eqb, ne_eqb}
 use Rattle.flash.proofs.Kit.{lt-ltb}
 use Rattle.split.specs.Split.{set_of}

@@ -1,10 +1,9 @@
 -- A pin before a drop: which answers of the split call are other ones for it.
-use Rattle.flash.proofs.Kit.{◌≡◌, ◌≢◌, refl, sym, ap, ◌∙◌, ⊎_elim, Bool, true, false, cond, ◌&&◌, not, List, [], ◌∷◌, ℕ, ◌≤◌, ◌<◌, arith, eqb, length, get_or}
-use Rattle.flash.proofs.Kit.{eqb-true, ne_eqb, not-false}
-use Rattle.flash.specs.Lists.{range, any}
-use Rattle.flash.specs.Tables.{Row, refusal}
+use Rattle.flash.proofs.Kit.{◌≡◌, ◌≢◌, ap, ◌∙◌, ⊎_elim, Bool, true, false, cond, ◌&&◌, not, [], ◌∷◌, ℕ, ◌≤◌, arith, eqb, length, get_or}
+use Rattle.flash.proofs.Kit.{eqb-true, ne_eqb}
+use Rattle.flash.specs.Tables.{refusal}
 use Rattle.flash.specs.Geometry.{in_range, original_count}
-use Rattle.flash.proofs.Bools.{bool_cases, bool_eq, both, and_both, fails, never_both}
+use Rattle.flash.proofs.Bools.{bool_cases, bool_eq, both, and_both}
 use Rattle.flash.proofs.Ranges.{none_in, any-is, any-range-find}
 use Rattle.split.specs.OneToOne.{dropped, bad_list}
 use Rattle.split.specs.Drops.{is_dropped}

@@ -1,6 +1,7 @@
 // A list of destinations and its split into sets. The definitions are in specs/.
 
 #![tactic(auto)]
+
 pub mod call;
 pub mod drops;
 mod inverse;
