@@ -1,6 +1,7 @@
 // The move: definitions of its rules (docs/RULES.md) in specs/, theorems about them in proofs/.
 
 #![tactic(auto)]
+
 ghost use Rattle.method.specs.Claims.{Claims};
 
 pub mod tally;

@@ -1,5 +1,5 @@
 -- A run that is not refused keeps what is kept: after each of its steps, once it has returned, and where it is cut.
-use Rattle.flash.proofs.Kit.{◌≡◌, refl, sym, ap, ◌∙◌, subst, ⊎_elim, true, false, cond, true≢false, List, [], ◌∷◌, ◌++◌, ℕ, suc, ◌+◌, ◌-◌, ◌*◌, ◌≤◌}
+use Rattle.flash.proofs.Kit.{◌≡◌, refl, sym, ap, ◌∙◌, subst, ⊎_elim, true, false, cond, true≢false, List, [], ◌++◌, ℕ, suc, ◌+◌, ◌-◌, ◌*◌, ◌≤◌}
 use Rattle.flash.proofs.Kit.{◌<◌, min, div-add-mod', arith, eqb, length, get_or, take, drop, length-take, length-drop, take-add, take-take, get_or-take}
 use Rattle.flash.proofs.Kit.{get_or-drop, eqb-true}
 use Rattle.flash.specs.Lists.{count}
@@ -13,7 +13,7 @@ use Rattle.flash.proofs.Bounds.{range-in}
 use Rattle.flash.proofs.Searches.{count-append}
 use Rattle.split.specs.Request.{Request}
 use Rattle.method.specs.Move.{Plan, move, plan, AcceptedMove}
-use Rattle.method.specs.Place.{Operation, write, erase, done, operations, operation_at, last_place, filled}
+use Rattle.method.specs.Place.{Operation, done, operations, operation_at, last_place, filled}
 use Rattle.method.specs.Step.{Running, steps, is_erase, operations_from}
 use Rattle.method.specs.Cut.{CutInside}
 use Rattle.method.specs.Worn.{worn_by}

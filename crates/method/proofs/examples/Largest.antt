@@ -7,7 +7,6 @@ use Rattle.flash.specs.Wear.{counter_end, unworn}
 use Rattle.flash.specs.Chip.{Chip}
 use Rattle.flash.proofs.Tables.{refusal-skip, refusal-nil}
 use Rattle.split.specs.OneToOne.{dropped, bad_list}
-use Rattle.split.specs.Drops.{completed}
 use Rattle.split.specs.Split.{is_split}
 use Rattle.split.specs.Pins.{moves_pinned}
 use Rattle.split.specs.Request.{Request, unpinned}

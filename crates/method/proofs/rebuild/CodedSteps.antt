@@ -1,11 +1,11 @@
 -- While a block is unfinished: read's slots of the two originals of a coded page differ by the slot of that page.
-use Rattle.flash.proofs.Kit.{◌≡◌, refl, sym, ap, ap₂, ◌∙◌, subst, ◌⊎◌, inl, inr, ⊎_elim, ◌≢◌, Bool, true, false, cond, ◌||◌, or-true, or-false, List, [], ◌∷◌, ℕ, zero, suc, ◌+◌, ◌-◌, ◌≤◌, ◌<◌, arith}
+use Rattle.flash.proofs.Kit.{◌≡◌, sym, ap, ap₂, ◌∙◌, ⊎_elim, Bool, true, false, cond, ◌||◌, or-true, or-false, List, [], ◌∷◌, ℕ, zero, suc, ◌+◌, ◌-◌, ◌≤◌, ◌<◌, arith}
 use Rattle.flash.specs.Lists.{range, any}
-use Rattle.flash.specs.Geometry.{block_of, letter}
+use Rattle.flash.specs.Geometry.{letter}
 use Rattle.flash.proofs.Bools.{bool_cases, never_both, fails}
 use Rattle.flash.proofs.Comparisons.{lt-cases}
 use Rattle.flash.proofs.Ranges.{any-is, none_is}
-use Rattle.split.specs.Split.{source_block, set_of}
+use Rattle.split.specs.Split.{source_block}
 use Rattle.method.specs.Move.{Move, AcceptedMove}
 use Rattle.method.specs.Cycle.{D, dest, pred, top, is_top}
 use Rattle.method.specs.Place.{Pass, forward, backward}

@@ -1,9 +1,9 @@
 -- Where no block is unfinished, every slot that read sums is one that it summed when the block was begun, or that of the block's own page.
-use Rattle.flash.proofs.Kit.{◌≡◌, refl, sym, ap, ◌∙◌, subst, ◌⊎◌, inl, inr, ⊎_elim, ◌≢◌, Bool, true, false, cond, ◌||◌, or-true, or-false, List, [], ◌∷◌, ℕ, zero, suc, ◌+◌, ◌-◌, ◌≤◌, ◌<◌, arith, eqb}
-use Rattle.flash.proofs.Kit.{eqb-true, eq-eqb, get_or}
+use Rattle.flash.proofs.Kit.{◌≡◌, refl, sym, ap, ◌∙◌, ◌⊎◌, inl, inr, ⊎_elim, ◌≢◌, Bool, true, false, cond, ◌||◌, or-true, or-false, List, [], ◌∷◌, ℕ, zero, suc, ◌+◌, ◌-◌, ◌≤◌, ◌<◌, arith, eqb}
+use Rattle.flash.proofs.Kit.{eqb-true, get_or}
 use Rattle.flash.specs.Lists.{range, any}
 use Rattle.flash.specs.Geometry.{slot, slot_of, block_of, page_of, original_count, letter}
-use Rattle.flash.proofs.Bools.{bool_cases, bool_eq, never_both, or_cases}
+use Rattle.flash.proofs.Bools.{bool_cases, never_both, or_cases}
 use Rattle.flash.proofs.Comparisons.{eq-cases, lt-cases}
 use Rattle.flash.proofs.Ranges.{any-is, none_is}
 use Rattle.split.specs.Split.{dest_block, set_of}
@@ -16,8 +16,6 @@ use Rattle.method.specs.inner.Shape.{Shape}
 use Rattle.method.proofs.cycles.Orbits.{DataBlock}
 use Rattle.method.proofs.cycles.SetCycles.{set-in, block_in, D-is, dest-in, pred_in, pred-dest}
 use Rattle.method.proofs.cycles.Tops.{top_in}
-use Rattle.method.proofs.places.PagesHeld.{edge}
-use Rattle.method.proofs.places.PlaceShape.{letter_above}
 use Rattle.method.proofs.walks.ReadsOriginals.{not_full}
 use Rattle.method.proofs.rebuild.Lists.{has}
 use Rattle.method.proofs.rebuild.BlockFilled.{JustFilled, marks_begun}

@@ -1,11 +1,11 @@
 -- Where no block is unfinished, read's sum with the zero sum added is another sum of stored pages that gives the original.
-use Rattle.flash.proofs.Kit.{◌≡◌, refl, sym, ap, ap₂, ◌∙◌, subst, ◌⊎◌, inl, inr, ⊎_elim, Bool, true, false, cond, not, List, [], ◌∷◌, map, ℕ, suc, ◌-◌, ◌≤◌, ◌<◌, arith, eqb}
+use Rattle.flash.proofs.Kit.{◌≡◌, refl, sym, ap, ap₂, ◌∙◌, subst, ◌⊎◌, inl, inr, ⊎_elim, Bool, true, false, List, [], ◌∷◌, map, ℕ, suc, ◌≤◌, ◌<◌, arith, eqb}
 use Rattle.flash.proofs.Kit.{eq-eqb, eqb-true, length, get_or, replicate, get_or-replicate, length-replicate, bit_xor, xor_zero_r, ext_get_or}
 use Rattle.flash.specs.declared.sizes.Sizes.{Sizes}
 use Rattle.flash.specs.Geometry.{original_count, slot_count}
 use Rattle.flash.specs.PageSum.{sum}
 use Rattle.flash.specs.Lists.{any}
-use Rattle.flash.proofs.Bools.{bool_cases, never_both, or_cases}
+use Rattle.flash.proofs.Bools.{never_both}
 use Rattle.flash.proofs.Bounds.{slot-in-marks}
 use Rattle.flash.proofs.Searches.{any-find, any_of}
 use Rattle.flash.proofs.Sums.{length-sum}
@@ -18,12 +18,12 @@ use Rattle.method.proofs.basics.MoveShape.{Shows}
 use Rattle.method.proofs.cycles.SetCycles.{set-in}
 use Rattle.method.proofs.places.PagesHeld.{edge}
 use Rattle.method.proofs.places.PlaceShape.{letter_above, which-pass}
-use Rattle.method.proofs.walks.StoredPages.{Reads, Sited}
+use Rattle.method.proofs.walks.StoredPages.{Reads}
 use Rattle.method.proofs.walks.ReadsOriginals.{reads}
 use Rattle.method.proofs.rebuild.Lists.{has, either, has-apart, mix, sum-byte, mix-apart}
 use Rattle.method.proofs.rebuild.BlockFilled.{JustFilled, marks_begun}
 use Rattle.method.proofs.rebuild.Values.{page_by, shows-by}
-use Rattle.method.proofs.rebuild.ZeroSum.{LastPage, L, last_slot, last_originals, rest, zero, zero_is, zero-distinct, zero-bytes, reads-begun}
+use Rattle.method.proofs.rebuild.ZeroSum.{L, last_slot, last_originals, rest, zero, zero_is, zero-distinct, zero-bytes, reads-begun}
 
 -- ---- what holds of each slot that a list has
 abbrev pub EachHas : (Q : ℕ → Type 0) → List ℕ → Type 0

@@ -1,9 +1,7 @@
 -- What is said to be rebuilt is the original, and a slot of the unfinished block loses nothing.
-use Rattle.flash.proofs.Kit.{◌≡◌, refl, sym, ap, ◌∙◌, subst, ◌≢◌, fun_ext, true, false, some, none, List, ℕ, ◌*◌, ◌/◌, ◌<◌, arith, eqb, eqb-true, length, get_or}
+use Rattle.flash.proofs.Kit.{◌≡◌, sym, ap, ◌∙◌, subst, ◌≢◌, fun_ext, false, some, List, ℕ, ◌*◌, ◌/◌, ◌<◌, arith, eqb, eqb-true, length, get_or}
 use Rattle.flash.specs.Lists.{part}
-use Rattle.flash.specs.declared.sizes.Sizes.{Sizes}
-use Rattle.flash.specs.Geometry.{letter, slot_of, original_count, slot_count, store_len}
-use Rattle.flash.specs.PageSum.{sum}
+use Rattle.flash.specs.Geometry.{letter, original_count, store_len}
 use Rattle.flash.specs.Chip.{Chip, page_at, is_unfinished}
 use Rattle.flash.proofs.Bools.{fails, never_both}
 use Rattle.flash.proofs.Blocks.{full-finished}
@@ -22,12 +20,11 @@ use Rattle.method.proofs.basics.Indexes.{clash}
 use Rattle.method.proofs.basics.MoveShape.{Holding, Shows, counted, holding-shows}
 use Rattle.method.proofs.states.RunsAddUp.{start-full, start-page}
 use Rattle.method.proofs.states.Undropped.{term-stored, no-drops}
-use Rattle.method.proofs.walks.StoredPages.{Reads, Sited}
 use Rattle.method.proofs.demand.KeptByHistories.{Kept}
 use Rattle.method.proofs.demand.EveryEvent.{along, started}
 use Rattle.method.proofs.rebuild.Lists.{has}
 use Rattle.method.proofs.rebuild.OtherSum.{other-original}
-use Rattle.method.proofs.rebuild.Taken.{RebuildTaken, rebuild-taken, FromCases, by-own, by-other, lost-torn, lost-full, from-cases, reads_now, page-length, area-part, flag_is}
+use Rattle.method.proofs.rebuild.Taken.{rebuild-taken, FromCases, by-own, by-other, lost-torn, lost-full, from-cases, reads_now, page-length, area-part, flag_is}
 
 -- ---- with nothing dropped, pages show what they store
 pub shows-stored : (M : Move) (originals : List ℕ) (chip : Chip) → length originals ≡ original_count M.sizes * M.sizes.p → Holding (undropped M) originals chip

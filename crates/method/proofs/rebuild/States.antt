@@ -1,5 +1,5 @@
 -- Stores at rest with given originals, and what their pages show at a place that they lead to.
-use Rattle.flash.proofs.Kit.{◌≡◌, refl, sym, ap, ◌∙◌, subst, true, false, List, ℕ, ◌+◌, ◌*◌, ◌≤◌, ◌<◌, zero-add, arith, eqb, length, replicate, length-replicate}
+use Rattle.flash.proofs.Kit.{◌≡◌, ap, ◌∙◌, subst, true, false, List, ℕ, ◌+◌, ◌*◌, ◌≤◌, ◌<◌, zero-add, arith, eqb, length, replicate, length-replicate}
 use Rattle.flash.specs.Lists.{range, any, part, concat_map}
 use Rattle.flash.specs.declared.sizes.Sizes.{Sizes}
 use Rattle.flash.specs.Geometry.{original_count, store_len}
@@ -13,7 +13,6 @@ use Rattle.method.specs.Move.{Plan, plan, AcceptedMove}
 use Rattle.method.specs.Place.{last_place, marks_of}
 use Rattle.method.specs.State.{chip_at_rest, originals_in, state_of}
 use Rattle.method.specs.Step.{Running, steps}
-use Rattle.method.specs.NoDrops.{undropped}
 use Rattle.method.specs.Runs.{Start}
 use Rattle.method.specs.Rebuild.{whole_move}
 use Rattle.method.proofs.basics.MoveShape.{Holding, Shows}

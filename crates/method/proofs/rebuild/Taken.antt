@@ -1,6 +1,6 @@
 -- What a rebuild that is not refused was given, and what it answers for each original.
-use Rattle.flash.proofs.Kit.{◌≡◌, refl, sym, ap, ◌∙◌, subst, ⊎_elim, Bool, true, false, cond, ◌||◌, not, Option, none, some, List, ℕ, ◌+◌, ◌*◌, ◌≤◌, ◌<◌, zero-add, arith, eqb}
-use Rattle.flash.proofs.Kit.{eqb-true, eqb-false, length, get_or, leb-false, not-false}
+use Rattle.flash.proofs.Kit.{◌≡◌, refl, ap, ◌∙◌, ⊎_elim, true, false, ◌||◌, not, Option, none, some, List, ℕ, ◌≤◌, ◌<◌, zero-add, arith, eqb}
+use Rattle.flash.proofs.Kit.{eqb-true, length, get_or, leb-false, not-false}
 use Rattle.flash.specs.Lists.{range, any, part, concat_map}
 use Rattle.flash.specs.Tables.{refusal}
 use Rattle.flash.specs.Geometry.{in_range, original_count, slot_count, store_len, marks_len}
@@ -17,15 +17,13 @@ use Rattle.split.specs.Request.{Request, bad_request}
 use Rattle.split.proofs.Answers.{lengths-are}
 use Rattle.split.specs.Answer.{split_rows, split_answer}
 use Rattle.split.proofs.DropLaws.{undropped-bad, one-to-one-undropped}
-use Rattle.split.specs.Split.{set_of}
 use Rattle.method.specs.Move.{Move, AcceptedMove}
-use Rattle.method.specs.Place.{pass_at, filling, marks_of}
-use Rattle.method.specs.Read.{read_slots, filler_page}
+use Rattle.method.specs.Read.{read_slots}
 use Rattle.method.specs.Mend.{Reading, seen, reading}
 use Rattle.method.specs.Answers.{bad_chip, marks_answer, fits_none}
-use Rattle.method.specs.Rebuild.{apart, zero_slots, rebuilt_from, rebuilt_page, rebuilt_flag, bad_areas, rebuild_rows, rebuilt, RebuildAnswer, rebuild_answer, whole_move}
+use Rattle.method.specs.Rebuild.{apart, rebuilt_from, rebuilt_page, rebuilt_flag, bad_areas, rebuild_rows, rebuilt, rebuild_answer, whole_move}
 use Rattle.method.specs.Unreadable.{flag_of}
-use Rattle.method.proofs.basics.Indexes.{map-range-at, clash}
+use Rattle.method.proofs.basics.Indexes.{map-range-at}
 use Rattle.method.proofs.basics.MoveShape.{filler-length}
 use Rattle.method.proofs.basics.EachNumber.{Each}
 use Rattle.method.proofs.recovery.MarksSeen.{slots-seen}
@@ -36,7 +34,7 @@ use Rattle.method.proofs.walks.StoredPages.{Reads}
 use Rattle.method.proofs.walks.ReadsOriginals.{reads}
 use Rattle.method.proofs.rebuild.Lists.{has}
 use Rattle.method.proofs.rebuild.BlockFilled.{JustFilled, just-filled}
-use Rattle.method.proofs.rebuild.OtherSum.{own, zero_of, other-some, other-inside}
+use Rattle.method.proofs.rebuild.OtherSum.{zero_of, other-some, other-inside}
 
 pub record RebuildTaken (R : Request) (chip : Chip) (area flags : List ℕ) (bad : ℕ) : Type 0 where
   pub accepted : AcceptedMove (whole_move R)

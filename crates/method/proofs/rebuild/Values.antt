@@ -1,5 +1,5 @@
 -- Any values of the originals are shown by some pages: those that hold, by their marks, what they should.
-use Rattle.flash.proofs.Kit.{◌≡◌, refl, ap, ap₂, ◌∙◌, ◌≢◌, cond, List, ℕ, ◌+◌, ◌-◌, ◌/◌, ◌%◌, ◌<◌, arith, eqb, length, eq-eqb, ne_eqb}
+use Rattle.flash.proofs.Kit.{◌≡◌, refl, ap, ap₂, ◌∙◌, cond, List, ℕ, ◌+◌, ◌-◌, ◌/◌, ◌%◌, ◌<◌, arith, eqb, length, eq-eqb, ne_eqb}
 use Rattle.flash.specs.declared.sizes.Sizes.{Sizes}
 use Rattle.flash.specs.Geometry.{original_count, letter}
 use Rattle.flash.specs.PageSum.{sum}

@@ -11,7 +11,7 @@ use Rattle.flash.proofs.Ranges.{all_in}
 use Rattle.flash.proofs.Blocks.{full_at}
 use Rattle.flash.proofs.Chips.{page-is, blank-mark}
 use Rattle.method.specs.Move.{Move, AcceptedMove}
-use Rattle.method.specs.Place.{forward, blank, plain, above, held_at, held_mark}
+use Rattle.method.specs.Place.{forward, above, held_at, held_mark}
 use Rattle.method.specs.State.{is_at_rest, originals_in}
 use Rattle.method.proofs.basics.MoveShape.{Holding}
 use Rattle.method.proofs.basics.AcceptedCalls.{StandsAt}

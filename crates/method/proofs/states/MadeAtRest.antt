@@ -1,5 +1,5 @@
 -- The store at rest that is made of given originals.
-use Rattle.flash.proofs.Kit.{◌≡◌, ◌∙◌, true, List, ◌++◌, ℕ, ◌+◌, ◌-◌, ◌*◌, ◌≤◌, ◌<◌, add-mul, mul-le-mul_right, arith, length, drop}
+use Rattle.flash.proofs.Kit.{◌≡◌, ◌∙◌, true, List, ℕ, ◌+◌, ◌-◌, ◌*◌, ◌≤◌, ◌<◌, add-mul, mul-le-mul_right, arith, length, drop}
 use Rattle.flash.proofs.Kit.{replicate, length-append, length-drop, length-replicate, get_or-replicate, List·getD-append, get_or-append-add}
 use Rattle.flash.proofs.Kit.{take-append-le, drop-append-le, drop_at}
 use Rattle.flash.specs.Lists.{range, all, part}

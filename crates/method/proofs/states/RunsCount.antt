@@ -1,5 +1,5 @@
 -- What a run counts: its steps, writes and erases are those of its operations, its bytes those of the pages that it wrote.
-use Rattle.flash.proofs.Kit.{◌≡◌, refl, sym, ap, ap₂, ◌∙◌, subst, false, List, ℕ, zero, suc, ◌+◌, ◌*◌, ◌≤◌, ◌<◌, zero-add, add-one, suc-mul, mul-le-mul_right, arith, length, take, drop}
+use Rattle.flash.proofs.Kit.{◌≡◌, refl, sym, ap, ap₂, ◌∙◌, subst, false, List, ℕ, zero, suc, ◌+◌, ◌*◌, ◌≤◌, ◌<◌, zero-add, add-one, suc-mul, mul-le-mul_right, arith, length, drop}
 use Rattle.flash.specs.Lists.{range, count, total}
 use Rattle.flash.specs.Tables.{refusal}
 use Rattle.flash.specs.declared.sizes.Sizes.{Sizes}

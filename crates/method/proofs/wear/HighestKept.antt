@@ -1,5 +1,5 @@
 -- The pair of the highest count: the update rule, and what calls and lists of them keep.
-use Rattle.flash.proofs.Kit.{◌≡◌, refl, sym, ap, ◌∙◌, subst, ⊎_elim, true, false, List, [], ◌∷◌, ℕ, ◌≤◌, ◌<◌, arith, length, ltb, eqb, lt-ltb, le-ltb}
+use Rattle.flash.proofs.Kit.{◌≡◌, refl, sym, ◌∙◌, subst, List, [], ◌∷◌, ℕ, arith, length, lt-ltb, le-ltb}
 use Rattle.flash.proofs.Kit.{eq-eqb, ne_eqb}
 use Rattle.flash.specs.Chip.{Chip}
 use Rattle.flash.specs.declared.wear.Wear.{Wear}

@@ -2,7 +2,7 @@
 use Rattle.flash.proofs.Kit.{◌≡◌, refl, ap, ◌∙◌, ◌⊎◌, inl, inr, ⊎_elim, true, false, ◌||◌, and-false, List, [], ◌∷◌, ◌++◌, Option, none, some, ℕ, zero, suc, ◌+◌, ◌≤◌, ◌<◌, arith, eqb, length, get_or, replicate, ne_eqb, le-ltb}
 use Rattle.flash.specs.Tables.{refusal}
 use Rattle.flash.specs.Chip.{Chip}
-use Rattle.flash.specs.Wear.{counter_end, counter_at, risen, unworn}
+use Rattle.flash.specs.Wear.{counter_end, counter_at, unworn}
 use Rattle.flash.proofs.CounterLaws.{risen-length}
 use Rattle.flash.proofs.Bools.{bool_cases}
 use Rattle.flash.proofs.Ranges.{none_is}

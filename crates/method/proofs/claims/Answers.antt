@@ -28,11 +28,7 @@ use Rattle.method.proofs.refusals.PinFirst.{pin-first}
 use Rattle.method.proofs.reach.RunsApart.{reach-of-one}
 use Rattle.method.proofs.examples.Example.{example-holds, bounds-met}
 use Rattle.method.proofs.examples.TwoPages.{two-pages-hold}
-use Rattle.method.proofs.claims.Statement.{statement}
-use Rattle.method.proofs.claims.Tie as tie
+use Rattle.method.proofs.claims.Goals as goal
 
-returns : tie.Need-returns
+pub returns : goal.returns
 returns c = record { cases = cases-hold; drop-cases = drop-cases-hold; wear-cases = wear-cases-hold; rebuild-cases = rebuild-cases-hold; reach-cases = reach-cases-hold; runs = runs-add-up; states = states-reached; counts = runs-count; reads = reads-counted; steps = steps-counted; places = places-differ; erases = erases-counted; pages = pages-rise; tops = top-is-highest; walks = walks-end; old-cuts = old-cuts; one-unfinished = one-unfinished; lines = lines-agree; erases-next = erases-next; first = first-by-all; demand-3 = demand-3; torn-loses-nothing = torn-loses-nothing; rebuilt-right = rebuilt-right; lost-exactly = lost-exactly; only-other = only-other; lost-few = lost-few; wear = wear-counts; highest = highest-kept; pins = pins-stay; pin-first = pin-first; no-drops = no-drops; reach = reach-of-one; bounds = bounds-met; example = example-holds; two-pages = two-pages-hold }
-
-pub claims-spec : {M : Type 1} → statement M
-claims-spec = tie.close (tie.spec returns)
