@@ -1,5 +1,5 @@
 -- Laws of orders: what the check of one says, and how an order of n + 1 blocks is made of one of n.
-use Rattle.flash.proofs.Kit.{◌≡◌, refl, sym, ap, ap₂, ◌∙◌, ◌⊎◌, ◌≢◌, ⊎_elim, true, false, cond, ◌&&◌, not, List, [], ◌∷◌, map, ℕ, zero, suc, ◌+◌}
+use Rattle.flash.proofs.Kit.{◌≡◌, refl, sym, ap, ap₂, ◌∙◌, ◌≢◌, ⊎_elim, true, false, cond, ◌&&◌, not, List, [], ◌∷◌, map, ℕ, zero, suc, ◌+◌}
 use Rattle.flash.proofs.Kit.{◌-◌, ◌≤◌, ◌<◌, not-suc-le-zero, le_of_suc-le-suc, arith, leb, ltb, length, length-map, get_or, le-leb, lt-leb, lt-ltb, le-ltb}
 use Rattle.flash.proofs.Kit.{leb-true, not-true, not-false}
 use Rattle.flash.specs.Lists.{any}

@@ -1,6 +1,7 @@
 // Which order of the blocks another coding would need fewest erases for. The definitions are in specs/.
 
 #![tactic(auto)]
+
 pub mod calls;
 mod places;
 mod search;
