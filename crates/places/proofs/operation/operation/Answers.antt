@@ -35,7 +35,8 @@ pub operation-requires : goal.operation-requires
 operation-requires c = (in-range _ (in-ranges c.before.before.before), is-place _ _ _ c.new.ensures)
 
 -- what the place tells is told of the number
-told_of_lem : (c : lts.After-operation tie.the-claims reads.Pre reads.Post) → (let a = c.args in c.operation.result ≡ op_of a.sizes (operation_at a.sizes a.place))
+told_of_lem : (c : lts.After-operation tie.the-claims reads.Pre reads.Post)
+    → (let a = c.args in c.operation.result ≡ op_of a.sizes (operation_at a.sizes a.place))
 told_of_lem c = let a = c.args in c.operation.ensures ∙ ap (λ (p : ℕ). op_of a.sizes (operation_at a.sizes p)) (number_is _ _ _ c.new.ensures)
 
 -- no refusal: the answer is the step

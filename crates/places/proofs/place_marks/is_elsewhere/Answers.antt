@@ -41,7 +41,8 @@ marks_stand-requires c = (c.requires.0, place_is c.before, in-move c.before, c.r
 pub returns-then-not-marks_stand : goal.returns-then-not-marks_stand
 returns-then-not-marks_stand c =
     let chip : Chip = record { store = c.args.store.now; marks = c.args.marks.now } in
-    other-marks (Z c.before.before.before) chip _ (in-move c.before.before.before) (sym c.marks_stand.ensures ∙ c.if-not-marks_stand.true) ∙ ap (is_elsewhere (Z c.before.before.before) chip) (at-is c.before.before.before)
+    let new = c.before.before.before in
+    other-marks (Z new) chip _ (in-move new) (sym c.marks_stand.ensures ∙ c.if-not-marks_stand.true) ∙ ap (is_elsewhere (Z new) chip) (at-is new)
 
 pub overflow_mul-first : goal.overflow_mul-first
 overflow_mul-first c = let f = slots c.before.before.before in omega arith
@@ -64,7 +65,8 @@ stretch_is-requires c = let f = slots c.before.before.before in (f.bytes-rise, o
 pub returns : goal.returns
 returns c =
     let a = c.args in
+    let new = c.before.before.before.before in
     rw c.stretch_is.ensures
-    (torn-is (Z c.before.before.before.before) c.new-here.result (place_is c.before.before.before.before) c.requires.0 (in-move c.before.before.before.before) a.store.now a.marks.now c.requires.1 c.requires.2
+    (torn-is (Z new) c.new-here.result (place_is new) c.requires.0 (in-move new) a.store.now a.marks.now c.requires.1 c.requires.2
     (sym c.marks_stand.ensures ∙ c.if-not-marks_stand.false))
-    ∙ ap (is_elsewhere (Z c.before.before.before.before) (record { store = a.store.now; marks = a.marks.now })) (at-is c.before.before.before.before)
+    ∙ ap (is_elsewhere (Z new) (record { store = a.store.now; marks = a.marks.now })) (at-is new)

@@ -27,7 +27,8 @@ letter_after-requires c = elim c.if-backward.branch [
 ]
 
 -- the letter is that of the pass
-mark : (c : lts.After-letter_after tie.the-claims reads.Pre reads.Post) → (let a = c.args in c.letter_after.result ≡ mark_of a.sizes (pass_of a.self.backward))
+mark : (c : lts.After-letter_after tie.the-claims reads.Pre reads.Post)
+    → (let a = c.args in c.letter_after.result ≡ mark_of a.sizes (pass_of a.self.backward))
 unfolding mark_of
 mark c = c.letter_after.ensures ∙ elim c.if-backward.branch [
   | then-backward w ↦ rw (w.pass-is, w.if-backward.true)
