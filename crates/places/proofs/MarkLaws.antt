@@ -1,5 +1,5 @@
 -- The marks that a place has, in four stretches; and the slots marked 255 that are not blank.
-use Rattle.flash.proofs.Kit.{◌≡◌, refl, sym, ap, ap₂, ◌∙◌, ◌⊎◌, ⊎_elim, Bool, true, false, cond, ◌&&◌, and_assoc, not, List, ℕ, ◌+◌, ◌-◌, ◌*◌, ◌/◌}
+use Rattle.flash.proofs.Kit.{◌≡◌, refl, sym, ap, ap₂, ◌∙◌, ⊎_elim, Bool, true, false, cond, ◌&&◌, and_assoc, not, List, ℕ, ◌+◌, ◌-◌, ◌*◌, ◌/◌}
 use Rattle.flash.proofs.Kit.{◌%◌, ◌≤◌, ◌<◌, div-lt_iff_lt-mul, le-div_iff_mul-le, mod-lt, div-add-mod', suc-mul, arith, eqb, length, get_or, take, drop}
 use Rattle.flash.proofs.Kit.{length-map, length-take, length-drop, ext_get_or, get_or-take, get_or-drop, eqb-true, eq-eqb, not-false, lt-ltb, le-ltb}
 use Rattle.flash.proofs.Kit.{mul-le-mul_right}
