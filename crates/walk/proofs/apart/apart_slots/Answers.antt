@@ -1,5 +1,5 @@
 -- The slots of the one list that the other lacks, and then the other way round.
-use Rattle.flash.proofs.Kit.{◌∙◌, ap, not, List, ◌++◌, ℕ, arith, eqb, take, rules}
+use Rattle.flash.proofs.Kit.{◌∙◌, ap, not, List, ◌++◌, ℕ, arith, eqb, take}
 use Rattle.flash.specs.Lists.{any, filter}
 use Rattle.method.specs.Rebuild.{apart}
 use Rattle.walk.proofs.apart.apart_slots.Goals as goal

@@ -1,7 +1,6 @@
 -- A slot is found where the list has it, and nowhere else.
-use Rattle.flash.proofs.Kit.{◌≡◌, refl, sym, false, ◌+◌, ◌-◌, ◌≤◌, ◌<◌, add-one, arith, eqb, take, length, rules}
+use Rattle.flash.proofs.Kit.{◌≡◌, false, ◌-◌, ◌≤◌, eqb, take}
 use Rattle.flash.specs.Lists.{any}
-use Rattle.walk.proofs.ApartLaws.{none_more, found_at}
 use Rattle.walk.proofs.apart.has_slot.Given as goal
 
 abbrev pub invariant-loop-i : goal.invariant-loop-i

@@ -1,7 +1,6 @@
 -- The slots that the other list lacks go behind the first of the array.
-use Rattle.flash.proofs.Kit.{◌≡◌, refl, sym, ◌∙◌, ⊎_elim, Bool, not, ◌++◌, append-nil, ℕ, ◌+◌, ◌-◌, ◌≤◌, ◌<◌, arith, eqb, take, length, length-set, rules}
+use Rattle.flash.proofs.Kit.{◌≡◌, not, ◌++◌, ◌+◌, ◌-◌, ◌≤◌, eqb, take, length}
 use Rattle.flash.specs.Lists.{any, filter}
-use Rattle.walk.proofs.ApartLaws.{turn-kept, turn-left}
 use Rattle.walk.proofs.apart.keep_others.Given as goal
 
 abbrev pub invariant-loop-i : goal.invariant-loop-i

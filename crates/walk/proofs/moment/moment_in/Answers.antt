@@ -1,5 +1,4 @@
 -- Which of the two numbers is n + 1 goes by the pass.
-use Rattle.flash.proofs.Kit.{rules}
 use Rattle.walk.proofs.moment.moment_in.Goals as goal
 
 pub returns-then-backward : goal.returns-then-backward

@@ -1,8 +1,8 @@
 -- The table of pages is filled original by original.
-use Rattle.flash.proofs.Kit.{◌≡◌, refl, ◌∙◌, ⊎_elim, ◌+◌, ◌-◌, ◌*◌, ◌≤◌, ◌<◌, arith, rules, length, set}
+use Rattle.flash.proofs.Kit.{◌≡◌, refl, ◌∙◌, ◌+◌, ◌*◌, ◌<◌, arith, length, set}
 use Rattle.split.specs.Split.{set_of}
 use Rattle.walk.specs.inner.Rows.{row_length, filled_by, pages_by}
-use Rattle.walk.proofs.TableLaws.{filled_more, Counts, counts-more, counts-turn, counts-in, block-is, page-is}
+use Rattle.walk.proofs.TableLaws.{filled_more, counts-more, counts-turn, counts-in, block-is, page-is}
 use Rattle.walk.proofs.rows.pages_table.Goals as goal
 use Rattle.walk.proofs.rows.pages_table.Goals.{else-page-m, then-page-m}
 use Rattle.walk.proofs.rows.pages_table.Lts as lts
@@ -41,9 +41,9 @@ loop-k-preserved c =
       more c.before.before.before,
       omega arith,
       elim c.if-page-m.branch [
-      then-page-m t ↦ rw (t.block-is, t.page-is) (counts-turn l.invariant.2 t.if-page-m.true)
-    | else-page-m t ↦ rw (t.block-is, t.page-is) (counts-more l.invariant.2 t.if-page-m.false)
-    ],
+        | then-page-m t ↦ rw (t.block-is, t.page-is) (counts-turn l.invariant.2 t.if-page-m.true)
+        | else-page-m t ↦ rw (t.block-is, t.page-is) (counts-more l.invariant.2 t.if-page-m.false)
+      ],
     )
 
 pub returns : goal.returns

@@ -1,8 +1,7 @@
 -- The table of pages is filled original by original.
-use Rattle.flash.proofs.Kit.{◌≡◌, refl, ◌∙◌, ⊎_elim, ◌+◌, ◌-◌, ◌*◌, ◌≤◌, ◌<◌, arith, rules, length, set}
-use Rattle.split.specs.Split.{set_of}
-use Rattle.walk.specs.inner.Rows.{row_length, filled_by, pages_by}
-use Rattle.walk.proofs.TableLaws.{filled_more, Counts, counts-more, counts-turn, counts-in, block-is, page-is}
+use Rattle.flash.proofs.Kit.{◌≡◌, ◌-◌, ◌≤◌, length}
+use Rattle.walk.specs.inner.Rows.{pages_by}
+use Rattle.walk.proofs.TableLaws.{Counts}
 use Rattle.walk.proofs.rows.pages_table.Given as goal
 
 abbrev pub invariant-loop-k : goal.invariant-loop-k

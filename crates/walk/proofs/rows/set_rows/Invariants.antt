@@ -1,11 +1,8 @@
 -- The rows of one set are filled block by block.
-use Rattle.flash.proofs.Kit.{◌≡◌, refl, ap, ◌∙◌, ℕ, ◌+◌, ◌-◌, ◌*◌, ◌/◌, ◌≤◌, suc-mul, add-one, arith, length, get_or, length-take, length-drop, rules}
-use Rattle.flash.proofs.Bounds.{product_le}
-use Rattle.flash.proofs.Parts.{part-fits}
+use Rattle.flash.proofs.Kit.{◌≡◌, ◌+◌, ◌-◌, ◌*◌, ◌≤◌}
 use Rattle.method.specs.Move.{move_of}
-use Rattle.method.proofs.cycles.SetCycles.{entry_in}
 use Rattle.walk.specs.inner.Rows.{filled_by}
-use Rattle.walk.proofs.TableLaws.{filled_more, page_from, goes_to, Found, found, pages-row, sources-row}
+use Rattle.walk.proofs.TableLaws.{page_from, goes_to}
 use Rattle.walk.proofs.rows.set_rows.Given as goal
 
 abbrev pub invariant-loop-block : goal.invariant-loop-block

@@ -1,9 +1,9 @@
 -- The table of sources is filled original by original.
-use Rattle.flash.proofs.Kit.{◌≡◌, refl, ap, ◌∙◌, ⊎_elim, ℕ, ◌+◌, ◌-◌, ◌*◌, ◌≤◌, ◌<◌, arith, rules, length, set}
+use Rattle.flash.proofs.Kit.{◌≡◌, refl, ap, ◌∙◌, ℕ, ◌+◌, ◌*◌, ◌<◌, arith, length, set}
 use Rattle.flash.proofs.Bounds.{product_le}
 use Rattle.split.specs.Split.{set_of}
 use Rattle.walk.specs.inner.Rows.{row_length, filled_by, sources_by}
-use Rattle.walk.proofs.TableLaws.{filled_more, length-filled, Counts, counts-more, counts-turn, counts-in, block-is, block-lt}
+use Rattle.walk.proofs.TableLaws.{filled_more, length-filled, counts-more, counts-turn, counts-in, block-is, block-lt}
 use Rattle.walk.proofs.rows.sources_table.Goals as goal
 use Rattle.walk.proofs.rows.sources_table.Goals.{else-page-m, then-page-m}
 use Rattle.walk.proofs.rows.sources_table.Lts as lts
@@ -40,8 +40,7 @@ quotient-target-requires c =
 index-lt : (c : lts.After-wide tie.the-claims reads.Pre reads.Post goal.the-invariant-loop-k goal.the-decreases-loop-k) → (c.wide.result < 64) × (c.quotient-target.result < 64)
 index-lt c =
     let z = c.args.sizes in
-    let B = c.requires.0 in
-    (
+    let B = c.requires.0 in (
       omega (arith, c.wide.ensures, c.requires.2.set-lt c.loop-k.k (inside c.before.before.before.before.before.before).0, B.m-high),
       omega (arith, c.quotient-target.ensures, block-lt z.n z.m c.entry.result B.m-low (goes c.before.before.before.before), B.n-high),
     )
@@ -73,9 +72,9 @@ loop-k-preserved c =
       more c.before.before,
       omega arith,
       elim c.if-page-m.branch [
-      then-page-m t ↦ rw (t.block-is, t.page-is) (counts-turn l.invariant.2 t.if-page-m.true)
-    | else-page-m t ↦ rw (t.block-is, t.page-is) (counts-more l.invariant.2 t.if-page-m.false)
-    ],
+        | then-page-m t ↦ rw (t.block-is, t.page-is) (counts-turn l.invariant.2 t.if-page-m.true)
+        | else-page-m t ↦ rw (t.block-is, t.page-is) (counts-more l.invariant.2 t.if-page-m.false)
+      ],
     )
 
 pub shape_of-sources : goal.shape_of-sources

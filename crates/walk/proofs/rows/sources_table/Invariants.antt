@@ -1,9 +1,7 @@
 -- The table of sources is filled original by original.
-use Rattle.flash.proofs.Kit.{◌≡◌, refl, ap, ◌∙◌, ⊎_elim, ℕ, ◌+◌, ◌-◌, ◌*◌, ◌≤◌, ◌<◌, arith, rules, length, set}
-use Rattle.flash.proofs.Bounds.{product_le}
-use Rattle.split.specs.Split.{set_of}
-use Rattle.walk.specs.inner.Rows.{row_length, filled_by, sources_by}
-use Rattle.walk.proofs.TableLaws.{filled_more, length-filled, Counts, counts-more, counts-turn, counts-in, block-is, block-lt}
+use Rattle.flash.proofs.Kit.{◌≡◌, ◌-◌, ◌≤◌, length}
+use Rattle.walk.specs.inner.Rows.{sources_by}
+use Rattle.walk.proofs.TableLaws.{Counts}
 use Rattle.walk.proofs.rows.sources_table.Given as goal
 
 abbrev pub invariant-loop-k : goal.invariant-loop-k

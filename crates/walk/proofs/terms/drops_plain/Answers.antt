@@ -1,5 +1,5 @@
 -- A slot from block `plain` on is looked up.
-use Rattle.flash.proofs.Kit.{arith, mul-le-mul_right, le-leb, lt-leb, rules}
+use Rattle.flash.proofs.Kit.{arith, mul-le-mul_right, le-leb, lt-leb}
 use Rattle.flash.proofs.Bounds.{product_le}
 use Rattle.walk.proofs.terms.drops_plain.Goals as goal
 

@@ -1,5 +1,5 @@
 -- The first slot is left out where it holds a dropped page.
-use Rattle.flash.proofs.Kit.{refl, sym, ◌∙◌, rules}
+use Rattle.flash.proofs.Kit.{refl, sym, ◌∙◌}
 use Rattle.walk.proofs.terms.first_left.Goals as goal
 
 pub returns-then-drops_plain : goal.returns-then-drops_plain

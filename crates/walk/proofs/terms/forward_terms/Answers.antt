@@ -1,5 +1,5 @@
 -- The terms of c(i): what is left behind D(i), and D(i) itself or 255s.
-use Rattle.flash.proofs.Kit.{◌≡◌, ◌∙◌, ℕ, ◌+◌, ◌-◌, ◌*◌, ◌≤◌, ◌<◌, arith, length, get_or, rules}
+use Rattle.flash.proofs.Kit.{◌≡◌, ◌∙◌, ℕ, ◌+◌, ◌-◌, ◌*◌, ◌≤◌, ◌<◌, arith, length, get_or}
 use Rattle.flash.proofs.Bounds.{product_le}
 use Rattle.method.proofs.basics.Indexes.{slot_lt}
 use Rattle.walk.specs.inner.Terms.{drops_plain}
@@ -85,6 +85,9 @@ returns c =
     let fits : c.forward_slots-count.result ≤ length c.forward_slots-count.new.slots = omega (arith, G.2, G.3) in
     let slots = c.forward_slots-count.new.slots in
     let is_out = drops_plain a.sizes.m (a.block + 1) a.drops.now (get_or slots 0 0) in
-    let among = first-among (Read a.sizes a.set a.block) slots c.forward_slots-count.result fits (inside c.before.before.before.before.before.before.before.before.before.before) is_out c.rest_left-left.result few.0 few.1 in record { count_le_slots_length = rw (E.0, E.1) (omega (arith, among.0, G.2), among.1 ∙ G.3, among.2); by_index = λ list sets marks A P Q S. forward-adds a.sizes list sets a.drops.now A marks a.block S a.set c.requires.n_bound.2 a.pages.now a.sources.now P Q
+    let among = first-among (Read a.sizes a.set a.block) slots c.forward_slots-count.result fits (inside c.before.before.before.before.before.before.before.before.before.before) is_out c.rest_left-left.result few.0 few.1 in record {
+      count_le_slots_length = rw (E.0, E.1) (omega (arith, among.0, G.2), among.1 ∙ G.3, among.2);
+      by_index = λ list sets marks A P Q S. forward-adds a.sizes list sets a.drops.now A marks a.block S a.set c.requires.n_bound.2 a.pages.now a.sources.now P Q
           c.requires.pages_in.2 _ c.forward_slots-count.result fits G.0 c.rest_left-left.result c.first_left.result _
-          (c.rest_left-left.ensures ∙ rw (c.wide.ensures, c.wide-u.ensures)) E.0 E.1 }
+          (c.rest_left-left.ensures ∙ rw (c.wide.ensures, c.wide-u.ensures)) E.0 E.1;
+    }

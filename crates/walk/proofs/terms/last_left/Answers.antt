@@ -1,5 +1,5 @@
 -- The last slot is left out where it holds a dropped page.
-use Rattle.flash.proofs.Kit.{sym, ◌∙◌, rules}
+use Rattle.flash.proofs.Kit.{sym, ◌∙◌}
 use Rattle.walk.proofs.terms.last_left.Goals as goal
 
 pub returns-then-drops_plain : goal.returns-then-drops_plain

@@ -1,5 +1,5 @@
 -- A dropped page is not looked for; of the slots of another, the last may be left out.
-use Rattle.flash.proofs.Kit.{◌≡◌, sym, ◌∙◌, List, [], ℕ, ◌-◌, ◌≤◌, ◌<◌, arith, length, get_or, rules}
+use Rattle.flash.proofs.Kit.{◌≡◌, sym, ◌∙◌, List, [], ℕ, ◌-◌, ◌≤◌, ◌<◌, arith, length, get_or}
 use Rattle.flash.specs.Geometry.{slot_count}
 use Rattle.flash.proofs.Bounds.{product_le}
 use Rattle.method.specs.Move.{move_of}
@@ -24,8 +24,11 @@ is_marked-requires c =
 pub returns-then-is_marked : goal.returns-then-is_marked
 returns-then-is_marked c =
     let a = c.args in
-    rw c.only_filler.ensures record { count_le_slots_length = (omega arith, c.requires.3, λ j h. absurd (omega arith)); by_index = λ marks H. moment-dropped a.sizes a.list.now a.sets.now a.drops.now c.requires.0 marks a.moment H a.k c.requires.1 a.slots.now
-          (sym c.is_marked.ensures ∙ c.if-is_marked.true) }
+    rw c.only_filler.ensures record {
+      count_le_slots_length = (omega arith, c.requires.3, λ j h. absurd (omega arith));
+      by_index = λ marks H. moment-dropped a.sizes a.list.now a.sets.now a.drops.now c.requires.0 marks a.moment H a.k c.requires.1 a.slots.now
+          (sym c.is_marked.ensures ∙ c.if-is_marked.true);
+    }
 
 -- the slots that were gathered, by the marks that have the moment
 gathered : (c : lts.After-read_slots tie.the-claims reads.Pre reads.Post tie.handed_clauses)
@@ -65,6 +68,9 @@ returns c =
     let W = within c.before.before.before.before in
     let count = c.read_slots-count.result in
     let slots = c.read_slots-count.new.slots in
-    let few : c.last_left.result.count ≤ count = rw c.last_left.ensures (last-few (drops_plain a.sizes.m a.moment.plain a.drops.now (get_or slots (count - 1) 0)) count).1 in record { count_le_slots_length = (omega (arith, W.1), W.2, λ j h. W.3 j (omega arith)); by_index = λ marks H. rw c.last_left.ensures
+    let few : c.last_left.result.count ≤ count = rw c.last_left.ensures (last-few (drops_plain a.sizes.m a.moment.plain a.drops.now (get_or slots (count - 1) 0)) count).1 in record {
+      count_le_slots_length = (omega (arith, W.1), W.2, λ j h. W.3 j (omega arith));
+      by_index = λ marks H. rw c.last_left.ensures
           (moment-kept a.sizes a.list.now a.sets.now a.drops.now c.requires.0 marks a.moment H a.k c.requires.1 slots a.slots.now count
-          (sym c.is_marked.ensures ∙ c.if-is_marked.false) (gathered c.before.before.before.before marks H)) }
+          (sym c.is_marked.ensures ∙ c.if-is_marked.false) (gathered c.before.before.before.before marks H));
+    }

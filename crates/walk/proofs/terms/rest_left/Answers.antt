@@ -1,5 +1,5 @@
 -- The slots behind the first: none, 255s in their place, or all but perhaps the last.
-use Rattle.flash.proofs.Kit.{sym, ◌∙◌, lt-ltb, le-ltb, rules}
+use Rattle.flash.proofs.Kit.{sym, ◌∙◌, lt-ltb, le-ltb}
 use Rattle.walk.proofs.terms.rest_left.Goals as goal
 
 pub returns-then-count-lt2 : goal.returns-then-count-lt2

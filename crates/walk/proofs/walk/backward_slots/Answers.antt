@@ -1,5 +1,5 @@
 -- The slots of a write in the backward pass are those of `backward_by`.
-use Rattle.flash.proofs.Kit.{arith, rules}
+use Rattle.flash.proofs.Kit.{arith}
 use Rattle.walk.proofs.GatherLaws.{count-is}
 use Rattle.walk.proofs.RowLaws.{walk-some}
 use Rattle.walk.proofs.walk.backward_slots.Goals as goal

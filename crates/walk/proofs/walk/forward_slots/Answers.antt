@@ -1,5 +1,5 @@
 -- The slots of a write in the forward pass are those of `forward_by`.
-use Rattle.flash.proofs.Kit.{sym, ◌∙◌, ◌≤◌, arith, rules, length-set, eq-eqb, ne_eqb}
+use Rattle.flash.proofs.Kit.{sym, ◌∙◌, ◌≤◌, arith, length-set, eq-eqb, ne_eqb}
 use Rattle.flash.proofs.Bounds.{product_le}
 use Rattle.walk.specs.inner.Slots.{forward_by}
 use Rattle.walk.proofs.GatherLaws.{count-is, first-put}

@@ -1,8 +1,8 @@
 -- Going back gathers the slots of `back_by`.
-use Rattle.flash.proofs.Kit.{◌≡◌, refl, ℕ, ◌+◌, ◌-◌, ◌*◌, ◌≤◌, arith, rules, eq-eqb, ne_eqb, le-leb, lt-leb}
+use Rattle.flash.proofs.Kit.{◌≡◌, refl, ◌-◌, ◌*◌, ◌≤◌, arith, eq-eqb, ne_eqb, le-leb, lt-leb}
 use Rattle.flash.proofs.Bounds.{product_le}
-use Rattle.walk.specs.inner.Slots.{walk_by, back_by}
-use Rattle.walk.proofs.GatherLaws.{Gathered, gather_none, gather-more, gather-all}
+use Rattle.walk.specs.inner.Slots.{walk_by}
+use Rattle.walk.proofs.GatherLaws.{gather_none, gather-more, gather-all}
 use Rattle.walk.proofs.RowLaws.{walk_turn}
 use Rattle.walk.proofs.walk.go_back.Goals as goal
 use Rattle.walk.proofs.walk.go_back.Lts as lts

@@ -1,10 +1,10 @@
 -- Going on gathers the slots of `on_by`.
-use Rattle.flash.proofs.Kit.{◌≡◌, refl, ◌∙◌, ℕ, ◌+◌, ◌-◌, ◌*◌, ◌≤◌, ◌<◌, arith, rules, eq-eqb, ne_eqb, le-leb, lt-leb}
+use Rattle.flash.proofs.Kit.{◌≡◌, refl, ◌∙◌, ◌+◌, ◌-◌, ◌*◌, ◌≤◌, ◌<◌, arith, eq-eqb, ne_eqb, le-leb, lt-leb}
 use Rattle.flash.proofs.Bounds.{product_le}
 use Rattle.split.proofs.SplitLaws.{block-range}
 use Rattle.method.proofs.basics.Indexes.{slot_lt}
-use Rattle.walk.specs.inner.Slots.{walk_by, sent_by, on_by}
-use Rattle.walk.proofs.GatherLaws.{Gathered, gather_none, gather-more, gather-all}
+use Rattle.walk.specs.inner.Slots.{walk_by, sent_by}
+use Rattle.walk.proofs.GatherLaws.{gather_none, gather-more, gather-all}
 use Rattle.walk.proofs.RowLaws.{walk_turn}
 use Rattle.walk.proofs.walk.go_on.Goals as goal
 use Rattle.walk.proofs.walk.go_on.Lts as lts

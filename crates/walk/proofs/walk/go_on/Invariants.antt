@@ -1,11 +1,7 @@
 -- Going on gathers the slots of `on_by`.
-use Rattle.flash.proofs.Kit.{◌≡◌, refl, ◌∙◌, ℕ, ◌+◌, ◌-◌, ◌*◌, ◌≤◌, ◌<◌, arith, rules, eq-eqb, ne_eqb, le-leb, lt-leb}
-use Rattle.flash.proofs.Bounds.{product_le}
-use Rattle.split.proofs.SplitLaws.{block-range}
-use Rattle.method.proofs.basics.Indexes.{slot_lt}
-use Rattle.walk.specs.inner.Slots.{walk_by, sent_by, on_by}
-use Rattle.walk.proofs.GatherLaws.{Gathered, gather_none, gather-more, gather-all}
-use Rattle.walk.proofs.RowLaws.{walk_turn}
+use Rattle.flash.proofs.Kit.{◌≡◌, ℕ, ◌+◌, ◌-◌, ◌≤◌}
+use Rattle.walk.specs.inner.Slots.{on_by}
+use Rattle.walk.proofs.GatherLaws.{Gathered}
 use Rattle.walk.proofs.walk.go_on.Given as goal
 
 abbrev pub invariant-loop-count : goal.invariant-loop-count

@@ -1,5 +1,5 @@
 -- The rows of the set of original k are filled, and give its slots.
-use Rattle.flash.proofs.Kit.{refl, sym, rules}
+use Rattle.flash.proofs.Kit.{refl, sym}
 use Rattle.split.specs.Split.{set_of}
 use Rattle.method.proofs.cycles.SetCycles.{set-in}
 use Rattle.walk.proofs.walk.read_slots.Goals as goal

@@ -1,5 +1,5 @@
 -- Read's rules are taken in their order, by the moment in place of the marks.
-use Rattle.flash.proofs.Kit.{◌≡◌, refl, sym, subst, ℕ, ◌+◌, ◌*◌, ◌/◌, ◌≤◌, ◌<◌, arith, rules}
+use Rattle.flash.proofs.Kit.{◌≡◌, refl, sym, subst, ℕ, ◌+◌, ◌*◌, ◌/◌, ◌≤◌, ◌<◌, arith}
 use Rattle.flash.specs.Geometry.{block_of}
 use Rattle.flash.proofs.Bounds.{product_le}
 use Rattle.split.specs.Split.{dest_block, set_of}

@@ -1,8 +1,8 @@
 -- The loop takes the highest block of the way back, which is the top.
-use Rattle.flash.proofs.Kit.{◌≡◌, refl, sym, ap, ◌∙◌, ⊎_elim, inl, inr, ℕ, suc, ◌+◌, ◌≤◌, max, arith, rules}
+use Rattle.flash.proofs.Kit.{◌≡◌, refl, sym, ap, ◌∙◌, inl, inr, suc, max, arith}
 use Rattle.method.proofs.cycles.Orbits.{iterate, iterate-last}
 use Rattle.walk.specs.inner.Rows.{entry_of}
-use Rattle.walk.proofs.RoundLaws.{Highest, highest-first, highest-next, highest-top}
+use Rattle.walk.proofs.RoundLaws.{highest-first, highest-next, highest-top}
 use Rattle.walk.proofs.walk.top_of.Goals as goal
 use Rattle.walk.proofs.walk.top_of.Goals.{else-top-u, then-top-u}
 use Rattle.walk.proofs.walk.top_of.Lts as lts
@@ -33,8 +33,8 @@ loop-left-preserved c =
     let l = c.loop-left in
     let w = c.wide-u in
     let high : c.if-top-u.top ≡ max l.top w.result = elim c.if-top-u.branch [
-      then-top-u t ↦ omega arith
-    | else-top-u t ↦ omega arith
+      | then-top-u t ↦ omega arith
+      | else-top-u t ↦ omega arith
     ] in (
       suc l.invariant.0,
       omega arith,

@@ -1,8 +1,8 @@
 -- The loop takes the highest block of the way back, which is the top.
-use Rattle.flash.proofs.Kit.{◌≡◌, refl, sym, ap, ◌∙◌, ⊎_elim, inl, inr, ℕ, suc, ◌+◌, ◌≤◌, max, arith, rules}
-use Rattle.method.proofs.cycles.Orbits.{iterate, iterate-last}
+use Rattle.flash.proofs.Kit.{◌≡◌, ℕ, ◌+◌, ◌≤◌}
+use Rattle.method.proofs.cycles.Orbits.{iterate}
 use Rattle.walk.specs.inner.Rows.{entry_of}
-use Rattle.walk.proofs.RoundLaws.{Highest, highest-first, highest-next, highest-top}
+use Rattle.walk.proofs.RoundLaws.{Highest}
 use Rattle.walk.proofs.walk.top_of.Given as goal
 
 abbrev pub invariant-loop-left : goal.invariant-loop-left

@@ -1,5 +1,5 @@
 -- The page of the set in block b, and the slots of the original that it holds.
-use Rattle.flash.proofs.Kit.{◌≡◌, true, sym, ap, ◌∙◌, subst, List, [], ◌∷◌, ℕ, ◌+◌, ◌-◌, ◌*◌, ◌≤◌, ◌<◌, arith, rules, get_or, length}
+use Rattle.flash.proofs.Kit.{◌≡◌, true, sym, ap, ◌∙◌, subst, List, [], ◌∷◌, ℕ, ◌+◌, ◌-◌, ◌*◌, ◌≤◌, ◌<◌, arith, get_or, length}
 use Rattle.flash.proofs.Bounds.{product_le}
 use Rattle.method.specs.Cycle.{D, pred}
 use Rattle.method.specs.Move.{Move, move_of}

@@ -1,12 +1,10 @@
 -- Where i is the top, c(i) holds one original alone; else the slots of the other are gathered.
-use Rattle.flash.proofs.Kit.{◌≡◌, refl, sym, ◌∙◌, subst, true, false, List, ℕ, ◌-◌, arith, rules}
+use Rattle.flash.proofs.Kit.{◌≡◌, refl, sym, ◌∙◌, subst, true, false, List, ℕ, ◌-◌, arith}
 use Rattle.flash.proofs.Bools.{fails}
-use Rattle.method.specs.Cycle.{D, pred, top, is_top}
+use Rattle.method.specs.Cycle.{top, is_top}
 use Rattle.method.specs.Move.{Move, move_of}
-use Rattle.method.specs.Read.{read_slots}
 use Rattle.method.proofs.cycles.Tops.{is_top-true, top-is_top}
 use Rattle.walk.specs.inner.Moments.{Tells, moment_in}
-use Rattle.walk.specs.inner.Slots.{StartsWith}
 use Rattle.walk.proofs.ZeroLaws.{some-forth}
 use Rattle.walk.proofs.zero.forward_rest.Goals as goal
 use Rattle.walk.proofs.zero.forward_rest.Lts as lts

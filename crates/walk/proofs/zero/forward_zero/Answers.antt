@@ -1,5 +1,5 @@
 -- The page of the set in the block below i, the page of D(i), and the slots of the other original that it holds.
-use Rattle.flash.proofs.Kit.{◌≡◌, sym, ap, ◌∙◌, subst, cond, List, [], ◌∷◌, ℕ, ◌+◌, ◌-◌, ◌*◌, ◌≤◌, ◌<◌, arith, rules, length-replicate}
+use Rattle.flash.proofs.Kit.{◌≡◌, sym, ap, ◌∙◌, subst, cond, List, [], ◌∷◌, ℕ, ◌+◌, ◌-◌, ◌*◌, ◌≤◌, ◌<◌, arith, length-replicate}
 use Rattle.flash.specs.Geometry.{slot}
 use Rattle.flash.proofs.Bounds.{product_le}
 use Rattle.method.specs.Cycle.{D, pred, is_top}
@@ -54,8 +54,7 @@ overflow_add-i c = (omega (arith, low c.before.before.before.before.before.befor
 
 pub with_slot-requires : goal.with_slot-requires
 with_slot-requires c =
-    let F = c.forward_rest-count.ensures.result_bound in
-    (
+    let F = c.forward_rest-count.ensures.result_bound in (
       omega (arith, c.with_slot-more.ensures.1, F.0, c.with_slot-more.auto.to, length-replicate {A = ℕ} 66 0),
       subst (λ (x : ℕ). 1 + c.with_slot-more.result ≤ x) (sym c.requires.6) (omega (arith, c.with_slot-more.ensures.1, F.0)),
     )

@@ -1,5 +1,5 @@
 -- The original whose slots are gathered is D(pred(block)).
-use Rattle.flash.proofs.Kit.{◌≡◌, sym, ap, ◌∙◌, subst, ℕ, ◌+◌, ◌-◌, ◌*◌, ◌≤◌, ◌<◌, arith, rules}
+use Rattle.flash.proofs.Kit.{◌≡◌, sym, ap, ◌∙◌, subst, ℕ, ◌+◌, ◌-◌, ◌*◌, ◌≤◌, ◌<◌, arith}
 use Rattle.flash.proofs.Bounds.{product_le}
 use Rattle.split.specs.Split.{set_of}
 use Rattle.method.specs.Cycle.{D, pred}

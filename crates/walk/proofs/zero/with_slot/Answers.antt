@@ -1,5 +1,4 @@
 -- A list of one slot, and the other.
-use Rattle.flash.proofs.Kit.{rules}
 use Rattle.walk.proofs.zero.with_slot.Goals as goal
 
 pub returns : goal.returns
