@@ -1,5 +1,5 @@
 -- Lists of slots, one slot more at a time.
-use Rattle.flash.proofs.Kit.{◌≡◌, refl, sym, ap, ◌∙◌, ⊎_elim, ◌≢◌, Bool, true, false, cond, ◌||◌, not, List, [], ◌∷◌, ◌++◌, append_assoc, append-nil, ℕ, zero, suc, ◌+◌, ◌≤◌, ◌<◌, add-one, arith, eqb}
+use Rattle.flash.proofs.Kit.{◌≡◌, refl, sym, ap, ◌∙◌, ⊎_elim, ◌≢◌, Bool, true, false, cond, List, [], ◌∷◌, ◌++◌, append_assoc, append-nil, ℕ, zero, suc, ◌+◌, ◌≤◌, ◌<◌, add-one, arith, eqb}
 use Rattle.flash.proofs.Kit.{not-suc-le-zero, length, get_or, set, take, take-suc-set, length-take-le, get_or-take, eq-eqb, ne_eqb}
 use Rattle.flash.specs.Lists.{any, filter}
 use Rattle.flash.proofs.Bools.{bool_cases, or-false-left, or-false-right}

@@ -21,7 +21,6 @@ use Rattle.walk.specs.declared.moment.Moment.{Moment}
 use Rattle.walk.specs.inner.Moments.{Tells, moment_in, HasMoment}
 use Rattle.walk.specs.inner.Slots.{StartsWith}
 use Rattle.walk.specs.inner.Terms.{plan_by, AddsUp, only_filler, drops_plain, last_left}
-use Rattle.walk.proofs.ForwardLaws.{slots-are}
 use Rattle.walk.proofs.GatherLaws.{count-is}
 use Rattle.walk.proofs.MomentLaws.{tells}
 use Rattle.walk.proofs.TermLaws.{Stands, stands-none, stands-filler, last_of, before_last, taken-all, stands-taken, last-few, Long, adds-up}

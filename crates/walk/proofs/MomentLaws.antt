@@ -1,5 +1,5 @@
 -- Marks that fit the move have a moment, which tells what each block is full of.
-use Rattle.flash.proofs.Kit.{◌≡◌, ◌⊎◌, inl, inr, ⊎_elim, ◌≢◌, Bool, true, false, cond, List, ℕ, ◌+◌, ◌≤◌, ◌<◌, arith, leb, ltb, leb-true, le-leb}
+use Rattle.flash.proofs.Kit.{◌≡◌, inl, inr, ⊎_elim, ◌≢◌, Bool, true, false, cond, List, ℕ, ◌+◌, ◌≤◌, ◌<◌, arith, leb, ltb, leb-true, le-leb}
 use Rattle.flash.proofs.Kit.{lt-leb, ltb-true, lt-ltb}
 use Rattle.flash.specs.Geometry.{letter}
 use Rattle.flash.proofs.Bools.{bool_eq, fails}

@@ -1,5 +1,5 @@
 -- What is left of the slots of a write, where pages are dropped: in the forward pass, and in the backward pass.
-use Rattle.flash.proofs.Kit.{◌≡◌, refl, sym, ap, ◌∙◌, ◌⊎◌, ⊎_elim, Bool, true, false, cond, List, [], ◌∷◌, ◌++◌, map, append-nil, ℕ, suc, ◌+◌, ◌-◌}
+use Rattle.flash.proofs.Kit.{◌≡◌, refl, sym, ap, ◌∙◌, ⊎_elim, Bool, true, false, cond, List, [], ◌∷◌, ◌++◌, map, append-nil, ℕ, suc, ◌+◌, ◌-◌}
 use Rattle.flash.proofs.Kit.{◌*◌, ◌≤◌, ◌<◌, arith, length, get_or, take, drop, le-leb, length-take-le, get_or-take, suc-mul, lt-ltb, le-ltb, lt-leb}
 use Rattle.flash.proofs.Kit.{length-set, zero, subst, ◌≢◌, get_or-set_same, get_or-set_other}
 use Rattle.flash.specs.declared.sizes.Sizes.{Sizes}
@@ -10,7 +10,7 @@ use Rattle.flash.proofs.Comparisons.{eq-cases, lt-cases}
 use Rattle.split.specs.Split.{set_of}
 use Rattle.split.specs.inner.Mask.{is_marked}
 use Rattle.method.specs.Move.{Move, Plan, move_of, AcceptedMove}
-use Rattle.method.specs.Read.{Term, stored, filler, term_at, read_slots, read_terms}
+use Rattle.method.specs.Read.{Term, stored, term_at, read_slots, read_terms}
 use Rattle.method.specs.Cycle.{D, pred, is_top, coded, sent_to}
 use Rattle.method.specs.Place.{forward, backward, written}
 use Rattle.method.specs.State.{held_originals}

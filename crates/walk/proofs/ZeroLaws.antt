@@ -1,7 +1,7 @@
 -- The zero sums as the code puts them together.
-use Rattle.flash.proofs.Kit.{◌≡◌, refl, sym, ap, ap₂, ◌∙◌, subst, ⊎_elim, Bool, true, false, cond, not, List, [], ◌∷◌, ◌++◌, append-nil, ℕ, suc, ◌+◌, ◌-◌, ◌*◌, ◌/◌, ◌≤◌, ◌<◌, add-one, add-zero, div-add-mod', arith, eqb, get_or, length}
+use Rattle.flash.proofs.Kit.{◌≡◌, refl, sym, ap, ap₂, ◌∙◌, subst, ⊎_elim, true, false, cond, List, [], ◌∷◌, append-nil, ℕ, suc, ◌+◌, ◌-◌, ◌*◌, ◌/◌, ◌≤◌, ◌<◌, div-add-mod', arith, get_or}
 use Rattle.flash.specs.Lists.{any, filter}
-use Rattle.flash.specs.Geometry.{slot, slot_of, block_of, page_of, number_at, original_count}
+use Rattle.flash.specs.Geometry.{slot, block_of, page_of, number_at}
 use Rattle.flash.proofs.Bools.{bool_cases}
 use Rattle.split.specs.Split.{source_block, dest_block}
 use Rattle.method.specs.Move.{Move, AcceptedMove}
