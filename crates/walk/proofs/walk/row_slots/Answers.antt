@@ -35,6 +35,7 @@ returns-then-plain-v c =
     rw (read_plain (moves c.before.before.before.before.before.before.before) c.requires.0 marks c.args.moment T c.args.k c.requires.1 c.if-plain-v.true)
     (gather-all (gather-more (gather_none c.requires.2) refl (omega arith)) refl (omega arith))
 
+-- where it goes is a page number
 goes : (c : lts.After-entry tie.the-claims reads.Pre reads.Post tie.handed_clauses) → (let a = c.args in (c.entry-to.result < a.sizes.n * a.sizes.m) × (c.entry-to.result / a.sizes.m + 1 ≤ a.sizes.n) × (a.sizes.n * a.sizes.m ≤ 4096))
 goes c =
     let to = entry_in (moves c.before.before.before.before.before.before.before) c.requires.0 c.args.k c.requires.1 in
@@ -53,6 +54,7 @@ returns-then-done-w c =
     rw (read-final (moves c.before.before.before.before.before.before.before.before.before.before) c.requires.0 marks c.args.moment T c.args.k c.requires.1 c.if-plain-v.false (rw c.entry-to.ensures at c.if-done-w.true), c.entry-to.ensures)
     (gather-all (gather-more (gather_none c.requires.2) refl (omega arith)) refl (omega arith))
 
+-- ---- its set
 set-lt : (c : lts.After-wide tie.the-claims reads.Pre reads.Post tie.handed_clauses) → c.wide-set.result < c.args.sizes.m
 unfolding set_of
 set-lt c =

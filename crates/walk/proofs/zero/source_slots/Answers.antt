@@ -16,6 +16,7 @@ use Rattle.walk.proofs.zero.source_slots.Tie as tie
 abbrev moves : lts.Start tie.the-claims reads.Pre reads.Post → Move
 moves c = move_of c.args.sizes c.args.list.now c.args.sets.now
 
+-- the block where the page that goes there comes from
 source : (c : lts.After-wide tie.the-claims reads.Pre reads.Post) → (1 ≤ c.wide-u.result) × (c.wide-u.result ≤ c.args.sizes.n) × (c.wide-u.result ≡ pred (moves c.before.before.before.before.before.before) c.args.set c.args.block)
 source c =
     let S = c.requires.5 in
