@@ -38,7 +38,9 @@ search-init c =
     )
 
 -- the block that is looked at lies within the marks
-room : (c : lts.In-search tie.the-claims reads.Pre reads.Post goal.the-invariant-loop-page goal.the-decreases-loop-page goal.the-invariant-search goal.the-decreases-search tie.handed_clauses) → (let a = c.args in
+room : (c : lts.In-search tie.the-claims reads.Pre reads.Post goal.the-invariant-loop-page goal.the-decreases-loop-page
+    goal.the-invariant-search goal.the-decreases-search tie.handed_clauses)
+    → (let a = c.args in
     c.search.block * a.sizes.m + a.sizes.m ≤ length a.marks.now)
 room c =
     rw c.requires.marks_len (block-in-marks c.args.sizes c.search.block (omega arith))
@@ -76,7 +78,8 @@ overflow_add-unfinished c =
     let a = c.args in
     let sizes = a.sizes in
     let pages : 0 < a.sizes.m = omega arith in
-    let e = page-opens sizes pages a.marks.now o.block l.page _ _ (room c.before.before.before.before.before.before.before) c.loop-page-test.true l.invariant.1 c.if-whole-mark.true in
+    let within = room c.before.before.before.before.before.before.before in
+    let e = page-opens sizes pages a.marks.now o.block l.page _ _ within c.loop-page-test.true l.invariant.1 c.if-whole-mark.true in
     omega (arith, o.invariant.2.few)
 
 pub loop-page-preserved : goal.loop-page-preserved
@@ -86,15 +89,16 @@ loop-page-preserved c =
     let a = c.args in
     let sizes = a.sizes in
     let pages : 0 < a.sizes.m = omega arith in
+    let within = room c.before.before.before.before.before.before.before in
     elim c.if-whole-mark.branch [
       | then-whole-mark+else-unfinished-eq2 w ↦ (
         omega arith,
-        rw (w.unfinished-is, w.torn-is, w.whole-is) (page-first sizes pages a.marks.now o.block l.page _ _ (room c.before.before.before.before.before.before.before) c.loop-page-test.true
+        rw (w.unfinished-is, w.torn-is, w.whole-is) (page-first sizes pages a.marks.now o.block l.page _ _ within c.loop-page-test.true
             l.invariant.1 o.invariant.2.few w.if-unfinished-eq2.false w.if-whole-mark.true),
       )
       | else-whole-mark w ↦ (
         omega arith,
-        rw (w.unfinished-is, w.torn-is, w.whole-is) (page-same sizes pages a.marks.now o.block l.page _ _ (room c.before.before.before.before.before.before.before) c.loop-page-test.true
+        rw (w.unfinished-is, w.torn-is, w.whole-is) (page-same sizes pages a.marks.now o.block l.page _ _ within c.loop-page-test.true
             l.invariant.1 w.if-whole-mark.false),
       )
     ]

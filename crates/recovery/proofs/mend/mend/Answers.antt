@@ -31,15 +31,20 @@ pub slot_count-requires : goal.slot_count-requires
 slot_count-requires c = let B = in-range _ (in-ranges c.before.before) in (B.n-high, B.m-high)
 
 -- the test of the lengths is the table's
-lengths : (c : lts.After-slot_count tie.the-claims reads.Pre reads.Post tie.handed_clauses) → (let a = c.args in (not (eqb (length a.store.now) c.store_length.result) || not (eqb (length a.marks.now) c.slot_count.result)) ≡ bad_chip a.sizes (chip a.store.now a.marks.now))
+lengths : (c : lts.After-slot_count tie.the-claims reads.Pre reads.Post tie.handed_clauses) → (let a = c.args in
+    (not (eqb (length a.store.now) c.store_length.result) || not (eqb (length a.marks.now) c.slot_count.result))
+    ≡ bad_chip a.sizes (chip a.store.now a.marks.now))
 unfolding bad_chip
 lengths c = rw (c.store_length.ensures, c.slot_count.ensures)
 
 pub returns-then-store-store_length : goal.returns-then-store-store_length
-returns-then-store-store_length c = sym (refused-2 _ _ _ (in-ranges c.before.before.before.before) (sym (lengths c.before.before) ∙ c.if-store-store_length.true))
+returns-then-store-store_length c =
+    let s = c.before.before in
+    sym (refused-2 _ _ _ (in-ranges s.before.before) (sym (lengths s) ∙ c.if-store-store_length.true))
 
 -- the lengths are right
-good : (c : lts.Else2 tie.the-claims reads.Pre reads.Post tie.handed_clauses) → (let a = c.args in bad_chip a.sizes (chip a.store.now a.marks.now)) ≡ false
+good : (c : lts.Else2 tie.the-claims reads.Pre reads.Post tie.handed_clauses)
+    → (let a = c.args in bad_chip a.sizes (chip a.store.now a.marks.now)) ≡ false
 good c = sym (lengths c.before) ∙ c.if-store-store_length.false
 
 pub read_marks-requires : goal.read_marks-requires
@@ -48,7 +53,8 @@ read_marks-requires c =
     record { n_bound = (B.n-high, B.m-low, B.m-high, B.s-high); marks_len = (chip-lengths _ _ (good c.before)).1 }
 
 -- what the search tells
-told : (c : lts.After-read_marks tie.the-claims reads.Pre reads.Post tie.handed_clauses) → (let a = c.args in reading_of a.sizes c.read_marks.result ≡ reading a.sizes a.marks.now)
+told : (c : lts.After-read_marks tie.the-claims reads.Pre reads.Post tie.handed_clauses)
+    → (let a = c.args in reading_of a.sizes c.read_marks.result ≡ reading a.sizes a.marks.now)
 told c = what-is-told _ _ _ c.read_marks.ensures.result_value
 
 -- the change lies within the blocks
@@ -94,8 +100,9 @@ place_in_turn-requires-in-Torn c =
 
 pub rise-most-requires : goal.rise-most-requires
 rise-most-requires c =
-    let B = in-range _ (in-ranges c.before.before.before.before.before.before.before.before.before.before.before.before.before.before.before.before) in
-    omega (arith, inside c.before.before.before.before.before.before.before.before.before.before.before, B.n-high)
+    let t = c.before.before.before.before.before.before.before.before.before.before.before in
+    let B = in-range _ (in-ranges t.before.before.before.before.before) in
+    omega (arith, inside t, B.n-high)
 
 pub returns-in-NoMoment : goal.returns-in-NoMoment
 unfolding answer_of

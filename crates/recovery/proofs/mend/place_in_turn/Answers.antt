@@ -11,7 +11,8 @@ use Rattle.recovery.proofs.mend.place_in_turn.Reads as reads
 few : (c : lts.After-row_known reads.Pre reads.Post) → c.if-backward.turn * (c.args.sizes.m + 1) ≤ 128 * 65
 few c =
     let t = c.if-backward in
-    product_le t.turn (c.args.sizes.m + 1) {c = 128} {d = 65} (elim t.branch [ then-backward w ↦ omega arith | else-backward w ↦ omega arith ]) (omega arith)
+    let turns : t.turn ≤ 128 = elim t.branch [ then-backward w ↦ omega arith | else-backward w ↦ omega arith ] in
+    product_le t.turn (c.args.sizes.m + 1) {c = 128} {d = 65} turns (omega arith)
 
 pub overflow_mul-result : goal.overflow_mul-result
 overflow_mul-result c = omega (arith, few c)
