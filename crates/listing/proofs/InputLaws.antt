@@ -1,6 +1,6 @@
 -- What the parts of an input say together.
 use Rattle.flash.proofs.Kit.{◌≡◌, refl, sym, ap, ◌∙◌, Bool, true, false, cond, ◌&&◌, List, [], ◌∷◌, ◌++◌, append_assoc, append-nil, Option, none}
-use Rattle.flash.proofs.Kit.{some, ℕ, ◌+◌, ◌-◌, ◌*◌, ◌≤◌, ◌<◌, mul-le-mul, arith, eqb, leb, ltb, length, take, drop, set, length-drop, length-append}
+use Rattle.flash.proofs.Kit.{some, ℕ, ◌-◌, ◌*◌, ◌≤◌, ◌<◌, mul-le-mul, arith, eqb, leb, ltb, length, take, drop, set, length-drop, length-append}
 use Rattle.flash.proofs.Kit.{take-append-drop, length-take-le, drop-append-le, drop-length, take_at, set_split, leb-true, ltb-true, le-leb, lt-leb}
 use Rattle.flash.specs.Lists.{all}
 use Rattle.flash.specs.declared.sizes.Sizes.{Sizes}

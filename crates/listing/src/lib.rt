@@ -2,6 +2,7 @@
 // A function that prints requires the room that its text takes; those that read require nothing of the text.
 
 #![tactic(auto)]
+
 pub mod digits;
 pub mod fit;
 pub mod input;
