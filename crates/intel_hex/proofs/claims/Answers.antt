@@ -7,4 +7,12 @@ use Rattle.intel_hex.proofs.Exampled.{examples}
 use Rattle.intel_hex.proofs.claims.Goals as goal
 
 pub returns : goal.returns
-returns c = record { text_length = text-length; records_taken = records-taken; upper_halves = upper_halves; round_trip = round_trip; texts_differ = texts-differ; examples = examples }
+returns c =
+    record {
+      text_length = text-length;
+      records_taken = records-taken;
+      upper_halves = upper_halves;
+      round_trip = round_trip;
+      texts_differ = texts-differ;
+      examples = examples;
+    }

@@ -17,9 +17,11 @@ pub overflow_sub-offset : goal.overflow_sub-offset
 overflow_sub-offset c = omega (arith, c.requires.fact.0 (omega (arith, c.if-count-eq0.false)), c.if-half-w.false)
 
 pub mark-requires : goal.mark-requires
-mark-requires c = omega (arith, c.requires.fact.0 (omega (arith, c.if-count-eq0.false)), c.requires.fact.1 (omega (arith, c.if-count-eq0.false)), c.if-half-w.false)
+mark-requires c =
+    omega (arith, c.requires.fact.0 (omega (arith, c.if-count-eq0.false)), c.requires.fact.1 (omega (arith, c.if-count-eq0.false)), c.if-half-w.false)
 
 pub returns : goal.returns
 returns c =
     let a = c.args in
-    look-here a.words.now a.w a.half a.offset a.count c.requires.fact.0 c.requires.fact.1 _ _ c.if-half-w.false (omega (arith, c.if-count-eq0.false)) c.mark.ensures
+    look-here a.words.now a.w a.half a.offset a.count c.requires.fact.0 c.requires.fact.1 _ _ c.if-half-w.false (omega (arith, c.if-count-eq0.false))
+    c.mark.ensures

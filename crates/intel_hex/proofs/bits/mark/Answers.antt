@@ -17,8 +17,12 @@ returns-then-is_set c =
 pub loop-i-preserved : goal.loop-i-preserved
 loop-i-preserved c =
     let l = c.loop-i in
-    let a = c.args in
-    (marking-more a.words.now a.from l.i l.words l.invariant.0 l.invariant.1 _ (sym c.is_set.ensures ∙ c.if-is_set.false) c.set.ensures, omega arith, omega arith, omega arith)
+    let a = c.args in (
+      marking-more a.words.now a.from l.i l.words l.invariant.0 l.invariant.1 _ (sym c.is_set.ensures ∙ c.if-is_set.false) c.set.ensures,
+      omega arith,
+      omega arith,
+      omega arith,
+    )
 
 pub returns : goal.returns
 returns c =

@@ -36,7 +36,8 @@ unfolding bad_chip
 lengths c = rw (c.store_length.ensures, c.slot_count.ensures)
 
 pub returns-then-store-store_length : goal.returns-then-store-store_length
-returns-then-store-store_length c = read-2 _ _ _ _ _ (in-ranges c.before.before.before.before) (sym (lengths c.before.before) ∙ c.if-store-store_length.true)
+returns-then-store-store_length c =
+    read-2 _ _ _ _ _ (in-ranges c.before.before.before.before) (sym (lengths c.before.before) ∙ c.if-store-store_length.true)
 
 -- the lengths are right
 fit : (c : lts.Else2 tie.the-claims reads.Pre reads.Post)
@@ -72,7 +73,8 @@ returns-then-number-ne0 c =
     let r = c.read-number in
     let number = r.ensures.number_is ∙ ap (λ (size : ℕ). hex_number size text) (image-length Z a.store.now L) in
     let same = (rw (ne_eqb r.result 0 c.if-number-ne0.true) at r.ensures.image-is) in
-    read-text _ _ _ _ _ (in-ranges c.before.before.before.before.before.before.before.before.before) (sym (lengths c.before.before.before.before.before.before.before) ∙ c.if-store-store_length.false) r.result number c.if-number-ne0.true _
+    read-text _ _ _ _ _ (in-ranges c.before.before.before.before.before.before.before.before.before)
+    (sym (lengths c.before.before.before.before.before.before.before) ∙ c.if-store-store_length.false) r.result number c.if-number-ne0.true _
     (ap (put_back Z a.store.now L) same ∙ put_same Z a.store.now L)
 
 pub set_rest-requires : goal.set_rest-requires
@@ -96,4 +98,6 @@ returns c =
     let store = c.set_rest.ensures.0 ∙ ap (λ (l : List ℕ). replicate (spare_length Z) erased ++ l) behind in
     let pages = ap (λ (x : ℕ). x - a.m) L.1 ∙ other-pages Z in
     let marks = c.set_rest.ensures.1 ∙ ap (λ (x : ℕ). replicate a.m erased ++ replicate x 0) pages in
-    read-0 _ _ _ _ _ (in-ranges c.before.before.before.before.before.before.before.before.before.before.before.before.before.before.before.before) (sym (lengths c.before.before.before.before.before.before.before.before.before.before.before.before.before.before) ∙ c.if-store-store_length.false) number _ _ store marks
+    read-0 _ _ _ _ _ (in-ranges c.before.before.before.before.before.before.before.before.before.before.before.before.before.before.before.before)
+    (sym (lengths c.before.before.before.before.before.before.before.before.before.before.before.before.before.before)
+    ∙ c.if-store-store_length.false) number _ _ store marks

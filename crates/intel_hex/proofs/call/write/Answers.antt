@@ -43,7 +43,8 @@ unfolding bad_chip
 lengths c = rw (c.store_length.ensures, c.slot_count.ensures, c.length_of.ensures)
 
 pub returns-then-store-store_length : goal.returns-then-store-store_length
-returns-then-store-store_length c = write-2 _ _ _ _ _ (in-ranges c.before.before.before.before.before) (sym (lengths c.before.before) ∙ c.if-store-store_length.true)
+returns-then-store-store_length c =
+    write-2 _ _ _ _ _ (in-ranges c.before.before.before.before.before) (sym (lengths c.before.before) ∙ c.if-store-store_length.true)
 
 -- the lengths are right
 fit : (c : lts.Else2 tie.the-claims reads.Pre reads.Post)
@@ -79,13 +80,17 @@ put_image-requires c =
     let L = fit c.before.before.before.before.before in
     let a = c.args in
     let Z = rest_sizes a.n a.m a.p in
-    let n = image-length Z a.store.now L.0 in
-    (omega (arith, n, image-small Z (in-range Z (in-ranges c.before.before.before.before.before.before.before.before.before))), L.2 ∙ ap hex_length (sym n))
+    let n = image-length Z a.store.now L.0 in (
+      omega (arith, n, image-small Z (in-range Z (in-ranges c.before.before.before.before.before.before.before.before.before))),
+      L.2 ∙ ap hex_length (sym n),
+    )
 
 pub returns : goal.returns
 unfolding originals_in
 returns c =
     let a = c.args in
-    write-0 _ _ _ _ _ (in-ranges c.before.before.before.before.before.before.before.before.before.before.before.before) (sym (lengths c.before.before.before.before.before.before.before.before.before) ∙ c.if-store-store_length.false)
+    write-0 _ _ _ _ _ (in-ranges c.before.before.before.before.before.before.before.before.before.before.before.before)
+    (sym (lengths c.before.before.before.before.before.before.before.before.before) ∙ c.if-store-store_length.false)
     (sym c.if-is_elsewhere.false ∙ c.is_elsewhere.ensures) _
-    (c.put_image.ensures ∙ ap hex_text (image-is (rest_sizes a.n a.m a.p) a.store.now (fit c.before.before.before.before.before.before.before.before).0))
+    (c.put_image.ensures
+    ∙ ap hex_text (image-is (rest_sizes a.n a.m a.p) a.store.now (fit c.before.before.before.before.before.before.before.before).0))

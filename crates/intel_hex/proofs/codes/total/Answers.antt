@@ -15,8 +15,12 @@ byte_of-requires c =
 pub loop-i-preserved : goal.loop-i-preserved
 loop-i-preserved c =
     let l = c.loop-i in
-    let D = digit-pair c.args.text.now c.args.from 16 l.i c.requires.1 (omega arith) in
-    (rw c.byte_of.ensures (weight-more c.args.text.now c.args.from l.i l.sum _ _ l.invariant.0 (sym (weight-digit _ D.0)) (sym (weight-digit _ D.1))), omega (arith, c.byte_of.ensures, digit-small _ D.0, digit-small _ D.1), omega arith)
+    let D = digit-pair c.args.text.now c.args.from 16 l.i c.requires.1 (omega arith) in (
+      rw c.byte_of.ensures
+          (weight-more c.args.text.now c.args.from l.i l.sum _ _ l.invariant.0 (sym (weight-digit _ D.0)) (sym (weight-digit _ D.1))),
+      omega (arith, c.byte_of.ensures, digit-small _ D.0, digit-small _ D.1),
+      omega arith,
+    )
 
 pub returns : goal.returns
 returns c =

@@ -24,7 +24,8 @@ overflow_add-at-2 c = omega (arith, c.requires.1.inside)
 
 pub byte_at-requires : goal.byte_at-requires
 byte_at-requires c =
-    let D = framed-digits c.args.text.now c.args.at c.args.size _ c.requires.1 c.record_weight-sum.ensures (omega (arith, c.if-sum-ge-NO_DIGIT.false)) in
+    let D = framed-digits c.args.text.now c.args.at c.args.size _ c.requires.1 c.record_weight-sum.ensures
+    (omega (arith, c.if-sum-ge-NO_DIGIT.false)) in
     (c.requires.0, omega (arith, c.requires.1.inside), D (c.args.at + 7) 2 (omega arith) (omega arith))
 
 pub overflow_add-at-3 : goal.overflow_add-at-3
@@ -32,7 +33,8 @@ overflow_add-at-3 c = omega (arith, c.requires.1.inside)
 
 pub word_at-requires : goal.word_at-requires
 word_at-requires c =
-    let D = framed-digits c.args.text.now c.args.at c.args.size _ c.requires.1 c.record_weight-sum.ensures (omega (arith, c.if-sum-ge-NO_DIGIT.false)) in
+    let D = framed-digits c.args.text.now c.args.at c.args.size _ c.requires.1 c.record_weight-sum.ensures
+    (omega (arith, c.if-sum-ge-NO_DIGIT.false)) in
     (c.requires.0, omega (arith, c.requires.1.inside), D (c.args.at + 3) 4 (omega arith) (omega arith))
 
 pub returns : goal.returns

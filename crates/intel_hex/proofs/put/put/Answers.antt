@@ -14,20 +14,29 @@ loop-i-init c =
 pub put_chunk-requires : goal.put_chunk-requires
 put_chunk-requires c =
     let a = c.args in
-    let i = c.loop-i.i in
-    (omega arith, digits-part a.text.now a.from (2 * a.count) c.requires.1 (a.from + 2 * i) 32 (omega arith) (omega arith), omega (arith, c.loop-i.invariant.2))
+    let i = c.loop-i.i in (
+      omega arith,
+      digits-part a.text.now a.from (2 * a.count) c.requires.1 (a.from + 2 * i) 32 (omega arith) (omega arith),
+      omega (arith, c.loop-i.invariant.2),
+    )
 
 pub loop-i-preserved : goal.loop-i-preserved
 loop-i-preserved c =
     let a = c.args in
-    let l = c.loop-i in
-    (c.put_chunk.ensures ∙ rw l.invariant.0 (put_on a.text.now a.from a.count a.image.now a.offset l.i 16 c.requires.0 c.requires.2 (omega arith)), omega arith, omega (arith, l.invariant.2))
+    let l = c.loop-i in (
+      c.put_chunk.ensures ∙ rw l.invariant.0 (put_on a.text.now a.from a.count a.image.now a.offset l.i 16 c.requires.0 c.requires.2 (omega arith)),
+      omega arith,
+      omega (arith, l.invariant.2),
+    )
 
 pub put_rest-requires : goal.put_rest-requires
 put_rest-requires c =
     let a = c.args in
-    let i = c.loop-i.i in
-    (omega arith, digits-part a.text.now a.from (2 * a.count) c.requires.1 (a.from + 2 * i) (2 * (a.count - i)) (omega arith) (omega arith), omega (arith, c.loop-i.invariant.2))
+    let i = c.loop-i.i in (
+      omega arith,
+      digits-part a.text.now a.from (2 * a.count) c.requires.1 (a.from + 2 * i) (2 * (a.count - i)) (omega arith) (omega arith),
+      omega (arith, c.loop-i.invariant.2),
+    )
 
 pub shape_of-image : goal.shape_of-image
 shape_of-image c = omega (arith, c.loop-i.invariant.2)

@@ -19,8 +19,12 @@ loop-i-preserved c =
     let a = c.args in
     let l = c.loop-i in
     let n = length a.part.now in
-    let v = c.byte_of.ensures ∙ sym (bytes-at a.text.now a.from n l.i c.requires.0 (omega arith)) in
-    (rw (v, l.invariant.0) (front-more (bytes_from a.text.now a.from n) a.part.now l.i (length-bytes a.text.now a.from n c.requires.0) (omega arith)), omega arith, simp length-set (omega arith))
+    let v = c.byte_of.ensures ∙ sym (bytes-at a.text.now a.from n l.i c.requires.0 (omega arith)) in (
+      rw (v, l.invariant.0)
+          (front-more (bytes_from a.text.now a.from n) a.part.now l.i (length-bytes a.text.now a.from n c.requires.0) (omega arith)),
+      omega arith,
+      simp length-set (omega arith),
+    )
 
 pub returns : goal.returns
 returns c =

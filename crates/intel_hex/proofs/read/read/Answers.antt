@@ -7,7 +7,10 @@ pub repeats-requires : goal.repeats-requires
 repeats-requires c =
     let a = c.args in
     let S = c.survey-found.ensures in
-    record { weights = (c.weigh_codes.ensures, omega (arith, S.size_is, c.requires), search rules); survey_is = own-size a.text.now (length a.image.now) c.survey-found.result _ S }
+    record {
+      weights = (c.weigh_codes.ensures, omega (arith, S.size_is, c.requires), search rules);
+      survey_is = own-size a.text.now (length a.image.now) c.survey-found.result _ S;
+    }
 
 pub returns-then-repeats : goal.returns-then-repeats
 returns-then-repeats c =
@@ -19,7 +22,8 @@ pub returns-then-number-ne0 : goal.returns-then-number-ne0
 returns-then-number-ne0 c =
     let a = c.args in
     let S = c.survey-found.ensures in
-    read-faulty a.text.now (length a.image.now) a.image.now refl c.survey-found.result _ _ S (rw S.size_is at c.repeats.ensures) c.if-repeats.false c.if-number-ne0.true
+    read-faulty a.text.now (length a.image.now) a.image.now refl c.survey-found.result _ _ S (rw S.size_is at c.repeats.ensures) c.if-repeats.false
+    c.if-number-ne0.true
 
 pub put_all-requires : goal.put_all-requires
 put_all-requires c =
@@ -30,4 +34,5 @@ pub returns : goal.returns
 returns c =
     let a = c.args in
     let S = c.survey-found.ensures in
-    read_whole a.text.now (length a.image.now) a.image.now refl c.survey-found.result _ _ S (rw S.size_is at c.repeats.ensures) c.if-repeats.false _ c.if-number-ne0.false (rw S.size_is at c.put_all.ensures)
+    read_whole a.text.now (length a.image.now) a.image.now refl c.survey-found.result _ _ S (rw S.size_is at c.repeats.ensures) c.if-repeats.false _
+    c.if-number-ne0.false (rw S.size_is at c.put_all.ensures)

@@ -12,7 +12,11 @@ pub loop-w-init : goal.loop-w-init
 loop-w-init c = ((λ v h. absurd (omega arith)), omega arith)
 
 pub span_repeats-requires : goal.span_repeats-requires
-span_repeats-requires c = record { weights = (c.requires.weights.0, c.requires.survey_is.walk); text_value = (λ h. c.requires.survey_is.rising c.loop-w.w (omega (arith, c.requires.weights.1)) h) }
+span_repeats-requires c =
+    record {
+      weights = (c.requires.weights.0, c.requires.survey_is.walk);
+      text_value = (λ h. c.requires.survey_is.rising c.loop-w.w (omega (arith, c.requires.weights.1)) h);
+    }
 
 pub returns-then-span_repeats : goal.returns-then-span_repeats
 returns-then-span_repeats c =
@@ -20,7 +24,8 @@ returns-then-span_repeats c =
     repeats-found a.text.now a.found.size c.loop-w.w (c.span_repeats.ensures.repeated c.if-span_repeats.true)
 
 pub loop-w-preserved : goal.loop-w-preserved
-loop-w-preserved c = (below_more _ _ c.loop-w.invariant.0 (λ e. c.if-found-eq10.false (sym (c.span_repeats.ensures.none c.if-span_repeats.false) ∙ e)), omega arith)
+loop-w-preserved c =
+    (below_more _ _ c.loop-w.invariant.0 (λ e. c.if-found-eq10.false (sym (c.span_repeats.ensures.none c.if-span_repeats.false) ∙ e)), omega arith)
 
 pub returns : goal.returns
 returns c =

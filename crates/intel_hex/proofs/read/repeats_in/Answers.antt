@@ -22,7 +22,10 @@ look-requires c =
     let h = c.half_at-half.ensures in
     let p = c.offset_at-offset.ensures in
     let n = c.count_at.ensures in
-    record { words_len = (c.loop-at.invariant.1, omega (arith, G.half-low)); fact = ((λ q. omega (arith, G.span-start (omega arith))), (λ q. omega (arith, G.span-end (omega arith)))) }
+    record {
+      words_len = (c.loop-at.invariant.1, omega (arith, G.half-low));
+      fact = ((λ q. omega (arith, G.span-start (omega arith))), (λ q. omega (arith, G.span-end (omega arith))));
+    }
 
 pub returns-then-look : goal.returns-then-look
 returns-then-look c =
@@ -44,4 +47,5 @@ loop-at-preserved c =
     (rw (c.next_at-at.ensures, c.half_at-half.ensures) (looking-on l.invariant.0 c.loop-at-test.true K c.if-look.false), omega (arith, l.invariant.1))
 
 pub returns : goal.returns
-returns c = record { repeated = λ e. absurd (never_both e refl); none = λ _. looking-stop c.loop-at.invariant.0 (omega (arith, c.loop-at-test.false)) }
+returns c =
+    record { repeated = λ e. absurd (never_both e refl); none = λ _. looking-stop c.loop-at.invariant.0 (omega (arith, c.loop-at-test.false)) }

@@ -30,7 +30,10 @@ note-requires c =
     let h = c.half_at-half.ensures in
     let p = c.offset_at.ensures in
     let n = c.count_at.ensures in
-    record { tops_len = (c.loop-size.invariant.1, omega (arith, G.fits, c.requires.1)); half_bound = (λ q. omega (arith, G.span-start (omega arith), G.fits, c.requires.1)) }
+    record {
+      tops_len = (c.loop-size.invariant.1, omega (arith, G.fits, c.requires.1));
+      half_bound = (λ q. omega (arith, G.span-start (omega arith), G.fits, c.requires.1));
+    }
 
 pub next_at-at-requires : goal.next_at-at-requires
 next_at-at-requires c = (c.requires.0, (c.judge_at-number.ensures.steps c.if-number-ne-GOES_ON.false).good)
@@ -43,5 +46,8 @@ loop-size-smaller c =
 pub loop-size-preserved : goal.loop-size-preserved
 loop-size-preserved c =
     let l = c.loop-size in
-    let K = rw (c.half_at-half.ensures, c.offset_at.ensures, c.count_at.ensures) at c.note.ensures in
-    (rw (c.next_at-at.ensures, c.half_at-half.ensures) (surveying-on l.invariant.0 (c.judge_at-number.ensures.steps c.if-number-ne-GOES_ON.false) K c.requires.1), omega (arith, l.invariant.1))
+    let K = rw (c.half_at-half.ensures, c.offset_at.ensures, c.count_at.ensures) at c.note.ensures in (
+      rw (c.next_at-at.ensures, c.half_at-half.ensures)
+          (surveying-on l.invariant.0 (c.judge_at-number.ensures.steps c.if-number-ne-GOES_ON.false) K c.requires.1),
+      omega (arith, l.invariant.1),
+    )

@@ -2,7 +2,8 @@
 use Rattle.flash.proofs.Kit.{sym, ◌∙◌, inl, inr, arith}
 use Rattle.intel_hex.proofs.LineLaws.{bad-record}
 use Rattle.intel_hex.proofs.HeadLaws.{kind-digits, size_small, count-size}
-use Rattle.intel_hex.proofs.TurnLaws.{stops-nothing, stops-malformed, stops_end, stops-after, stops-outside, steps, judged-stop, judged-step, offset-small}
+use Rattle.intel_hex.proofs.TurnLaws.{stops-nothing, stops-malformed, stops_end, stops-after, stops-outside, steps, judged-stop, judged-step}
+use Rattle.intel_hex.proofs.TurnLaws.{offset-small}
 use Rattle.intel_hex.proofs.turn.judge_at.Goals as goal
 
 pub returns-then-at-text : goal.returns-then-at-text
@@ -33,12 +34,14 @@ next_at-requires c = (c.requires.0, c.is_good.ensures.good c.if-not-is_good.fals
 pub returns-then-next_at-text : goal.returns-then-next_at-text
 returns-then-next_at-text c =
     let G = c.is_good.ensures.good c.if-not-is_good.false in
-    judged-stop _ _ _ _ 0 (omega arith) (stops_end _ _ _ _ G (sym c.byte_at.ensures.0 ∙ c.if-byte_at-eq1.true) (sym c.next_at.ensures ∙ c.if-next_at-text.true))
+    judged-stop _ _ _ _ 0 (omega arith)
+    (stops_end _ _ _ _ G (sym c.byte_at.ensures.0 ∙ c.if-byte_at-eq1.true) (sym c.next_at.ensures ∙ c.if-next_at-text.true))
 
 pub returns-else-next_at-text : goal.returns-else-next_at-text
 returns-else-next_at-text c =
     let G = c.is_good.ensures.good c.if-not-is_good.false in
-    judged-stop _ _ _ _ 10 (omega arith) (stops-after _ _ _ _ G (sym c.byte_at.ensures.0 ∙ c.if-byte_at-eq1.true) (λ e. c.if-next_at-text.false (c.next_at.ensures ∙ e)))
+    judged-stop _ _ _ _ 10 (omega arith)
+    (stops-after _ _ _ _ G (sym c.byte_at.ensures.0 ∙ c.if-byte_at-eq1.true) (λ e. c.if-next_at-text.false (c.next_at.ensures ∙ e)))
 
 pub offset_at-requires : goal.offset_at-requires
 offset_at-requires c = (c.requires.0, c.is_good.ensures.good c.if-not-is_good.false, c.requires.2)
@@ -65,18 +68,21 @@ returns-then-upper-end c =
     let G = c.is_good.ensures.good c.if-not-is_good.false in
     let p = c.offset_at.ensures in
     let n = c.count_at.ensures in
-    judged-stop _ _ _ _ 9 (omega arith) (stops-outside _ _ _ _ G (λ e. c.if-byte_at-eq1.false (c.byte_at.ensures.0 ∙ e)) (inl (omega (arith, c.if-upper-end.true))))
+    judged-stop _ _ _ _ 9 (omega arith)
+    (stops-outside _ _ _ _ G (λ e. c.if-byte_at-eq1.false (c.byte_at.ensures.0 ∙ e)) (inl (omega (arith, c.if-upper-end.true))))
 
 pub returns-then-size-end : goal.returns-then-size-end
 returns-then-size-end c =
     let G = c.is_good.ensures.good c.if-not-is_good.false in
     let p = c.offset_at.ensures in
     let n = c.count_at.ensures in
-    judged-stop _ _ _ _ 9 (omega arith) (stops-outside _ _ _ _ G (λ e. c.if-byte_at-eq1.false (c.byte_at.ensures.0 ∙ e)) (inr (omega (arith, c.if-size-end.true))))
+    judged-stop _ _ _ _ 9 (omega arith)
+    (stops-outside _ _ _ _ G (λ e. c.if-byte_at-eq1.false (c.byte_at.ensures.0 ∙ e)) (inr (omega (arith, c.if-size-end.true))))
 
 pub returns-else-size-end : goal.returns-else-size-end
 returns-else-size-end c =
     let G = c.is_good.ensures.good c.if-not-is_good.false in
     let p = c.offset_at.ensures in
     let n = c.count_at.ensures in
-    judged-step _ _ _ _ (steps _ _ _ _ G (λ e. c.if-byte_at-eq1.false (c.byte_at.ensures.0 ∙ e)) (omega (arith, c.if-upper-end.false)) (omega (arith, c.if-size-end.false)) c.requires.2)
+    judged-step _ _ _ _ (steps _ _ _ _ G (λ e. c.if-byte_at-eq1.false (c.byte_at.ensures.0 ∙ e)) (omega (arith, c.if-upper-end.false))
+    (omega (arith, c.if-size-end.false)) c.requires.2)

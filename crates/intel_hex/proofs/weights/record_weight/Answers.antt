@@ -35,7 +35,14 @@ weight_from-requires-2 c = (c.requires.0, omega (arith, c.requires.1, c.if-size-
 pub overflow_add-result-2 : goal.overflow_add-result-2
 overflow_add-result-2 c =
     let a = c.args in
-    omega (arith, c.weight_from-head.ensures, weight-small a.text.now a.from 4, c.chunk_weight-bytes.ensures.1, c.weight_from-2.ensures, weight-small a.text.now (a.from + 40) 1)
+    omega (
+      arith,
+      c.weight_from-head.ensures,
+      weight-small a.text.now a.from 4,
+      c.chunk_weight-bytes.ensures.1,
+      c.weight_from-2.ensures,
+      weight-small a.text.now (a.from + 40) 1,
+    )
 
 pub returns : goal.returns
 returns c =

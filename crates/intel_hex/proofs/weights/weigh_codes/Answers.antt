@@ -11,7 +11,8 @@ pub loop-code-preserved : goal.loop-code-preserved
 loop-code-preserved c =
     let l = c.loop-code in
     let e = c.word-at.ensures in (
-      (λ k h. weights-more l.weights c.word-at.result _ (λ j q. l.invariant.0 j (omega arith)) (omega arith) (c.weight.ensures ∙ ap weight_of (sym e)) k (omega arith)),
+      (λ k h. weights-more l.weights c.word-at.result _ (λ j q. l.invariant.0 j (omega arith)) (omega arith) (c.weight.ensures ∙ ap weight_of (sym e))
+          k (omega arith)),
       omega arith,
       simp length-set l.invariant.2,
     )

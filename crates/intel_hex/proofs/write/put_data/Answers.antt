@@ -30,7 +30,10 @@ put_last-requires c =
     let l = c.loop-i in
     let image = c.args.image.now in
     let e : l.i ≡ length image / 16 = omega arith in
-    record { image_len_bound = omega arith; image_in_bounds = omega (arith, last-room image, l.invariant.0.next-is, ap (λ k. length (text_of (records_from image 0 k))) e) }
+    record {
+      image_len_bound = omega arith;
+      image_in_bounds = omega (arith, last-room image, l.invariant.0.next-is, ap (λ k. length (text_of (records_from image 0 k))) e);
+    }
 
 pub returns : goal.returns
 returns c =

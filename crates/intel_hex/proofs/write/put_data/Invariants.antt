@@ -6,7 +6,8 @@ use Rattle.intel_hex.proofs.write.put_data.Given as goal
 
 abbrev pub invariant-loop-i : goal.invariant-loop-i
 invariant-loop-i l =
-    Printed (text_of (records_from l.image 0 l.i)) l.initial.text 0 l.text l.next × (l.i ≤ length l.image / 16) × (length l.text ≡ length l.initial.text)
+    Printed (text_of (records_from l.image 0 l.i)) l.initial.text 0 l.text l.next × (l.i ≤ length l.image / 16)
+    × (length l.text ≡ length l.initial.text)
 
 abbrev pub decreases-loop-i : goal.decreases-loop-i
 decreases-loop-i l = length l.image / 16 - l.i
