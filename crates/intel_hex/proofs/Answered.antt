@@ -1,5 +1,5 @@
 -- Every store that the writer takes comes back from its text, and texts differ where the data bytes do.
-use Rattle.flash.proofs.Kit.{◌≡◌, sym, ap, ap₂, ◌∙◌, true, false, List, ◌++◌, ℕ, ◌+◌, arith, ltb, length, take, drop, replicate, length-drop}
+use Rattle.flash.proofs.Kit.{◌≡◌, sym, ap, ap₂, ◌∙◌, true, false, List, ◌++◌, ℕ, arith, ltb, length, take, drop, replicate, length-drop}
 use Rattle.flash.proofs.Kit.{take-append-drop, eq-eqb, not-false}
 use Rattle.flash.specs.Lists.{all}
 use Rattle.flash.specs.declared.sizes.Sizes.{Sizes}

@@ -1,5 +1,5 @@
 -- Bytes as digits, and back.
-use Rattle.flash.proofs.Kit.{◌≡◌, refl, true, false, ⊎_elim, List, [], ◌∷◌, ◌++◌, ℕ, ◌+◌, ◌-◌, ◌*◌, ◌/◌, ◌%◌, ◌≤◌, ◌<◌, arith, ltb, leb, ltb-true}
+use Rattle.flash.proofs.Kit.{◌≡◌, refl, true, false, ⊎_elim, List, [], ◌∷◌, ◌++◌, ℕ, ◌+◌, ◌*◌, ◌/◌, ◌%◌, ◌≤◌, ◌<◌, arith, ltb, leb, ltb-true}
 use Rattle.flash.proofs.Kit.{ltb-false, lt-ltb, le-leb, lt-leb}
 use Rattle.flash.specs.Lists.{all, concat_map, total}
 use Rattle.flash.proofs.Bools.{bool_cases, and_left, and_right}

@@ -8,7 +8,7 @@ use Rattle.flash.specs.Geometry.{letter, Bounds, slot, original_count, slot_coun
 use Rattle.flash.specs.Chip.{Chip, erased, mark_at}
 use Rattle.flash.proofs.Bounds.{slot-in-store}
 use Rattle.flash.proofs.Chips.{chip-eq, page-is, blank-page}
-use Rattle.method.specs.Place.{forward, blank, above, held_at, held_mark}
+use Rattle.method.specs.Place.{forward, above, held_at, held_mark}
 use Rattle.method.specs.State.{chip_at_rest, originals_in}
 use Rattle.method.proofs.basics.AcceptedCalls.{StandsAt}
 use Rattle.method.proofs.basics.Indexes.{slot_lt}

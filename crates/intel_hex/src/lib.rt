@@ -1,6 +1,7 @@
 // Intel HEX: a store at rest as text, and back. The definitions are in specs/.
 
 #![tactic(auto)]
+
 mod bits;
 pub mod call;
 mod codes;
