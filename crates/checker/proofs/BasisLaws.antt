@@ -60,7 +60,8 @@ reduced-low {i = i} (full {row = row} {rows = rows} s r q b) v =
     ∙ cleared-low i row v r.clear
 
 -- what reduces to a sum of pages is one
-reduced-sound : {most : ℕ} {pages : List ℕ} {i : ℕ} {rows : List ℕ} → Basis most pages i rows → (v : ℕ) → is_sum pages (reduced i rows v) ≡ true → is_sum pages v ≡ true
+reduced-sound : {most : ℕ} {pages : List ℕ} {i : ℕ} {rows : List ℕ} → Basis most pages i rows
+    → (v : ℕ) → is_sum pages (reduced i rows v) ≡ true → is_sum pages v ≡ true
 unfolding reduced cleared
 reduced-sound end v s = s
 reduced-sound {i = i} (gap b) v s = reduced-sound b v (rw (cleared-gap i v) at s)

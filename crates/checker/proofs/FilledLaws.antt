@@ -76,7 +76,8 @@ one-stays {i = i} {rows = rows} b e =
     absurd (omega arith)
 
 -- if each original reduces to nothing, they are as many
-all-filled : {most : ℕ} {pages : List ℕ} {i : ℕ} {rows : List ℕ} → most ≤ 64 → Basis most pages i rows → ((k : ℕ) → i ≤ k → k < most → reduced i rows (2 ^ k) ≡ 0)
+all-filled : {most : ℕ} {pages : List ℕ} {i : ℕ} {rows : List ℕ} → most ≤ 64 → Basis most pages i rows
+    → ((k : ℕ) → i ≤ k → k < most → reduced i rows (2 ^ k) ≡ 0)
     → most - i ≤ filled_rows rows
 unfolding count reduced
 all-filled few end f = omega arith

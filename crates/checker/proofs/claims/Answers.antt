@@ -8,4 +8,12 @@ use Rattle.checker.proofs.Exampled.{examples}
 use Rattle.checker.proofs.claims.Goals as goal
 
 pub returns : goal.returns
-returns c = record { lines_as_printed = lines-as-printed; never_blank = never-blank; sums_are_choices = sums-are-choices; accepts_exactly = accepts-exactly; first_decides = first-decides; method_passes = method-passes; examples = examples }
+returns c = record {
+  lines_as_printed = lines-as-printed;
+  never_blank = never-blank;
+  sums_are_choices = sums-are-choices;
+  accepts_exactly = accepts-exactly;
+  first_decides = first-decides;
+  method_passes = method-passes;
+  examples = examples;
+}

@@ -20,4 +20,5 @@ loop-i-preserved c = (
 pub returns : goal.returns
 returns c =
     let l = c.loop-i in
-    ap (λ (x : ℕ). eqb x c.args.count) l.invariant.1 ∙ filled-decides c.args.count c.requires.0 c.args.pages.now l.basis l.i l.invariant.2 c.loop-i-test.false
+    ap (λ (x : ℕ). eqb x c.args.count) l.invariant.1 ∙ filled-decides c.args.count c.requires.0 c.args.pages.now l.basis l.i l.invariant.2
+    c.loop-i-test.false

@@ -29,7 +29,8 @@ returns-then-list-n c =
 pub returns-then-has_drop : goal.returns-then-has_drop
 returns-then-has_drop c =
     let a = c.args in
-    rw c.refused-then-has_drop.ensures (refuse-drop a.n a.m a.list.now a.text.now (sized c.before.before.before.before.before) c.if-list-n.false (sym c.has_drop.ensures ∙ c.if-has_drop.true))
+    rw c.refused-then-has_drop.ensures (refuse-drop a.n a.m a.list.now a.text.now (sized c.before.before.before.before.before) c.if-list-n.false
+    (sym c.has_drop.ensures ∙ c.if-has_drop.true))
 
 pub overflow_mul-n-2 : goal.overflow_mul-n-2
 overflow_mul-n-2 c =
@@ -44,7 +45,8 @@ is_good-requires c =
 pub returns-then-not-is_good : goal.returns-then-not-is_good
 returns-then-not-is_good c =
     let a = c.args in
-    rw c.refused-then-not-is_good.ensures (refuse-list a.n a.m a.list.now a.text.now (sized c.before.before.before.before.before.before.before) c.if-list-n.false (sym c.has_drop.ensures ∙ c.if-has_drop.false)
+    rw c.refused-then-not-is_good.ensures (refuse-list a.n a.m a.list.now a.text.now (sized c.before.before.before.before.before.before.before)
+    c.if-list-n.false (sym c.has_drop.ensures ∙ c.if-has_drop.false)
     (sym c.is_good.ensures ∙ c.if-not-is_good.true))
 
 -- as many slots as fit
@@ -68,7 +70,8 @@ slice_bounds-check_from_rest-end c = sym (front c.before.before)
 pub check_from_rest-requires : goal.check_from_rest-requires
 check_from_rest-requires c =
     let a = c.args in (
-      checkable a.n a.m a.list.now a.text.now (sized c.before.before.before.before.before.before.before) c.if-list-n.false (sym c.has_drop.ensures ∙ c.if-has_drop.false) (sym c.is_good.ensures ∙ c.if-not-is_good.false),
+      checkable a.n a.m a.list.now a.text.now (sized c.before.before.before.before.before.before.before) c.if-list-n.false
+          (sym c.has_drop.ensures ∙ c.if-has_drop.false) (sym c.is_good.ensures ∙ c.if-not-is_good.false),
       front c.before.before,
     )
 
@@ -76,7 +79,8 @@ pub returns : goal.returns
 returns c =
     let a = c.args in
     c.check_from_rest.ensures
-    ∙ accepted-rows a.n a.m a.list.now a.text.now (sized c.before.before.before.before.before.before.before.before.before) c.if-list-n.false (sym c.has_drop.ensures ∙ c.if-has_drop.false) (sym c.is_good.ensures ∙ c.if-not-is_good.false)
+    ∙ accepted-rows a.n a.m a.list.now a.text.now (sized c.before.before.before.before.before.before.before.before.before) c.if-list-n.false
+    (sym c.has_drop.ensures ∙ c.if-has_drop.false) (sym c.is_good.ensures ∙ c.if-not-is_good.false)
 
 pub overflow_add-slots : goal.overflow_add-slots
 overflow_add-slots c = omega (arith, slots c.before)

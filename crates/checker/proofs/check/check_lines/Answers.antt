@@ -10,7 +10,13 @@ loop-at-init c =
     let a = c.args in
     let rest = c.requires.1 in
     let all : length a.text.now - (0 + 0) ≡ length a.text.now = omega arith in (
-      rw rest (record { size = length-resting a.n a.m; masks = masks-resting a.n a.m; determined = resting-determined a.n a.m; few = omega arith; within = omega arith }),
+      rw rest (record {
+        size = length-resting a.n a.m;
+        masks = masks-resting a.n a.m;
+        determined = resting-determined a.n a.m;
+        few = omega arith;
+        within = omega arith;
+      }),
       refl,
       rw (rest, all),
     )
@@ -23,7 +29,8 @@ pub loop-at-smaller : goal.loop-at-smaller
 loop-at-smaller c =
     let l = c.loop-at in
     let a = c.args in
-    let g = told-on a.n a.m a.list.now a.text.now l.at (record { writes = l.writes; erases = l.erases; pages = l.pages }) _ _ c.take_turn.ensures.pages_after
+    let g = told-on a.n a.m a.list.now a.text.now l.at (record { writes = l.writes; erases = l.erases; pages = l.pages }) _ _
+    c.take_turn.ensures.pages_after
     c.loop-at-test.true l.invariant.0.few _ _ _ c.in-On.is c.take_turn.ensures.goes_on in
     omega (arith, g.1, l.invariant.0.few, c.loop-at-test.true)
 
@@ -31,7 +38,8 @@ pub loop-at-preserved : goal.loop-at-preserved
 loop-at-preserved c =
     let l = c.loop-at in
     let a = c.args in
-    let g = told-on a.n a.m a.list.now a.text.now l.at (record { writes = l.writes; erases = l.erases; pages = l.pages }) _ _ c.take_turn.ensures.pages_after
+    let g = told-on a.n a.m a.list.now a.text.now l.at (record { writes = l.writes; erases = l.erases; pages = l.pages }) _ _
+    c.take_turn.ensures.pages_after
     c.loop-at-test.true l.invariant.0.few _ _ _ c.in-On.is c.take_turn.ensures.goes_on in
     (g.0, omega (arith, g.0.size, l.invariant.0.size, l.invariant.1), l.invariant.2 ∙ g.2)
 

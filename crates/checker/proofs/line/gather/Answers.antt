@@ -21,7 +21,8 @@ field-one-requires c = c.loop-left.invariant.1
 one_left : (left : ℕ) → 0 < left → suc (left - 1) ≡ left
 one_left left h = omega arith
 
-found : (c : lts.Else1 tie.the-claims reads.Pre reads.Post goal.the-invariant-loop-left goal.the-decreases-loop-left) → Taken c.args.text.now c.loop-left.next c.field-one.result
+found : (c : lts.Else1 tie.the-claims reads.Pre reads.Post goal.the-invariant-loop-left goal.the-decreases-loop-left)
+    → Taken c.args.text.now c.loop-left.next c.field-one.result
 found c =
     taken c.args.text.now c.loop-left.next _
     c.field-one.ensures (not-false _ c.if-not-one.false)
@@ -30,7 +31,8 @@ pub returns-then-k-least : goal.returns-then-k-least
 returns-then-k-least c =
     let l = c.loop-left in
     let a = c.args in
-    let bad = gather-bad a.text.now a.count (omega arith) (l.left - 1) l.least l.mask l.next l.invariant.2 _ (found c.before.before) c.if-k-least.true in
+    let bad = gather-bad a.text.now a.count (omega arith) (l.left - 1) l.least l.mask l.next l.invariant.2 _ (found c.before.before)
+    c.if-k-least.true in
     let whole = ap (λ (g : Gathering). g.good) l.invariant.4 in
     record {
       good-is = sym (whole ∙ rw (one_left l.left c.loop-left-test.true) at bad);

@@ -23,17 +23,26 @@ field-erases-requires c = (first c.before).within
 pub returns-then-not-erases : goal.returns-then-not-erases
 returns-then-not-erases c =
     let a = c.args in
-    record { result_value = end-one a.text.now a.at _ (first c.before.before.before.before) (missed a.text.now _ _ c.field-erases.ensures (not-true _ c.if-not-erases.true)); ahead = tt }
+    record {
+      result_value = end-one a.text.now a.at _ (first c.before.before.before.before)
+          (missed a.text.now _ _ c.field-erases.ensures (not-true _ c.if-not-erases.true));
+      ahead = tt;
+    }
 
 -- the second
-second : (c : lts.Else2 tie.the-claims reads.Pre reads.Post tie.handed_clauses) → Taken c.args.text.now c.field-writes.result.next c.field-erases.result
+second : (c : lts.Else2 tie.the-claims reads.Pre reads.Post tie.handed_clauses)
+    → Taken c.args.text.now c.field-writes.result.next c.field-erases.result
 second c = let a = c.args in
     taken a.text.now _ _ c.field-erases.ensures (not-false _ c.if-not-erases.false)
 
 pub returns-then-not-is_at : goal.returns-then-not-is_at
 returns-then-not-is_at c =
     let a = c.args in
-    record { result_value = end-unended a.text.now a.at _ (first c.before.before.before.before.before.before) _ (second c.before.before.before) (sym c.is_at.ensures ∙ c.if-not-is_at.true); ahead = tt }
+    record {
+      result_value = end-unended a.text.now a.at _ (first c.before.before.before.before.before.before) _ (second c.before.before.before)
+          (sym c.is_at.ensures ∙ c.if-not-is_at.true);
+      ahead = tt;
+    }
 
 pub overflow_add-result : goal.overflow_add-result
 overflow_add-result c =
@@ -43,4 +52,12 @@ overflow_add-result c =
 pub returns : goal.returns
 returns c =
     let a = c.args in
-    let feed = sym c.is_at.ensures ∙ c.if-not-is_at.false in record { result_value = end-formed a.text.now a.at _ (first c.before.before.before.before.before.before.before) _ (second c.before.before.before.before) feed; ahead = (omega (arith, (first c.before.before.before.before.before.before.before).ahead, (second c.before.before.before.before).ahead), omega (arith, stands-within a.text.now c.field-erases.result.next 10 (omega arith) feed)) }
+    let one = first c.before.before.before.before.before.before.before in
+    let two = second c.before.before.before.before in
+    let feed = sym c.is_at.ensures ∙ c.if-not-is_at.false in record {
+      result_value = end-formed a.text.now a.at _ one _ two feed;
+      ahead = (
+        omega (arith, one.ahead, two.ahead),
+        omega (arith, stands-within a.text.now c.field-erases.result.next 10 (omega arith) feed),
+      );
+    }

@@ -10,7 +10,10 @@ use Rattle.checker.proofs.line.read_erase.Tie as tie
 pub returns-then-not-block : goal.returns-then-not-block
 returns-then-not-block c =
     let a = c.args in
-    record { result_value = erase-none a.n (omega arith) a.text.now a.at (missed a.text.now a.at _ c.field-block.ensures (not-true _ c.if-not-block.true)); ahead = tt }
+    record {
+      result_value = erase-none a.n (omega arith) a.text.now a.at (missed a.text.now a.at _ c.field-block.ensures (not-true _ c.if-not-block.true));
+      ahead = tt;
+    }
 
 -- the block
 block : (c : lts.Else1 tie.the-claims reads.Pre reads.Post tie.handed_clauses) → Taken c.args.text.now c.args.at c.field-block.result
@@ -25,7 +28,11 @@ returns-then-n-block c =
 pub returns-then-not-is_at : goal.returns-then-not-is_at
 returns-then-not-is_at c =
     let a = c.args in
-    record { result_value = erase-unended a.n (omega arith) a.text.now a.at _ (block c.before.before.before.before.before) c.if-n-block.false (sym c.is_at.ensures ∙ c.if-not-is_at.true); ahead = tt }
+    record {
+      result_value = erase-unended a.n (omega arith) a.text.now a.at _ (block c.before.before.before.before.before) c.if-n-block.false
+          (sym c.is_at.ensures ∙ c.if-not-is_at.true);
+      ahead = tt;
+    }
 
 pub overflow_add-result : goal.overflow_add-result
 overflow_add-result c =
@@ -35,4 +42,12 @@ overflow_add-result c =
 pub returns : goal.returns
 returns c =
     let a = c.args in
-    let feed = sym c.is_at.ensures ∙ c.if-not-is_at.false in record { result_value = erase-formed a.n (omega arith) a.text.now a.at _ (block c.before.before.before.before.before.before) c.if-n-block.false feed; ahead = (omega (arith, (block c.before.before.before.before.before.before).ahead), omega (arith, stands-within a.text.now c.field-block.result.next 10 (omega arith) feed), c.if-n-block.false) }
+    let b = block c.before.before.before.before.before.before in
+    let feed = sym c.is_at.ensures ∙ c.if-not-is_at.false in record {
+      result_value = erase-formed a.n (omega arith) a.text.now a.at _ b c.if-n-block.false feed;
+      ahead = (
+        omega (arith, b.ahead),
+        omega (arith, stands-within a.text.now c.field-block.result.next 10 (omega arith) feed),
+        c.if-n-block.false,
+      );
+    }

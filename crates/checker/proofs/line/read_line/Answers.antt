@@ -15,9 +15,16 @@ read_end-requires c =
 
 pub returns-then-is_end : goal.returns-then-is_end
 returns-then-is_end c =
-    let a = c.args in record { result_value = c.read_end.ensures.result_value ∙ line-end a.n a.m a.step a.text.now a.at (sym c.is_end.ensures ∙ c.if-is_end.true); ahead = ahead-from 0 0 a.n a.m a.at (a.at + 3) (length a.text.now) (omega arith) (omega arith) (omega arith) c.read_end.result c.read_end.ensures.ahead }
+    let a = c.args in record {
+      result_value = c.read_end.ensures.result_value ∙ line-end a.n a.m a.step a.text.now a.at (sym c.is_end.ensures ∙ c.if-is_end.true);
+      ahead = ahead-from 0 0 a.n a.m a.at (a.at + 3) (length a.text.now) (omega arith) (omega arith) (omega arith) c.read_end.result
+          c.read_end.ensures.ahead;
+    }
 
 pub returns : goal.returns
 returns c =
     let a = c.args in
-    record { result_value = c.read_step.ensures.result_value ∙ line_step a.n a.m a.step a.text.now a.at (sym c.is_end.ensures ∙ c.if-is_end.false); ahead = c.read_step.ensures.ahead }
+    record {
+      result_value = c.read_step.ensures.result_value ∙ line_step a.n a.m a.step a.text.now a.at (sym c.is_end.ensures ∙ c.if-is_end.false);
+      ahead = c.read_step.ensures.ahead;
+    }

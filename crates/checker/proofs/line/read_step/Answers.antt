@@ -31,10 +31,12 @@ pub returns-then-is_letter : goal.returns-then-is_letter
 returns-then-is_letter c =
     let a = c.args in
     let own = c.read_number-own in record {
-      result_value = c.read_write.ensures.result_value ∙ step-write a.n a.m a.step a.text.now a.at _ own.ensures (not-false _ c.if-not-own.false) (omega arith) c.if-own-step.false
+      result_value = c.read_write.ensures.result_value ∙ step-write a.n a.m a.step a.text.now a.at _ own.ensures (not-false _ c.if-not-own.false)
+          (omega arith) c.if-own-step.false
           (sym c.is_letter.ensures ∙ c.if-is_letter.true);
       ahead = ahead-from a.n a.m a.n a.m a.at (own.result.next + 2) (length a.text.now) (omega arith) (omega arith)
-          (omega (arith, next-within a.n a.m a.step a.text.now a.at own.result own.ensures (omega arith))) c.read_write.result c.read_write.ensures.ahead;
+          (omega (arith, next-within a.n a.m a.step a.text.now a.at own.result own.ensures (omega arith)))
+          c.read_write.result c.read_write.ensures.ahead;
     }
 
 pub overflow_add-own-then-is_letter-2 : goal.overflow_add-own-then-is_letter-2
@@ -51,16 +53,19 @@ pub returns-then-is_letter-2 : goal.returns-then-is_letter-2
 returns-then-is_letter-2 c =
     let a = c.args in
     let own = c.read_number-own in record {
-      result_value = c.read_erase.ensures.result_value ∙ step-erase a.n a.m a.step a.text.now a.at _ own.ensures (not-false _ c.if-not-own.false) (omega arith) c.if-own-step.false
+      result_value = c.read_erase.ensures.result_value ∙ step-erase a.n a.m a.step a.text.now a.at _ own.ensures (not-false _ c.if-not-own.false)
+          (omega arith) c.if-own-step.false
           (sym c.is_letter.ensures ∙ c.if-is_letter.false) (sym c.is_letter-2.ensures ∙ c.if-is_letter-2.true);
       ahead = ahead-from a.n 0 a.n a.m a.at (own.result.next + 2) (length a.text.now) (omega arith) (omega arith)
-          (omega (arith, next-within a.n a.m a.step a.text.now a.at own.result own.ensures (omega arith))) c.read_erase.result c.read_erase.ensures.ahead;
+          (omega (arith, next-within a.n a.m a.step a.text.now a.at own.result own.ensures (omega arith)))
+          c.read_erase.result c.read_erase.ensures.ahead;
     }
 
 pub returns : goal.returns
 returns c =
     let a = c.args in record {
-      result_value = step-neither a.n a.m a.step a.text.now a.at _ c.read_number-own.ensures (not-false _ c.if-not-own.false) (omega arith) c.if-own-step.false
+      result_value = step-neither a.n a.m a.step a.text.now a.at _ c.read_number-own.ensures (not-false _ c.if-not-own.false) (omega arith)
+          c.if-own-step.false
           (sym c.is_letter.ensures ∙ c.if-is_letter.false) (sym c.is_letter-2.ensures ∙ c.if-is_letter-2.false);
       ahead = tt;
     }

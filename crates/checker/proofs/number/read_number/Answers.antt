@@ -27,7 +27,8 @@ pub overflow_sub-next : goal.overflow_sub-next
 overflow_sub-next c = c.loop-next.invariant.low
 
 -- the loop was left at the end of the text, or at a byte that is no digit
-done : (c : lts.Left-loop tie.the-claims reads.Pre reads.Post goal.the-invariant-loop-next goal.the-decreases-loop-next) → leading (drop c.loop-next.next c.args.text.now) ≡ []
+done : (c : lts.Left-loop tie.the-claims reads.Pre reads.Post goal.the-invariant-loop-next goal.the-decreases-loop-next)
+    → leading (drop c.loop-next.next c.args.text.now) ≡ []
 done c = elim c.loop-next-test.branch [
   | else-loop-next-test w ↦ leading-past _ _ w.loop-next-test.false
   | then-loop-next-test+then-not-is_digit w ↦ leading-other _ _ w.loop-next-test.true (sym w.is_digit.ensures ∙ w.if-not-is_digit.true)

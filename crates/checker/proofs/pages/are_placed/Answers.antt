@@ -28,14 +28,18 @@ returns-then-pages-t c =
 pub loop-k-preserved : goal.loop-k-preserved
 loop-k-preserved c =
     let l = c.loop-k in
-    let a = c.args in
-    (omega arith, below_more _ _ l.invariant.1 (placed-there a.pages.now a.list.now a.m l.k _ _ c.entry.ensures (one l.k (omega arith)) c.if-pages-t.false))
+    let a = c.args in (
+      omega arith,
+      below_more _ _ l.invariant.1 (placed-there a.pages.now a.list.now a.m l.k _ _ c.entry.ensures (one l.k (omega arith))
+          c.if-pages-t.false),
+    )
 
 pub returns : goal.returns
 returns c =
     let l = c.loop-k in
     let a = c.args in
-    sym (all-is (λ j. eqb (get_or a.pages.now (slot_of a.m (get_or a.list.now j 0)) 0) (2 ^ j)) 0 (length a.list.now) (λ j b h. l.invariant.1 j (omega arith)))
+    sym (all-is (λ j. eqb (get_or a.pages.now (slot_of a.m (get_or a.list.now j 0)) 0) (2 ^ j)) 0 (length a.list.now)
+    (λ j b h. l.invariant.1 j (omega arith)))
 
 pub loop-k-init : goal.loop-k-init
 loop-k-init c = (omega arith, λ j h. absurd (omega arith))

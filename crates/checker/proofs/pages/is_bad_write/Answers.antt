@@ -15,7 +15,8 @@ returns-then-pages-first-ne0 c =
     let l = c.loop-q in
     let a = c.args in
     let page = get_or a.pages.now (a.block * a.m + l.q) 0 in
-    sym (any-is (λ q. not (is_blank a.pages.now (slot a.m a.block q))) a.page (a.m - a.page) l.q l.invariant.0 (omega arith) (rw (ne_eqb page 0 c.if-pages-first-ne0.true)))
+    sym (any-is (λ q. not (is_blank a.pages.now (slot a.m a.block q))) a.page (a.m - a.page) l.q l.invariant.0 (omega arith)
+    (rw (ne_eqb page 0 c.if-pages-first-ne0.true)))
 
 pub loop-q-preserved : goal.loop-q-preserved
 loop-q-preserved c =

@@ -16,8 +16,11 @@ loop-t-preserved c =
     let l = c.loop-t in
     let a = c.args in
     let size = length-resting a.n a.m in
-    let value = c.resting.ensures ∙ sym (resting-at a.n a.m l.t (omega arith)) in
-    (rw (l.invariant.0, value) (front-more (resting_pages a.n a.m) a.pages.now l.t (omega arith) (omega arith)), omega arith, simp length-set (omega arith))
+    let value = c.resting.ensures ∙ sym (resting-at a.n a.m l.t (omega arith)) in (
+      rw (l.invariant.0, value) (front-more (resting_pages a.n a.m) a.pages.now l.t (omega arith) (omega arith)),
+      omega arith,
+      simp length-set (omega arith),
+    )
 
 pub shape_of-pages : goal.shape_of-pages
 shape_of-pages c = c.loop-t.invariant.2

@@ -12,7 +12,10 @@ pub is_requested-requires : goal.is_requested-requires
 is_requested-requires c =
     let a = c.args in
     let K = c.requires.0 in
-    let slots = add-mul a.n 1 a.m in record { le_m = (K.m-low, omega arith, omega (arith, K.size, K.few)); by_index = λ k h. omega (arith, entry_lt _ a.list.now K.one-to-one k h) }
+    let slots = add-mul a.n 1 a.m in record {
+      le_m = (K.m-low, omega arith, omega (arith, K.size, K.few));
+      by_index = λ k h. omega (arith, entry_lt _ a.list.now K.one-to-one k h);
+    }
 
 pub returns-then-is_requested : goal.returns-then-is_requested
 unfolding finished
