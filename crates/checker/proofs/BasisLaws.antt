@@ -1,5 +1,5 @@
 -- A basis of the pages, its growth by a page, and that it decides which masks are sums of pages.
-use Rattle.flash.proofs.Kit.{◌≡◌, refl, sym, ◌∙◌, ◌≢◌, ⊎_elim, true, false, true≢false, List, [], ◌∷◌, ℕ, zero, suc, ◌+◌, ◌-◌, ◌%◌, ◌^◌, ◌≤◌, ◌<◌}
+use Rattle.flash.proofs.Kit.{◌≡◌, refl, sym, ◌∙◌, ◌≢◌, ⊎_elim, true, false, true≢false, List, [], ◌∷◌, ℕ, zero, suc, ◌+◌, ◌%◌, ◌^◌, ◌≤◌, ◌<◌}
 use Rattle.flash.proofs.Kit.{zero-div, zero-mod, pow_pos, arith, length, get_or, replicate, bit_xor, xor_self, xor_zero_r, eqb, ne_eqb, below_more}
 use native.Mathlib.Nat.{mod-one}
 use lib.Bits.{xor_mod, xor_lt}
@@ -29,7 +29,7 @@ empty-basis : (most : ℕ) (pages : List ℕ) (i n : ℕ) → i + n ≡ 64 → B
 empty-basis most pages i zero e = let s : i ≡ 64 = omega arith in rw s end
 empty-basis most pages i (suc n) e = gap (empty-basis most pages (suc i) n (omega arith))
 
-basis-size : {most i : ℕ} {pages rows : List ℕ} → Basis most pages i rows → i + length rows ≡ 64
+basis-size : {most : ℕ} {pages : List ℕ} {i : ℕ} {rows : List ℕ} → Basis most pages i rows → i + length rows ≡ 64
 basis-size end = refl
 basis-size (gap b) = let n = basis-size b in omega arith
 basis-size (full s r q b) = let n = basis-size b in omega arith
@@ -51,7 +51,7 @@ cleared-low i row v h = ⊎_elim
     (bool_cases (has_bit v i))
 
 -- and so do all rows from i on
-pub reduced-low : {most i : ℕ} {pages rows : List ℕ} → Basis most pages i rows → (v : ℕ) → reduced i rows v % 2 ^ i ≡ v % 2 ^ i
+pub reduced-low : {most : ℕ} {pages : List ℕ} {i : ℕ} {rows : List ℕ} → Basis most pages i rows → (v : ℕ) → reduced i rows v % 2 ^ i ≡ v % 2 ^ i
 unfolding reduced
 reduced-low end v = refl
 reduced-low {i = i} (gap {rows = rows} b) v = rw (cleared-gap i v) (lower (reduced (suc i) rows v) v i (reduced-low b v))
@@ -60,11 +60,12 @@ reduced-low {i = i} (full {row = row} {rows = rows} s r q b) v =
     ∙ cleared-low i row v r.clear
 
 -- what reduces to a sum of pages is one
-reduced-sound : {most i : ℕ} {pages rows : List ℕ} → Basis most pages i rows → (v : ℕ) → is_sum pages (reduced i rows v) ≡ true → is_sum pages v ≡ true
+reduced-sound : {most : ℕ} {pages : List ℕ} {i : ℕ} {rows : List ℕ} → Basis most pages i rows
+    → (v : ℕ) → is_sum pages (reduced i rows v) ≡ true → is_sum pages v ≡ true
 unfolding reduced cleared
 reduced-sound end v s = s
 reduced-sound {i = i} (gap b) v s = reduced-sound b v (rw (cleared-gap i v) at s)
-reduced-sound {i = i} {pages = pages} (full {row = row} p r q b) v s =
+reduced-sound {pages = pages} {i = i} (full {row = row} p r q b) v s =
     let t = reduced-sound b (cleared i row v) s in
     ⊎_elim
     (λ (e : has_bit v i ≡ true). rw (xor-cancel v row) at (sum-xor pages (bit_xor v row) row (rw e at t) p))
@@ -125,16 +126,16 @@ grown-end : {most v : ℕ} {pages : List ℕ} → most ≤ 64 → From most 64 v
 unfolding reduced
 grown-end {most} {v} few s = record { basis = end; new = clear_zero most v few s.small s.clear; old = λ w e. e }
 
-inserted-grows : {most i v : ℕ} {pages rows : List ℕ} → most ≤ 64 → Basis most pages i rows → is_sum pages v ≡ true → From most i v
+inserted-grows : {most : ℕ} {pages : List ℕ} {i v : ℕ} {rows : List ℕ} → most ≤ 64 → Basis most pages i rows → is_sum pages v ≡ true → From most i v
     → Grown most pages rows i v (inserted i rows v)
 unfolding inserted
 inserted-grows few end t s = grown-end few s
-inserted-grows {i = i} {v = v} {pages = pages} few (gap b) t s = ⊎_elim
+inserted-grows {pages = pages} {i = i} {v = v} few (gap b) t s = ⊎_elim
     (λ (q : has_bit v i ≡ true). rw q (grown-stored b t s q))
     (λ (q : has_bit v i ≡ false).
     rw q (grown-above gap (inserted-grows few b (rw (cleared-gap i v) t) (rw (cleared-gap i v) (from_more s q)))))
     (bool_cases (has_bit v i))
-inserted-grows {i = i} {v = v} {pages = pages} few (full {row = row} p r q b) t s =
+inserted-grows {pages = pages} {i = i} {v = v} few (full {row = row} p r q b) t s =
     rw (full-some i row q) (grown-above (full p r q) (inserted-grows few b (sum-cleared pages i v row t p) (from-cleared s r q)))
 
 -- ---- the rows stand for the first n pages
@@ -155,7 +156,7 @@ spans-more most pages rows n few h l s =
     }
 
 -- a row that is not empty has its own bit for its lowest
-row-lowest : {most i : ℕ} {pages rows : List ℕ} → Basis most pages i rows → (d j : ℕ) → i + d ≡ j → get_or rows d 0 ≢ 0
+row-lowest : {most : ℕ} {pages : List ℕ} {i : ℕ} {rows : List ℕ} → Basis most pages i rows → (d j : ℕ) → i + d ≡ j → get_or rows d 0 ≢ 0
     → (get_or rows d 0 % 2 ^ j ≡ 0) × (has_bit (get_or rows d 0) j ≡ true)
 row-lowest end d j e some = absurd (some refl)
 row-lowest (gap b) zero j e some = absurd (some refl)
@@ -163,7 +164,7 @@ row-lowest (gap b) (suc d) j e some = row-lowest b d j (omega arith) some
 row-lowest {i = i} (full p r q b) zero j e some = let here : j ≡ i = omega arith in rw here (r.clear, q)
 row-lowest (full p r q b) (suc d) j e some = row-lowest b d j (omega arith) some
 
-row_small : {most i : ℕ} {pages rows : List ℕ} → Basis most pages i rows → (d : ℕ) → get_or rows d 0 < 2 ^ most
+row_small : {most : ℕ} {pages : List ℕ} {i : ℕ} {rows : List ℕ} → Basis most pages i rows → (d : ℕ) → get_or rows d 0 < 2 ^ most
 row_small {most} end d = pow_pos most
 row_small {most} (gap b) zero = pow_pos most
 row_small (gap b) (suc d) = row_small b d

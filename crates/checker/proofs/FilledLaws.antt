@@ -40,25 +40,25 @@ filled_more (row ∷ rows) (suc i) v h z some = ⊎_elim
 
 -- ---- rows of originals below `most` alone
 -- they are no more than there are originals from row i on
-rows_few : {most i : ℕ} {pages rows : List ℕ} → Basis most pages i rows → filled_rows rows ≤ most - i
+rows_few : {most : ℕ} {pages : List ℕ} {i : ℕ} {rows : List ℕ} → Basis most pages i rows → filled_rows rows ≤ most - i
 unfolding count
 rows_few end = omega arith
 rows_few (gap b) = let n = rows_few b in omega arith
-rows_few {most} {i} (full {row = row} p r q b) =
+rows_few {most} {i = i} (full {row = row} p r q b) =
     let n = rows_few b in
     let w = bit-within most row i r.small q in
     rw (full-some i row q) (omega arith)
 
 -- if they are as many, each mask of these originals reduces to nothing
-all-vanish : {most i : ℕ} {pages rows : List ℕ} → most ≤ 64 → Basis most pages i rows → most - i ≤ filled_rows rows
+all-vanish : {most : ℕ} {pages : List ℕ} {i : ℕ} {rows : List ℕ} → most ≤ 64 → Basis most pages i rows → most - i ≤ filled_rows rows
     → (v : ℕ) → From most i v → reduced i rows v ≡ 0
 unfolding count reduced
 all-vanish {most} few end n v s = clear_zero most v few s.small s.clear
-all-vanish {most} {i} few (gap {rows = rows} b) n v s =
+all-vanish {most} {i = i} few (gap {rows = rows} b) n v s =
     let p = pow_mono {i = most} {j = i} (omega (arith, rows_few b)) in
     let none : v ≡ 0 = sym (mod-eq_of_lt {n = v} {m = 2 ^ i} (omega (arith, s.small))) ∙ s.clear in
     rw (none, cleared-gap i 0) (reduced-zero (suc i) rows)
-all-vanish {most} {i} few (full {row = row} p r q b) n v s =
+all-vanish {most} {i = i} few (full {row = row} p r q b) n v s =
     let w = bit-within most row i r.small q in
     let above = rw (full-some i row q) at n in
     all-vanish few b (omega arith) (cleared i row v) (from-cleared s r q)
@@ -76,15 +76,16 @@ one-stays {i = i} {rows = rows} b e =
     absurd (omega arith)
 
 -- if each original reduces to nothing, they are as many
-all-filled : {most i : ℕ} {pages rows : List ℕ} → most ≤ 64 → Basis most pages i rows → ((k : ℕ) → i ≤ k → k < most → reduced i rows (2 ^ k) ≡ 0)
+all-filled : {most : ℕ} {pages : List ℕ} {i : ℕ} {rows : List ℕ} → most ≤ 64 → Basis most pages i rows
+    → ((k : ℕ) → i ≤ k → k < most → reduced i rows (2 ^ k) ≡ 0)
     → most - i ≤ filled_rows rows
 unfolding count reduced
 all-filled few end f = omega arith
-all-filled {most} {i} few (gap b) f = ⊎_elim
+all-filled {most} {i = i} few (gap b) f = ⊎_elim
     (λ (l : i < most). absurd (one-stays b (rw (cleared-gap i (2 ^ i)) at (f i (omega arith) l))))
     (λ (l : most ≤ i). omega arith)
     (lt-cases i most)
-all-filled {most} {i} few (full {row = row} p r q b) f =
+all-filled {most} {i = i} few (full {row = row} p r q b) f =
     let n = all-filled few b (λ k l h. rw (one-cleared i row k l) at (f k (omega arith) h)) in
     rw (full-some i row q) (omega arith)
 

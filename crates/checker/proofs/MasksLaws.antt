@@ -1,5 +1,5 @@
 -- Pages hold sums of originals below a number: at rest, after a line, and after an erase.
-use Rattle.flash.proofs.Kit.{◌≡◌, sym, ap, ◌∙◌, subst, ⊎_elim, true, true≢false, ◌&&◌, List, [], ◌∷◌, ◌++◌, ℕ, zero, suc, ◌+◌, ◌-◌, ◌*◌, ◌^◌, ◌≤◌, ◌<◌, arith, pow-lt, pow_pos, add-mul}
+use Rattle.flash.proofs.Kit.{◌≡◌, sym, ap, ◌∙◌, subst, ⊎_elim, true, true≢false, ◌&&◌, List, [], ◌∷◌, ◌++◌, ℕ, zero, suc, ◌+◌, ◌*◌, ◌^◌, ◌≤◌, ◌<◌, arith, pow-lt, pow_pos, add-mul}
 use Rattle.flash.proofs.Kit.{leb, ltb, length, set, take, drop, replicate, List·getD-eq-default, lt-ltb, le-ltb, ltb-true}
 use lib.Bits.{xor_lt}
 use Rattle.flash.specs.Lists.{all, set_part}

@@ -5,7 +5,7 @@ use Rattle.flash.proofs.Bools.{bool_eq}
 use Rattle.flash.proofs.Parts.{part-fits}
 use Rattle.checker.specs.Lines.{Line, write, erase, end, other, read_line}
 use Rattle.checker.specs.Pages.{mask_of, is_bad_write, page_written, block_erased, are_determined}
-use Rattle.checker.specs.Answer.{CheckAnswer, faulty, Progress, step_of, Turn, on, stop, turn, then_check, check_from}
+use Rattle.checker.specs.Answer.{CheckAnswer, faulty, Progress, step_of, on, stop, turn, then_check, check_from}
 use Rattle.checker.specs.inner.Told.{cap, Said, wrote, erased, ended, unread, said}
 use Rattle.checker.specs.declared.turn.Turn as code
 use Rattle.checker.specs.declared.turn.Turn.TheVariants.{On, Stop}

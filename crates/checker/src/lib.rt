@@ -1,6 +1,7 @@
 // Another mover's steps: whether a listing of them would survive a power cut at any line. The definitions are in specs/.
 
 #![tactic(auto)]
+
 mod basis;
 pub mod check;
 mod line;
