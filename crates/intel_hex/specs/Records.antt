@@ -1,5 +1,5 @@
 -- Rule 11.1: what a record is, and its one written form. Texts are lists of ASCII codes.
-use Rattle.std.specs.Prelude.{List, [], ◌∷◌, ◌++◌, ℕ, ◌-◌, ◌/◌, ◌%◌, length}
+use Rattle.std.specs.Prelude.{List, [], ◌∷◌, ◌++◌, ℕ, ◌+◌, ◌-◌, ◌/◌, ◌%◌, length}
 use Rattle.flash.specs.Lists.{concat_map, total}
 use Rattle.listing.specs.Digits.{capitals, hex}
 

@@ -1,6 +1,6 @@
 -- Pinned pages, along any list of calls with cuts: once the finish was reported each is where it lay at first, and before that
 -- it can be read as every other page can. In mid-move it may lie elsewhere.
-use Rattle.std.specs.Prelude.{true, ◌≡◌, List, ℕ, ◌<◌}
+use Rattle.std.specs.Prelude.{true, ◌≡◌, List, ℕ, ◌<◌, length}
 use Rattle.flash.specs.Geometry.{slot_of, original_count}
 use Rattle.flash.specs.Chip.{Chip, page_at}
 use Rattle.split.specs.Pins.{is_pinned}

@@ -1,5 +1,5 @@
 -- Rules 4.1 to 4.4 and 7.2: one step, run as that step repeated, and what is counted of it.
-use Rattle.std.specs.Prelude.{Bool, true, false, List, ℕ, zero, suc, ◌+◌, eqb, length, take, drop}
+use Rattle.std.specs.Prelude.{Bool, true, false, List, [], ◌∷◌, ℕ, zero, suc, ◌+◌, eqb, length, take, drop}
 use Rattle.flash.specs.Lists.{concat_map}
 use Rattle.flash.specs.declared.sizes.Sizes.{Sizes}
 use Rattle.flash.specs.Geometry.{slot}

@@ -1,6 +1,6 @@
 -- What is claimed of the split, as types. The proofs are in proofs/, and `claims` of src/ asks for them.
 use Rattle.std.specs.Prelude.{◌≡◌, true, false, ◌||◌, List, [], ◌∷◌, ℕ, ◌+◌, ◌-◌, ◌*◌, ◌≤◌, ◌<◌, eqb, leb, length, get_or}
-use Rattle.flash.specs.Lists.{any}
+use Rattle.flash.specs.Lists.{range, any}
 use Rattle.flash.specs.Geometry.{original_count, pins_len, sets_len}
 use Rattle.split.specs.OneToOne.{met_twice, is_one_to_one, dropped, kept_entries, bad_list}
 use Rattle.split.specs.Drops.{is_dropped, completed}
