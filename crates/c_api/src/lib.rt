@@ -1,6 +1,7 @@
 // The calls as C sees them: numbers of 32 bits, lent parts as pointer and length, the list as two bytes an entry.
 
 #![tactic(auto)]
+
 pub mod check_call;
 pub mod hex_call;
 mod list;

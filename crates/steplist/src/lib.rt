@@ -1,6 +1,7 @@
 // The step program on slices: its output as a definition, and the code that makes it.
 
 #![tactic(auto)]
+
 pub mod answer;
 mod by_originals;
 mod line;

@@ -1,6 +1,7 @@
 // The step program: standard input is read, answered and the answer written. With the argument `--originals` it is answered in the second form.
 
 #![tactic(auto)]
+
 use libc::{STDIN_FILENO, STDOUT_FILENO};
 use steplist::answer::{MOST_OUTPUT, answer};
 use steplist::word::asks_originals;
