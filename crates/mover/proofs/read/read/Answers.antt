@@ -39,10 +39,12 @@ returns-then-number-ne0 c =
     }
 
 -- ---- past the rows of the move
-none : (c : lts.Else1 tie.the-claims reads.Pre reads.Post tie.handed_clauses) → 0 ≡ refusal (move_rows (asked c.args) (chip c.args) c.args.work.now [])
+none : (c : lts.Else1 tie.the-claims reads.Pre reads.Post tie.handed_clauses)
+    → 0 ≡ refusal (move_rows (asked c.args) (chip c.args) c.args.work.now [])
 none c = sym c.if-number-ne0.false ∙ c.move_refusal-number.ensures.value
 
-accepted : (c : lts.Else1 tie.the-claims reads.Pre reads.Post tie.handed_clauses) → AcceptedMove (move (asked c.args)) × Lent c.args.sizes (chip c.args) c.args.work.now
+accepted : (c : lts.Else1 tie.the-claims reads.Pre reads.Post tie.handed_clauses)
+    → AcceptedMove (move (asked c.args)) × Lent c.args.sizes (chip c.args) c.args.work.now
 accepted c = (let g = move-accepted (asked c.args) (chip c.args) c.args.work.now [] (sym (none c)) in (g.0, g.1))
 
 -- the list is completed
@@ -56,7 +58,8 @@ told : (c : lts.Else1 tie.the-claims reads.Pre reads.Post tie.handed_clauses) �
 told c = (c.move_refusal-number.ensures.by_destination c.if-number-ne0.false).1
 
 pub read_marks-requires : goal.read_marks-requires
-read_marks-requires c = (let g = accepted c.before in let B = g.0.ranges in record { n_bound = (B.n-high, B.m-low, B.m-high, B.s-high); marks_len = g.1.marks-length })
+read_marks-requires c =
+    (let g = accepted c.before in let B = g.0.ranges in record { n_bound = (B.n-high, B.m-low, B.m-high, B.s-high); marks_len = g.1.marks-length })
 
 pub returns-in-NoMoment : goal.returns-in-NoMoment
 unfolding list_left any
@@ -86,7 +89,8 @@ readable c =
     let a = c.args in
     let r = c.read_marks in
     elim c.match-read_marks.branch [
-      | in-Full w ↦ full a.sizes a.marks.now r.result r.ensures.result_value r.ensures.shown _ _ _ w.in-Full.is (w.moment-is ∙ w.moment_in-moment.ensures)
+      | in-Full w ↦ full a.sizes a.marks.now r.result r.ensures.result_value r.ensures.shown _ _ _ w.in-Full.is
+          (w.moment-is ∙ w.moment_in-moment.ensures)
       | in-Torn w ↦ torn a.sizes a.marks.now r.result r.ensures.result_value r.ensures.shown _ _ _ w.in-Torn.is
           (w.moment-is ∙ w.moment_in-moment-in-Torn.ensures)
     ]
@@ -98,7 +102,8 @@ pub returns-then-original_count-k : goal.returns-then-original_count-k
 unfolding list_left any
 returns-then-original_count-k c =
     record {
-      work_after = refused-7 (asked c.args) (chip c.args) c.args.work.now c.args.k (none c.before.before.before.before.before.before) c.refused-then-original_count-k.result (readable c.before.before.before.before).fits_one
+      work_after = refused-7 (asked c.args) (chip c.args) c.args.work.now c.args.k
+          (none c.before.before.before.before.before.before) c.refused-then-original_count-k.result (readable c.before.before.before.before).fits_one
           (rw (← c.original_count.ensures) c.if-original_count-k.true) c.refused-then-original_count-k.ensures;
       list_after = rw c.refused-then-original_count-k.ensures (left c.before.before.before.before.before.before);
     }
@@ -113,11 +118,13 @@ slice_bounds-read_terms-end c = sym (told c.before.before.before.before.before.b
 pub read_terms-terms-requires : goal.read_terms-terms-requires
 read_terms-terms-requires c =
     let R = asked c.args in
-    let same = move-told R _ _ _ (left c.before.before.before.before.before.before.before) (told c.before.before.before.before.before.before.before) in
+    let same = move-told R _ _ _ (left c.before.before.before.before.before.before.before)
+    (told c.before.before.before.before.before.before.before) in
     (subst AcceptedMove (sym same) (accepted c.before.before.before.before.before.before.before).0, within c.before.before.before, (told c.before.before.before.before.before.before.before).pages-length, refl, (c.args.marks.now, (readable c.before.before.before.before.before).has-moment))
 
 -- the terms add up to the page
-adds : (c : lts.After-read_terms tie.the-claims reads.Pre reads.Post tie.handed_clauses) → (AddsUp c.args.sizes (read_terms (plan (asked c.args)) c.args.marks.now c.args.k) c.read_terms-terms.new.slots c.read_terms-terms.result)
+adds : (c : lts.After-read_terms tie.the-claims reads.Pre reads.Post tie.handed_clauses)
+    → (AddsUp c.args.sizes (read_terms (plan (asked c.args)) c.args.marks.now c.args.k) c.read_terms-terms.new.slots c.read_terms-terms.result)
 adds c =
     subst (λ (X : Plan). AddsUp c.args.sizes (read_terms X c.args.marks.now c.args.k) c.read_terms-terms.new.slots c.read_terms-terms.result)
     (plan-told (asked c.args) _ _ _ (left c.before.before.before.before.before.before.before) (told c.before.before.before.before.before.before.before)) (c.read_terms-terms.ensures.by_index _ (readable c.before.before.before.before.before).has-moment)
@@ -128,7 +135,10 @@ slice_bounds-total_to_page-end c = sym c.read_terms-terms.ensures.count_le_slots
 pub total_to_page-bytes-requires : goal.total_to_page-bytes-requires
 total_to_page-bytes-requires c =
     let L = (accepted c.before.before.before.before.before.before.before.before.before.before).1 in
-    let F = c.read_terms-terms.ensures.count_le_slots_length in record { count_in_bounds = (omega (arith, F.0, F.1), omega (arith, F.0), L.work-length); by_index = (λ j h. rw L.store_length (slot-in-store c.args.sizes _ (F.2 j h))) }
+    let F = c.read_terms-terms.ensures.count_le_slots_length in record {
+      count_in_bounds = (omega (arith, F.0, F.1), omega (arith, F.0), L.work-length);
+      by_index = (λ j h. rw L.store_length (slot-in-store c.args.sizes _ (F.2 j h)));
+    }
 
 pub overflow_cast-bytes : goal.overflow_cast-bytes
 overflow_cast-bytes c =
@@ -141,7 +151,10 @@ pub returns : goal.returns
 unfolding read_page list_left any
 returns c =
     let S = adds c.before.before.before.before.before.before.before in record {
-      work_after = rebuilt (asked c.args) (chip c.args) c.args.work.now c.args.k (none c.before.before.before.before.before.before.before.before.before.before.before.before.before.before) _ _ _ (readable c.before.before.before.before.before.before.before.before.before.before.before.before).fits_one (within c.before.before.before.before.before.before.before.before.before.before) (sym S.number)
+      work_after = rebuilt (asked c.args) (chip c.args) c.args.work.now c.args.k
+          (none c.before.before.before.before.before.before.before.before.before.before.before.before.before.before) _ _ _
+          (readable c.before.before.before.before.before.before.before.before.before.before.before.before).fits_one
+          (within c.before.before.before.before.before.before.before.before.before.before) (sym S.number)
           (c.total_to_page-bytes.ensures.0 ∙ sym (S.page (chip c.args) (accepted c.before.before.before.before.before.before.before.before.before.before.before.before.before.before).1.store_length)) c.total_to_page-bytes.ensures.1;
       list_after = left c.before.before.before.before.before.before.before.before.before.before.before.before.before.before;
     }

@@ -23,17 +23,21 @@ chip a = record { store = a.store.now; marks = a.marks.now }
 
 pub returns-then-number-ne0 : goal.returns-then-number-ne0
 returns-then-number-ne0 c =
-    refused-first (asked c.args) (chip c.args) c.args.area.now c.args.flags.now c.args.slot c.rebuild_refusal-number.result c.rebuild_refusal-number.ensures c.if-number-ne0.true
+    refused-first (asked c.args)
+    (chip c.args) c.args.area.now c.args.flags.now c.args.slot c.rebuild_refusal-number.result c.rebuild_refusal-number.ensures c.if-number-ne0.true
 
 -- ---- past the first rows
-none : (c : lts.Else1 tie.the-claims reads.Pre reads.Post tie.handed_clauses) → (0 ≡ rebuild_number (asked c.args) (chip c.args) c.args.area.now c.args.flags.now)
+none : (c : lts.Else1 tie.the-claims reads.Pre reads.Post tie.handed_clauses)
+    → (0 ≡ rebuild_number (asked c.args) (chip c.args) c.args.area.now c.args.flags.now)
 none c = sym c.if-number-ne0.false ∙ c.rebuild_refusal-number.ensures
 
-passed : (c : lts.Else1 tie.the-claims reads.Pre reads.Post tie.handed_clauses) → (Passed (asked c.args) (chip c.args) c.args.area.now c.args.flags.now)
+passed : (c : lts.Else1 tie.the-claims reads.Pre reads.Post tie.handed_clauses)
+    → (Passed (asked c.args) (chip c.args) c.args.area.now c.args.flags.now)
 passed c = (past_first (asked c.args) (chip c.args) c.args.area.now c.args.flags.now (none c))
 
 pub read_marks-requires : goal.read_marks-requires
-read_marks-requires c = (let g = passed c.before in let B = g.accepted.ranges in record { n_bound = (B.n-high, B.m-low, B.m-high, B.s-high); marks_len = g.marks-length })
+read_marks-requires c =
+    (let g = passed c.before in let B = g.accepted.ranges in record { n_bound = (B.n-high, B.m-low, B.m-high, B.s-high); marks_len = g.marks-length })
 
 pub returns-in-NoMoment : goal.returns-in-NoMoment
 returns-in-NoMoment c =
@@ -70,7 +74,8 @@ slot_count-requires c = (let B = (passed c.before.before.before).accepted.ranges
 
 pub returns-then-slot_count-slot : goal.returns-then-slot_count-slot
 returns-then-slot_count-slot c =
-    refused-7 (asked c.args) (chip c.args) c.args.area.now c.args.flags.now c.args.slot (none c.before.before.before.before.before) (learnt c.before.before.before).fits_one (rw (← c.slot_count.ensures) c.if-slot_count-slot.true)
+    refused-7 (asked c.args) (chip c.args) c.args.area.now c.args.flags.now c.args.slot (none c.before.before.before.before.before)
+    (learnt c.before.before.before).fits_one (rw (← c.slot_count.ensures) c.if-slot_count-slot.true)
 
 -- ---- the slot is one of the store
 pub rebuild_all-requires : goal.rebuild_all-requires
@@ -91,4 +96,6 @@ returns c =
     let L = learnt c.before.before.before.before.before.before.before.before.before.before in
     let E = c.rebuild_all.ensures c.args.marks.now L.found L.sees in
     ap₂ made E.0 E.1
-    ∙ carried-out (asked c.args) (chip c.args) c.args.area.now c.args.flags.now c.args.slot (none c.before.before.before.before.before.before.before.before.before.before.before.before) L.found L.sees.reads L.fits_one (within c.before.before.before.before.before.before.before.before)
+    ∙ carried-out (asked c.args) (chip c.args) c.args.area.now c.args.flags.now c.args.slot
+    (none c.before.before.before.before.before.before.before.before.before.before.before.before) L.found L.sees.reads L.fits_one
+    (within c.before.before.before.before.before.before.before.before)

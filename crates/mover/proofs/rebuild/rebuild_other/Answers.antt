@@ -33,7 +33,8 @@ slice_bounds-has_slot-end c = sym c.zero_slots-found.ensures.1
 pub has_slot-requires : goal.has_slot-requires
 has_slot-requires c = (let z = c.zero_slots-found.ensures in omega (arith, z.0, z.1))
 
-own-has : (c : lts.Start tie.the-claims reads.Pre reads.Post tie.handed_clauses) (marks : List ℕ) (found : Reading) → Sees (moves c.args) marks found c.args.told
+own-has : (c : lts.Start tie.the-claims reads.Pre reads.Post tie.handed_clauses) (marks : List ℕ) (found : Reading)
+    → Sees (moves c.args) marks found c.args.told
     → any (eqb c.args.slot) (read_slots (moves c.args) marks c.args.k) ≡ true
 own-has c marks found S = (let O = c.requires.6 in ap (any (eqb c.args.slot)) (sym (O.is marks found S)) ∙ O.has-bad)
 
@@ -41,7 +42,8 @@ pub returns-then-not-has_slot : goal.returns-then-not-has_slot
 returns-then-not-has_slot c marks found S =
     let O = c.requires.6 in
     let L = c.lose.ensures in
-    let lacks = ap (any (eqb c.args.slot)) (sym (c.zero_slots-found.ensures.2 marks found S O.whole)) ∙ sym c.has_slot.ensures ∙ c.if-not-has_slot.true in
+    let lacks = ap (any (eqb c.args.slot)) (sym (c.zero_slots-found.ensures.2 marks found S O.whole)) ∙ sym c.has_slot.ensures
+    ∙ c.if-not-has_slot.true in
     gives_up c.args.sizes.p (chip c.args marks) _ _ _ _
     (from-lost (moves c.args) c.requires.0 marks found c.args.told S c.args.slot c.args.k c.requires.1 O.whole (own-has c.before.before.before.before.before.before.before.before.before.before.before.before.before.before.before.before.before marks found S) lacks)
     L.0 L.1 c.requires.3
@@ -55,13 +57,16 @@ apart_slots-all-requires c =
     (c.requires.5, omega (arith, Z.0, Z.1), omega (arith, c.requires.4, Z.0, length-replicate {A = ℕ} 130 0))
 
 -- the slots of the other sum
-other-is : (c : lts.After-apart_slots tie.the-claims reads.Pre reads.Post tie.handed_clauses) (marks : List ℕ) (found : Reading) → (Sees (moves c.args) marks found c.args.told
-    → take c.apart_slots-all.result c.apart_slots-all.new.to ≡ apart (read_slots (moves c.args) marks c.args.k) (zero_here (moves c.args) found c.args.k))
+other-is : (c : lts.After-apart_slots tie.the-claims reads.Pre reads.Post tie.handed_clauses) (marks : List ℕ) (found : Reading)
+    → (Sees (moves c.args) marks found c.args.told
+    → take c.apart_slots-all.result c.apart_slots-all.new.to ≡ apart (read_slots (moves c.args) marks c.args.k)
+    (zero_here (moves c.args) found c.args.k))
 other-is c marks found S =
     let O = c.requires.6 in
     c.apart_slots-all.ensures.0 ∙ ap₂ apart (O.is marks found S) (c.zero_slots-found.ensures.2 marks found S O.whole)
 
-room : (c : lts.After-apart_slots tie.the-claims reads.Pre reads.Post tie.handed_clauses) → (c.apart_slots-all.result ≤ 130) × (c.apart_slots-all.result ≤ length c.apart_slots-all.new.to)
+room : (c : lts.After-apart_slots tie.the-claims reads.Pre reads.Post tie.handed_clauses)
+    → (c.apart_slots-all.result ≤ 130) × (c.apart_slots-all.result ≤ length c.apart_slots-all.new.to)
 room c =
     let a = c.apart_slots-all.ensures.1 in
     let Z = c.zero_slots-found.ensures.0 in
@@ -75,13 +80,15 @@ sum_to_page-requires c =
     let S = O.some-marks.2 in
     let r = room c.before.before.before.before in
     let fits = other_fits (moves c.args) c.requires.0 marks found c.args.told S c.args.slot c.args.k c.requires.1 O.whole in
-    let within = in-store c.args.sizes _ _ c.args.store.now c.apart_slots-all.result (other-is c.before.before.before.before marks found S) r.1 c.requires.2 fits in
+    let within = in-store c.args.sizes _ _ c.args.store.now c.apart_slots-all.result
+    (other-is c.before.before.before.before marks found S) r.1 c.requires.2 fits in
     record { le_count = (within.0, r.1, omega (arith, r.0), c.requires.3); by_index = within.1 }
 
 pub returns : goal.returns
 returns c marks found S =
     let O = c.requires.6 in
-    let has = ap (any (eqb c.args.slot)) (sym (c.zero_slots-found.ensures.2 marks found S O.whole)) ∙ sym c.has_slot.ensures ∙ c.if-not-has_slot.false in
+    let has = ap (any (eqb c.args.slot)) (sym (c.zero_slots-found.ensures.2 marks found S O.whole)) ∙ sym c.has_slot.ensures
+    ∙ c.if-not-has_slot.false in
     sums-to c.args.sizes.p (chip c.args marks) _ _ _
     (from-other (moves c.args) c.requires.0 marks found c.args.told S c.args.slot c.args.k c.requires.1 O.whole (own-has c.before.before.before.before.before.before.before.before.before.before.before.before.before.before.before.before.before.before.before.before.before.before marks found S) has)
     (c.sum_to_page.ensures.0 ∙ ap (sum (λ t. part c.args.sizes.p t c.args.store.now)) (other-is c.before.before.before.before.before.before.before marks found S))

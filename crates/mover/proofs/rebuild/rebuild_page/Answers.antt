@@ -26,7 +26,8 @@ after c = c.row_slots-count.new.slots
 pub row_slots-count-requires : goal.row_slots-count-requires
 row_slots-count-requires c = ((c.requires.0, c.requires.1, length-replicate {A = ℕ} 65 0, c.requires.5.0, c.requires.5.1))
 
-own_is : (c : lts.After-row_slots tie.the-claims reads.Pre reads.Post tie.handed_clauses) (marks : List ℕ) (found : Reading) → (Sees (moves c.args) marks found c.args.told
+own_is : (c : lts.After-row_slots tie.the-claims reads.Pre reads.Post tie.handed_clauses) (marks : List ℕ) (found : Reading)
+    → (Sees (moves c.args) marks found c.args.told
     → take c.row_slots-count.result (after c) ≡ read_slots (moves c.args) marks c.args.k)
 own_is c marks found S =
     (c.row_slots-count.ensures marks (at-moment (moves c.args) c.requires.0 marks found c.args.told S c.args.slot c.args.k c.requires.1)).slots-are
@@ -44,7 +45,8 @@ pub has_slot-requires : goal.has_slot-requires
 has_slot-requires c = (let r = room c.before.before in omega (arith, r.0, r.1))
 
 -- what was asked of read's slots holds of the definition's
-asked : (c : lts.After-has_slot tie.the-claims reads.Pre reads.Post tie.handed_clauses) (marks : List ℕ) (found : Reading) → (Sees (moves c.args) marks found c.args.told
+asked : (c : lts.After-has_slot tie.the-claims reads.Pre reads.Post tie.handed_clauses) (marks : List ℕ) (found : Reading)
+    → (Sees (moves c.args) marks found c.args.told
     → any (eqb c.args.slot) (read_slots (moves c.args) marks c.args.k) ≡ c.has_slot.result)
 asked c marks found S =
     ap (any (eqb c.args.slot)) (sym (own_is c.before.before marks found S)) ∙ sym c.has_slot.ensures
@@ -87,7 +89,8 @@ sum_to_page-requires c =
     let E = c.requires.4 in
     let fits = own-fits (moves c.args) c.requires.0 E.0 E.1 c.args.told E.2 c.args.slot c.args.k c.requires.1 in
     let few : c.row_slots-count.result ≤ length (after c.before.before.before.before.before.before) = omega (arith, R.0, R.1) in
-    let within = in-store c.args.sizes _ _ c.args.store.now c.row_slots-count.result (own_is c.before.before.before.before.before.before E.0 E.1 E.2) few c.requires.2 fits in
+    let within = in-store c.args.sizes _ _ c.args.store.now c.row_slots-count.result
+    (own_is c.before.before.before.before.before.before E.0 E.1 E.2) few c.requires.2 fits in
     record { le_count = (within.0, few, omega (arith, R.0), c.requires.3); by_index = within.1 }
 
 pub returns : goal.returns

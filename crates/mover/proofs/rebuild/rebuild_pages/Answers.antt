@@ -22,11 +22,13 @@ abbrev moves : {κs : Lfts 7} → lts.Args tie.the-claims reads.Pre reads.Post g
     → Move
 moves a = move_of a.sizes a.list.now a.sets.now
 
-within : (c : lts.In-loop tie.the-claims reads.Pre reads.Post goal.the-invariant-loop-k goal.the-decreases-loop-k) → c.loop-k.k < original_count c.args.sizes
+within : (c : lts.In-loop tie.the-claims reads.Pre reads.Post goal.the-invariant-loop-k goal.the-decreases-loop-k)
+    → c.loop-k.k < original_count c.args.sizes
 within c = omega (arith, c.loop-k-test.true, c.loop-k.invariant.3, c.requires.3)
 
 -- the page lies within the area
-fits : (c : lts.In-loop tie.the-claims reads.Pre reads.Post goal.the-invariant-loop-k goal.the-decreases-loop-k) → (let p = c.args.sizes.p in c.loop-k.k * p + p ≤ length c.loop-k.area)
+fits : (c : lts.In-loop tie.the-claims reads.Pre reads.Post goal.the-invariant-loop-k goal.the-decreases-loop-k)
+    → (let p = c.args.sizes.p in c.loop-k.k * p + p ≤ length c.loop-k.area)
 fits c =
     let Z = c.args.sizes in
     omega (arith, part-fits c.loop-k.k (original_count Z) Z.p (within c), c.requires.2, c.loop-k.invariant.2)
@@ -41,7 +43,8 @@ pub slice_bounds-rebuild_page-end : goal.slice_bounds-rebuild_page-end
 slice_bounds-rebuild_page-end c = fits c.before.before.before.before.before
 
 -- ---- the rows of its set
-set-lt : (c : lts.After-wide tie.the-claims reads.Pre reads.Post goal.the-invariant-loop-k goal.the-decreases-loop-k) → c.wide-set.result < c.args.sizes.m
+set-lt : (c : lts.After-wide tie.the-claims reads.Pre reads.Post goal.the-invariant-loop-k goal.the-decreases-loop-k)
+    → c.wide-set.result < c.args.sizes.m
 unfolding set_of
 set-lt c =
     subst (λ (x : ℕ). x < c.args.sizes.m) (sym c.wide-set.ensures) (set-in (moves c.args) c.requires.0 c.loop-k.k (within c.before.before))
@@ -55,7 +58,8 @@ row-row_of_pages-requires c = ((omega (arith, set-lt c.before, c.requires.0.rang
 pub row-row_of_sources-requires : goal.row-row_of_sources-requires
 row-row_of_sources-requires c = ((omega (arith, set-lt c.before.before, c.requires.0.ranges.m-high), c.requires.6.room))
 
-rows_are : (c : lts.After-row2 tie.the-claims reads.Pre reads.Post goal.the-invariant-loop-k goal.the-decreases-loop-k) → (RowsOf (moves c.args) (set_of c.args.sets.now c.loop-k.k) c.row-row_of_pages.result.now c.row-row_of_sources.result.now)
+rows_are : (c : lts.After-row2 tie.the-claims reads.Pre reads.Post goal.the-invariant-loop-k goal.the-decreases-loop-k)
+    → (RowsOf (moves c.args) (set_of c.args.sets.now c.loop-k.k) c.row-row_of_pages.result.now c.row-row_of_sources.result.now)
 unfolding set_of
 rows_are c =
     let set = c.wide-set.result in
@@ -81,11 +85,13 @@ loop-k-preserved c =
     let M = moves c.args in
     let new = c.rebuild_page.new.page in
     let v = c.rebuild_page.result in
-    let whole : length new ≡ p = c.rebuild_page.auto.page ∙ rw (lent-part p l.k l.area) (length_part p l.k l.area (fits c.before.before.before.before.before.before.before.before.before)) in
+    let whole : length new ≡ p = c.rebuild_page.auto.page
+    ∙ rw (lent-part p l.k l.area) (length_part p l.k l.area (fits c.before.before.before.before.before.before.before.before.before)) in
     let back = lent_back p l.k l.area new in (
       subst (λ (area : List ℕ). MadeOf M c.args.store.now c.args.told c.args.slot area (set l.flags l.k v) (l.k + 1)) (sym back)
           (λ marks found S. (let E = c.rebuild_page.ensures marks found S in
-          one-made p _ _ l.area l.flags l.k (l.invariant.0 marks found S) new v (fits c.before.before.before.before.before.before.before.before.before) c.loop-k-test.true whole E.1 E.0)),
+          one-made p _ _ l.area l.flags l.k (l.invariant.0 marks found S) new v
+          (fits c.before.before.before.before.before.before.before.before.before) c.loop-k-test.true whole E.1 E.0)),
       omega (arith, c.loop-k-test.true, l.invariant.3),
       ap length back ∙ length-set_part p l.k l.area new (fits c.before.before.before.before.before.before.before.before.before) whole ∙ l.invariant.2,
       length-set l.flags l.k v ∙ l.invariant.3,

@@ -16,7 +16,8 @@ MadeOf M store told slot area flags k = (marks : List ℕ) (found : Reading) →
 
 abbrev pub invariant-loop-k : goal.invariant-loop-k
 invariant-loop-k l =
-    MadeOf (move_of l.sizes l.list l.sets) l.store l.told l.slot l.area l.flags l.k × (l.k ≤ length l.initial.flags) × (length l.area ≡ length l.initial.area) × (length l.flags ≡ length l.initial.flags)
+    MadeOf (move_of l.sizes l.list l.sets) l.store l.told l.slot l.area l.flags l.k × (l.k ≤ length l.initial.flags)
+    × (length l.area ≡ length l.initial.area) × (length l.flags ≡ length l.initial.flags)
 
 abbrev pub decreases-loop-k : goal.decreases-loop-k
 decreases-loop-k l = length l.initial.flags - l.k

@@ -28,7 +28,8 @@ pub bounds-sets-k : goal.bounds-sets-k
 bounds-sets-k c = (omega (arith, c.requires.1, c.requires.0.sets-length))
 
 pub backward_zero-requires : goal.backward_zero-requires
-backward_zero-requires c = ((c.requires.0, set-lt c.before.before.before, c.requires.2, c.requires.3, (rows_are c.before.before.before).0, (rows_are c.before.before.before).1, c.requires.5))
+backward_zero-requires c =
+    ((c.requires.0, set-lt c.before.before.before, c.requires.2, c.requires.3, (rows_are c.before.before.before).0, (rows_are c.before.before.before).1, c.requires.5))
 
 pub returns-then-told : goal.returns-then-told
 unfolding set_of
@@ -36,11 +37,13 @@ returns-then-told c =
     let z = c.backward_zero.ensures in (
       z.0,
       z.1,
-      λ marks found S whole. back (moves c.args) c.requires.0 marks found c.args.told S 0 c.args.k c.requires.1 whole c.if-told.true _ (λ begun T. rw c.wide-set.ensures at (z.2 begun T)),
+      λ marks found S whole. back (moves c.args) c.requires.0 marks found c.args.told S 0 c.args.k c.requires.1 whole c.if-told.true _
+          (λ begun T. rw c.wide-set.ensures at (z.2 begun T)),
     )
 
 pub forward_zero-requires : goal.forward_zero-requires
-forward_zero-requires c = ((c.requires.0, set-lt c.before.before.before, c.requires.2, c.requires.3, (rows_are c.before.before.before).0, (rows_are c.before.before.before).1, c.requires.5))
+forward_zero-requires c =
+    ((c.requires.0, set-lt c.before.before.before, c.requires.2, c.requires.3, (rows_are c.before.before.before).0, (rows_are c.before.before.before).1, c.requires.5))
 
 pub returns : goal.returns
 unfolding set_of
@@ -48,5 +51,6 @@ returns c =
     let z = c.forward_zero.ensures in (
       z.0,
       z.1,
-      λ marks found S whole. forth (moves c.args) c.requires.0 marks found c.args.told S 0 c.args.k c.requires.1 whole c.if-told.false _ (λ begun T. rw c.wide-set.ensures at (z.2 begun T)),
+      λ marks found S whole. forth (moves c.args) c.requires.0 marks found c.args.told S 0 c.args.k c.requires.1 whole c.if-told.false _
+          (λ begun T. rw c.wide-set.ensures at (z.2 begun T)),
     )

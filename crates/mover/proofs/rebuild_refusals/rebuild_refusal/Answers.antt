@@ -60,4 +60,5 @@ kept_refusal-requires c =
 pub returns : goal.returns
 unfolding rebuild_number bad_areas
 returns c =
-    c.kept_refusal.ensures ∙ sym (rw (ranged c.before.before.before.before.before.before, ← c.bad_lent.ensures, ← c.original_count-originals.ensures, c.if-bad_lent-area.false))
+    c.kept_refusal.ensures
+    ∙ sym (rw (ranged c.before.before.before.before.before.before, ← c.bad_lent.ensures, ← c.original_count-originals.ensures, c.if-bad_lent-area.false))

@@ -30,7 +30,11 @@ chip a = record { store = a.store.now; marks = a.marks.now }
 pub returns-then-not-in_range : goal.returns-then-not-in_range
 unfolding list_left any
 returns-then-not-in_range c =
-    record { value = sym (move-number (asked c.args) (chip c.args) c.args.work.now ∙ rw (← c.in_range.ensures, c.if-not-in_range.true)); list_after = refl; by_destination = λ z. absurd (omega arith) }
+    record {
+      value = sym (move-number (asked c.args) (chip c.args) c.args.work.now ∙ rw (← c.in_range.ensures, c.if-not-in_range.true));
+      list_after = refl;
+      by_destination = λ z. absurd (omega arith);
+    }
 
 -- ---- the sizes are in their ranges
 ranged : (c : lts.Else1 tie.the-claims reads.Pre reads.Post tie.handed_clauses) → in_range c.args.sizes ≡ true
@@ -45,7 +49,12 @@ bad_parts-requires c = let B = ranges c.before in (B.n-high, B.m-high, B.p-high)
 pub returns-then-bad_parts : goal.returns-then-bad_parts
 unfolding list_left any
 returns-then-bad_parts c =
-    record { value = sym (move-number (asked c.args) (chip c.args) c.args.work.now ∙ rw (ranged c.before.before.before, ← c.bad_parts.ensures, c.if-bad_parts.true)); list_after = refl; by_destination = λ z. absurd (omega arith) }
+    record {
+      value = sym
+          (move-number (asked c.args) (chip c.args) c.args.work.now ∙ rw (ranged c.before.before.before, ← c.bad_parts.ensures, c.if-bad_parts.true));
+      list_after = refl;
+      by_destination = λ z. absurd (omega arith);
+    }
 
 -- ---- past rows 1 and 2
 in-sizes : (c : lts.Else2 tie.the-claims reads.Pre reads.Post tie.handed_clauses) → in_range c.args.sizes ≡ true
@@ -71,26 +80,37 @@ list_refusal-number-requires c =
     (l.1 ∙ sym l.0, omega (arith, l.0, l.3), omega (arith, c.original_count.ensures, l.3), c.requires.1)
 
 -- what was found
-judged : (c : lts.After-list_refusal tie.the-claims reads.Pre reads.Post tie.handed_clauses) → (c.list_refusal-number.result ≡ cond (bad_list (c.args.sizes.n * c.args.sizes.m) c.args.list.now) 3
+judged : (c : lts.After-list_refusal tie.the-claims reads.Pre reads.Post tie.handed_clauses)
+    → (c.list_refusal-number.result ≡ cond (bad_list (c.args.sizes.n * c.args.sizes.m) c.args.list.now) 3
     (cond (moves_pinned c.args.pins.now c.args.list.now) 11 0))
 judged c = rw (← c.original_count.ensures) c.list_refusal-number.ensures.value
 
 pub returns-then-number-ne0 : goal.returns-then-number-ne0
 returns-then-number-ne0 c =
     let list = c.args.list.now in
-    let ne = subst (λ (x : ℕ). x ≢ 0) (judged c.before.before) c.if-number-ne0.true in record { value = judged c.before.before ∙ sym (by-drops (asked c.args) (chip c.args) c.args.work.now (in-sizes c.before.before.before.before.before.before.before) (parts c.before.before.before.before.before.before.before) ne); list_after = rw (judged c.before.before) (left-judged (bad_list (c.args.sizes.n * c.args.sizes.m) list) (moves_pinned c.args.pins.now list) list ne); by_destination = λ z. absurd (c.if-number-ne0.true z) }
+    let ne = subst (λ (x : ℕ). x ≢ 0) (judged c.before.before) c.if-number-ne0.true in record {
+      value = judged c.before.before
+          ∙ sym (by-drops (asked c.args) (chip c.args) c.args.work.now (in-sizes c.before.before.before.before.before.before.before) (parts c.before.before.before.before.before.before.before) ne);
+      list_after = rw (judged c.before.before)
+          (left-judged (bad_list (c.args.sizes.n * c.args.sizes.m) list) (moves_pinned c.args.pins.now list) list ne);
+      by_destination = λ z. absurd (c.if-number-ne0.true z);
+    }
 
 -- ---- and it is completed
 past : (c : lts.Else4 tie.the-claims reads.Pre reads.Post tie.handed_clauses) → (let Z = c.args.sizes in
     (bad_list (Z.n * Z.m) c.args.list.now ≡ false)
     × (refusal (move_rows (asked c.args) (chip c.args) c.args.work.now []) ≡ cond (is_split Z.n Z.m (completed c.args.list.now) c.args.sets.now) 0 4))
 past c =
-    past-drops (asked c.args) (chip c.args) c.args.work.now (in-sizes c.before.before.before.before.before.before) (parts c.before.before.before.before.before.before) (sym (judged c.before) ∙ c.if-number-ne0.false)
+    past-drops (asked c.args) (chip c.args) c.args.work.now (in-sizes c.before.before.before.before.before.before)
+    (parts c.before.before.before.before.before.before) (sym (judged c.before) ∙ c.if-number-ne0.false)
 
 pub complete-requires : goal.complete-requires
 complete-requires c =
     let l = lengths c.before.before.before.before.before.before.before.before.before.before in
-    record { list_len_bound = (omega arith, rw l.0 (past c.before.before.before.before).0); pages_value = (c.requires.0, c.list_refusal-number.ensures.kept_marked c.if-number-ne0.false) }
+    record {
+      list_len_bound = (omega arith, rw l.0 (past c.before.before.before.before).0);
+      pages_value = (c.requires.0, c.list_refusal-number.ensures.kept_marked c.if-number-ne0.false);
+    }
 
 pub sets_refusal-requires : goal.sets_refusal-requires
 sets_refusal-requires c =
@@ -110,7 +130,11 @@ returns-then-has_drop c =
     let done = c.complete.ensures.list_after in
     let split = is_split Z.n Z.m (completed list) c.args.sets.now in
     let found : c.sets_refusal.result ≡ cond split 0 4 =
-    c.sets_refusal.ensures.value ∙ rw (done, completed-accepted (Z.n * Z.m) list (lengths c.before.before.before.before.before.before.before.before.before.before.before.before.before.before.before).0 (past c.before.before.before.before.before.before.before.before.before).0) in record { value = found ∙ sym (past c.before.before.before.before.before.before.before.before.before).1; list_after = done ∙ rw found (left_split split list); by_destination = λ z. (c.sets_refusal.ensures.by_destination z, c.complete.ensures.drops_told) }
+    c.sets_refusal.ensures.value ∙ rw (done, completed-accepted (Z.n * Z.m) list (lengths c.before.before.before.before.before.before.before.before.before.before.before.before.before.before.before).0 (past c.before.before.before.before.before.before.before.before.before).0) in record {
+      value = found ∙ sym (past c.before.before.before.before.before.before.before.before.before).1;
+      list_after = done ∙ rw found (left_split split list);
+      by_destination = λ z. (c.sets_refusal.ensures.by_destination z, c.complete.ensures.drops_told);
+    }
 
 -- ---- without drops
 pub sets_refusal-number-requires : goal.sets_refusal-number-requires
@@ -130,12 +154,19 @@ decided : (c : lts.After-moves_pinned tie.the-claims reads.Pre reads.Post tie.ha
     refusal (move_rows (asked c.args) (chip c.args) c.args.work.now []) ≡ cond (not (eqb found 3) && c.moves_pinned.result) 11 found)
 decided c =
     let found = c.sets_refusal-number.ensures.value in
-    by-list (asked c.args) (chip c.args) c.args.work.now (in-sizes c.before.before.before.before.before) (parts c.before.before.before.before.before) (none c.before.before.before) ∙ rw (← found, ← c.moves_pinned.ensures)
+    by-list (asked c.args) (chip c.args) c.args.work.now (in-sizes c.before.before.before.before.before)
+    (parts c.before.before.before.before.before) (none c.before.before.before) ∙ rw (← found, ← c.moves_pinned.ensures)
 
 pub returns-then-number-moves_pinned : goal.returns-then-number-moves_pinned
 unfolding list_left any
-returns-then-number-moves_pinned c = record { value = sym (decided c.before.before ∙ rw c.if-number-moves_pinned.true); list_after = refl; by_destination = λ z. absurd (omega arith) }
+returns-then-number-moves_pinned c =
+    record { value = sym (decided c.before.before ∙ rw c.if-number-moves_pinned.true); list_after = refl; by_destination = λ z. absurd (omega arith) }
 
 pub returns : goal.returns
 returns c =
-    let list = c.args.list.now in record { value = sym (decided c.before.before ∙ rw c.if-number-moves_pinned.false); list_after = left-undropped _ list (undropped-completed list (none c.before.before.before.before.before)); by_destination = λ z. (c.sets_refusal-number.ensures.by_destination z, none_told list _ _ (none c.before.before.before.before.before) c.requires.0 c.requires.1) }
+    let list = c.args.list.now in record {
+      value = sym (decided c.before.before ∙ rw c.if-number-moves_pinned.false);
+      list_after = left-undropped _ list (undropped-completed list (none c.before.before.before.before.before));
+      by_destination = λ z.
+          (c.sets_refusal-number.ensures.by_destination z, none_told list _ _ (none c.before.before.before.before.before) c.requires.0 c.requires.1);
+    }

@@ -37,7 +37,8 @@ returns-then-backward c =
     let A = c.requires.0 in
     record {
       sources-tell = λ e. absurd (never_both c.if-backward.true e);
-      sets-tell = λ e. by-destination _ _ _ _ A.list_length (few c.before.before.before.before.before.before.before) c.sets_by_destination.ensures.0 A.one-to-one;
+      sets-tell = λ e. by-destination _ _ _ _ A.list_length
+          (few c.before.before.before.before.before.before.before) c.sets_by_destination.ensures.0 A.one-to-one;
     }
 
 pub sources_table-requires : goal.sources_table-requires

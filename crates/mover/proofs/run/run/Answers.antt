@@ -36,7 +36,8 @@ returns-then-number-ne0 c =
     }
 
 -- ---- past the rows of the move
-none : (c : lts.Else1 tie.the-claims reads.Pre reads.Post tie.handed_clauses) → 0 ≡ refusal (move_rows (asked c.args) (chip c.args) c.args.work.now [])
+none : (c : lts.Else1 tie.the-claims reads.Pre reads.Post tie.handed_clauses)
+    → 0 ≡ refusal (move_rows (asked c.args) (chip c.args) c.args.work.now [])
 none c = sym c.if-number-ne0.false ∙ c.move_refusal-number.ensures.value
 
 accepted : (c : lts.Else1 tie.the-claims reads.Pre reads.Post tie.handed_clauses)
@@ -77,7 +78,8 @@ unfolding list_left any
 returns-then-is_worn_out c =
     record {
       work_after = refused-by-wear (asked c.args) (chip c.args) c.args.work.now c.args.wear c.args.place c.args.limit c.args.budget
-          (none c.before.before.before.before.before.before) (stands c.before.before.before.before) (sym c.if-is_worn_out.true ∙ c.is_worn_out.ensures) _ c.refused-then-is_worn_out.ensures;
+          (none c.before.before.before.before.before.before) (stands c.before.before.before.before)
+          (sym c.if-is_worn_out.true ∙ c.is_worn_out.ensures) _ c.refused-then-is_worn_out.ensures;
       list_after = rw c.refused-then-is_worn_out.ensures (left c.before.before.before.before.before.before);
     }
 
@@ -92,12 +94,14 @@ pub carry_out-requires : goal.carry_out-requires
 carry_out-requires c =
     let R = asked c.args in
     let g = accepted c.before.before.before.before.before.before.before.before.before.before.before in
-    let same = move-told R _ _ _ (left c.before.before.before.before.before.before.before.before.before.before.before) (told c.before.before.before.before.before.before.before.before.before.before.before) in (
+    let same = move-told R _ _ _ (left c.before.before.before.before.before.before.before.before.before.before.before)
+    (told c.before.before.before.before.before.before.before.before.before.before.before) in (
       subst AcceptedMove (sym same) g.0,
       g.1,
       sym (stands c.before.before.before.before.before.before.before.before.before),
       (c.move_refusal-number.ensures.by_destination c.if-number-ne0.false).0,
-      drops-told R _ _ _ (left c.before.before.before.before.before.before.before.before.before.before.before) (told c.before.before.before.before.before.before.before.before.before.before.before) g.2,
+      drops-told R _ _ _ (left c.before.before.before.before.before.before.before.before.before.before.before)
+          (told c.before.before.before.before.before.before.before.before.before.before.before) g.2,
     )
 
 -- the list is as long as it was
@@ -109,9 +113,14 @@ pub returns : goal.returns
 unfolding list_left any run_carried_out
 returns c =
     let a = c.args in
-    let same = plan-told (asked c.args) _ _ _ (left c.before.before.before.before.before.before.before.before.before.before.before.before.before.before.before.before.before.before) (told c.before.before.before.before.before.before.before.before.before.before.before.before.before.before.before.before.before.before) in record {
+    let same = plan-told (asked c.args) _ _ _
+    (left c.before.before.before.before.before.before.before.before.before.before.before.before.before.before.before.before.before.before)
+    (told c.before.before.before.before.before.before.before.before.before.before.before.before.before.before.before.before.before.before) in
+    record {
       work_after = not-refused (asked c.args) (chip c.args) a.work.now a.wear a.place a.limit a.budget
-          (none c.before.before.before.before.before.before.before.before.before.before.before.before.before.before.before.before.before.before) (stands c.before.before.before.before.before.before.before.before.before.before.before.before.before.before.before.before) (sym c.if-is_worn_out.false ∙ c.is_worn_out.ensures) _
+          (none c.before.before.before.before.before.before.before.before.before.before.before.before.before.before.before.before.before.before)
+          (stands c.before.before.before.before.before.before.before.before.before.before.before.before.before.before.before.before)
+          (sym c.if-is_worn_out.false ∙ c.is_worn_out.ensures) _
           (c.carry_out.ensures
           ∙ ap (λ (X : Plan). run_carried_out X (chip c.args) a.work.now a.wear a.place (steps_taken a.sizes a.place a.budget)) same);
       list_after = left c.before.before.before.before.before.before.before.before.before.before.before.before.before.before.before.before.before.before ∙ ap (λ (x : ℕ). list_left x a.list.now) (sym (ap (λ (ran : RunAnswer). ran.number) c.carry_out.ensures));

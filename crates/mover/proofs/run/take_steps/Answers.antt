@@ -25,10 +25,12 @@ use Rattle.mover.proofs.run.take_steps.Lts as lts
 use Rattle.mover.proofs.run.take_steps.Reads as reads
 use Rattle.mover.proofs.run.take_steps.Tie as tie
 
-abbrev planned : {κs : Lfts 9} → lts.Args tie.the-claims reads.Pre reads.Post goal.the-invariant-loop-i goal.the-decreases-loop-i tie.handed_clauses κs → Plan
+abbrev planned : {κs : Lfts 9}
+    → lts.Args tie.the-claims reads.Pre reads.Post goal.the-invariant-loop-i goal.the-decreases-loop-i tie.handed_clauses κs → Plan
 planned a = plan_by a.sizes a.list.now a.sets.now a.drops.now
 
-abbrev from : {κs : Lfts 9} → lts.Args tie.the-claims reads.Pre reads.Post goal.the-invariant-loop-i goal.the-decreases-loop-i tie.handed_clauses κs → Running
+abbrev from : {κs : Lfts 9}
+    → lts.Args tie.the-claims reads.Pre reads.Post goal.the-invariant-loop-i goal.the-decreases-loop-i tie.handed_clauses κs → Running
 from a = running_of a.store.now a.marks.now a.work.now
 
 pub overflow_sub-last : goal.overflow_sub-last
@@ -64,7 +66,8 @@ loop-i-init c =
 -- where the loop stands
 standing : (c : lts.At-loop tie.the-claims reads.Pre reads.Post goal.the-invariant-loop-i goal.the-decreases-loop-i tie.handed_clauses)
     → (let l = c.loop-i in let chip : Chip = record { store = l.store; marks = l.marks } in
-    Stood (planned c.args) c.requires.0 (record { chip = chip; work = (steps (planned c.args) l.i c.args.place (from c.args)).work }) (c.args.place + l.i))
+    Stood (planned c.args) c.requires.0 (record { chip = chip; work = (steps (planned c.args) l.i c.args.place (from c.args)).work })
+    (c.args.place + l.i))
 standing c =
     let in-move = placed c.before.before.before in
     goes_on (planned c.args) c.requires.0 (from c.args) c.args.place c.requires.1 c.requires.2 c.loop-i.i (omega arith) _ c.loop-i.invariant.0
@@ -91,7 +94,8 @@ step-tally-requires c =
         other-tells = c.fill_other.ensures;
         room = omega arith;
       };
-      reciprocal_value = (c.reciprocal-reciprocal.ensures, is-place _ _ _ l.invariant.2, rw at S.stands.marks, l.invariant.5, lent.store_length, lent.marks-length, few);
+      reciprocal_value =
+          (c.reciprocal-reciprocal.ensures, is-place _ _ _ l.invariant.2, rw at S.stands.marks, l.invariant.5, lent.store_length, lent.marks-length, few);
     }
 
 -- where the turn began whose step is taken
@@ -111,10 +115,12 @@ next-at-requires c =
     (c.requires.0.ranges, is-place _ _ _ l.invariant.2, rw (number_is _ _ _ l.invariant.2) (inside c.before.before.before.before.before.before.before.before.before.before.before.before.before.before.before.before.before).0)
 
 pub overflow_step-i : goal.overflow_step-i
-overflow_step-i c = omega (arith, inside c.before.before.before.before.before.before.before.before.before.before.before.before.before.before.before.before.before.before)
+overflow_step-i c =
+    omega (arith, inside c.before.before.before.before.before.before.before.before.before.before.before.before.before.before.before.before.before.before)
 
 -- the counters after the step
-worn-is : (c : lts.Joined1 tie.the-claims reads.Pre reads.Post goal.the-invariant-loop-i goal.the-decreases-loop-i tie.handed_clauses) (wear : Wear) → (let a = c.args in
+worn-is : (c : lts.Joined1 tie.the-claims reads.Pre reads.Post goal.the-invariant-loop-i goal.the-decreases-loop-i tie.handed_clauses) (wear : Wear)
+    → (let a = c.args in
     c.loop-i.wear ≡ worn_by (operations_from a.sizes a.place c.loop-i.i) wear
     → c.if-at-sizes.wear ≡ worn_by (operations_from a.sizes a.place (c.loop-i.i + 1)) wear)
 worn-is c wear e =
@@ -122,8 +128,13 @@ worn-is c wear e =
     let a = c.args in
     let at = number_is _ _ _ l.invariant.2 in
     elim c.if-at-sizes.branch [
-      | then-at-sizes w ↦ w.wear-is ∙ erase-worn a.sizes a.place l.i (inside c.before.before.before.before.before.before.before.before.before.before.before.before.before.before.before.before).0 w.freed-freed.result _ wear _ (rw at at w.freed-freed.ensures) e w.rise-most.ensures
-      | else-at-sizes w ↦ w.wear-is ∙ write-worn a.sizes a.place l.i (inside c.before.before.before.before.before.before.before.before.before.before.before.before.before.before.before.before).0 (λ full. w.if-at-sizes.false (page-is _ _ (is-place _ _ _ l.invariant.2) ∙ ap (filled a.sizes) at ∙ full)) _ wear e
+      | then-at-sizes w ↦ w.wear-is
+          ∙ erase-worn a.sizes a.place l.i
+          (inside c.before.before.before.before.before.before.before.before.before.before.before.before.before.before.before.before).0 w.freed-freed.result _ wear _ (rw at at w.freed-freed.ensures) e w.rise-most.ensures
+      | else-at-sizes w ↦ w.wear-is
+          ∙ write-worn a.sizes a.place l.i
+          (inside c.before.before.before.before.before.before.before.before.before.before.before.before.before.before.before.before).0
+          (λ full. w.if-at-sizes.false (page-is _ _ (is-place _ _ _ l.invariant.2) ∙ ap (filled a.sizes) at ∙ full)) _ wear e
     ]
 
 pub loop-i-preserved : goal.loop-i-preserved
@@ -147,7 +158,8 @@ overflow_add-reached c = omega (arith, placed c.before.before.before.before.befo
 
 pub overflow_sub-reached : goal.overflow_sub-reached
 overflow_sub-reached c =
-    let few = few-tallied (planned c.args) c.loop-i.i c.args.place (from c.args) (omega (arith, placed c.before.before.before.before.before.before.before)) in
+    let few = few-tallied (planned c.args) c.loop-i.i c.args.place (from c.args)
+    (omega (arith, placed c.before.before.before.before.before.before.before)) in
     omega (arith, ap (λ (t : Tally). t.writes) c.loop-i.invariant.1, c.if-tally-gt0.true)
 
 pub keep_last_page-requires : goal.keep_last_page-requires
@@ -155,7 +167,8 @@ keep_last_page-requires c =
     (c.requires.0.ranges, omega (arith, placed c.before.before.before.before.before.before.before.before), (standing c.before.before.before.before.before).lent.store_length, c.requires.1.work-length)
 
 -- the work page that is left
-work-is : (c : lts.Joined2 tie.the-claims reads.Pre reads.Post goal.the-invariant-loop-i goal.the-decreases-loop-i tie.handed_clauses) → (c.if-tally-gt0.work ≡ (steps (planned c.args) c.loop-i.i c.args.place (from c.args)).work)
+work-is : (c : lts.Joined2 tie.the-claims reads.Pre reads.Post goal.the-invariant-loop-i goal.the-decreases-loop-i tie.handed_clauses)
+    → (c.if-tally-gt0.work ≡ (steps (planned c.args) c.loop-i.i c.args.place (from c.args)).work)
 unfolding page_at
 work-is c =
     let Z = c.args.sizes in

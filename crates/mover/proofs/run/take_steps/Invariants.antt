@@ -12,8 +12,10 @@ use Rattle.mover.proofs.run.take_steps.Given as goal
 
 abbrev pub invariant-loop-i : goal.invariant-loop-i
 invariant-loop-i l =
-    ◌≡◌ {A = Chip} (record { store = l.store; marks = l.marks }) (steps (plan_by l.sizes l.list l.sets l.drops) l.i l.place (running_of l.initial.store l.initial.marks l.work)).chip
-    × (l.tally ≡ tally_of (plan_by l.sizes l.list l.sets l.drops) l.i l.place (running_of l.initial.store l.initial.marks l.work)) × (l.at ≡ place_of l.sizes (l.place + l.i)) × (l.i ≤ l.taken) × OtherTable (move_of l.sizes l.list l.sets) l.held l.other
+    ◌≡◌ {A = Chip} (record { store = l.store; marks = l.marks })
+    (steps (plan_by l.sizes l.list l.sets l.drops) l.i l.place (running_of l.initial.store l.initial.marks l.work)).chip
+    × (l.tally ≡ tally_of (plan_by l.sizes l.list l.sets l.drops) l.i l.place (running_of l.initial.store l.initial.marks l.work))
+    × (l.at ≡ place_of l.sizes (l.place + l.i)) × (l.i ≤ l.taken) × OtherTable (move_of l.sizes l.list l.sets) l.held l.other
     × (length l.slots ≡ slots_length) × (l.wear ≡ worn_by (operations_from l.sizes l.place l.i) l.initial.wear)
 
 abbrev pub decreases-loop-i : goal.decreases-loop-i

@@ -8,7 +8,10 @@ pub backward_terms-requires : goal.backward_terms-requires
 backward_terms-requires c =
     let R = c.requires.list_in in
     let low = c.requires.reciprocal_value.4 c.if-backward.true in
-    record { pages_in = (R.2, R.0, low, c.requires.reciprocal_value.3, c.requires.reciprocal_value.2, c.requires.reciprocal_value.0, R.7); n_bound = (R.4, R.5, R.1, c.requires.reciprocal_value.1) }
+    record {
+      pages_in = (R.2, R.0, low, c.requires.reciprocal_value.3, c.requires.reciprocal_value.2, c.requires.reciprocal_value.0, R.7);
+      n_bound = (R.4, R.5, R.1, c.requires.reciprocal_value.1);
+    }
 
 pub returns-then-backward : goal.returns-then-backward
 returns-then-backward c =
@@ -29,7 +32,10 @@ pub forward_terms-requires : goal.forward_terms-requires
 forward_terms-requires c =
     let R = c.requires.list_in in
     let no = c.if-backward.false in
-    record { pages_in = (R.2, (R.3 no).1, omega (arith, c.requires.reciprocal_value.5 no), R.6); n_bound = (R.4, R.5, R.1, c.requires.reciprocal_value.1) }
+    record {
+      pages_in = (R.2, (R.3 no).1, omega (arith, c.requires.reciprocal_value.5 no), R.6);
+      n_bound = (R.4, R.5, R.1, c.requires.reciprocal_value.1);
+    }
 
 pub returns : goal.returns
 returns c =

@@ -30,7 +30,8 @@ known : (c : lts.Past-After-known_told tie.the-claims reads.Pre reads.Post tie.h
     WriteKnown (moved c.args) c.requires.pass_tables.accepted c.args.place c.requires.reciprocal_value.1 c.args.marks.now c.requires.reciprocal_value.2 v.backward v.block)
 known c =
     let v = c.in-Write in
-    write_known (moved c.args) c.requires.pass_tables.accepted c.args.place c.requires.reciprocal_value.1 c.args.marks.now c.requires.reciprocal_value.2 v.backward v.block v.page (writes c).is
+    write_known
+    (moved c.args) c.requires.pass_tables.accepted c.args.place c.requires.reciprocal_value.1 c.args.marks.now c.requires.reciprocal_value.2 v.backward v.block v.page (writes c).is
 
 -- its slot is one of the store
 inside : (c : lts.Past-After-known_told tie.the-claims reads.Pre reads.Post tie.handed_clauses) → (let Z = c.args.sizes in let v = c.in-Write in
@@ -45,8 +46,12 @@ inside c =
 pub write_terms-terms-requires : goal.write_terms-terms-requires
 write_terms-terms-requires c =
     let W = writes c.before.before in
-    let tables = subst (λ (t : Bool). PassTables (moved c.args) c.args.few t c.args.pages.now c.args.other.now c.args.drops.now c.args.places.now) (known c.before.before).pass-is c.requires.pass_tables in
-    record { pass_tables = tables; reciprocal_value = (c.requires.reciprocal_value.0, c.requires.reciprocal_value.3, W.page-in, W.block_in, W.low, W.high) }
+    let tables = subst (λ (t : Bool). PassTables (moved c.args) c.args.few t c.args.pages.now c.args.other.now c.args.drops.now c.args.places.now)
+    (known c.before.before).pass-is c.requires.pass_tables in
+    record {
+      pass_tables = tables;
+      reciprocal_value = (c.requires.reciprocal_value.0, c.requires.reciprocal_value.3, W.page-in, W.block_in, W.low, W.high);
+    }
 
 pub overflow_mul-slot : goal.overflow_mul-slot
 overflow_mul-slot c = omega (arith, inside c.before.before.before.before)
@@ -57,7 +62,12 @@ overflow_add-slot c = omega (arith, inside c.before.before.before.before)
 pub total_to_slot-written-requires : goal.total_to_slot-written-requires
 total_to_slot-written-requires c =
     let F = c.write_terms-terms.ensures.count_le_slots_length in
-    let fits = slot-in-store c.args.sizes in record { count_in_bounds = (omega (arith, F.0, F.1), omega (arith, F.0), rw c.requires.reciprocal_value.4 (fits _ (inside c.before.before.before.before.before.before.before).0)); by_index = (λ j h. rw c.requires.reciprocal_value.4 (fits _ (F.2 j h).0)); by_index_2 = λ j h. (F.2 j h).1 }
+    let fits = slot-in-store c.args.sizes in record {
+      count_in_bounds =
+          (omega (arith, F.0, F.1), omega (arith, F.0), rw c.requires.reciprocal_value.4 (fits _ (inside c.before.before.before.before.before.before.before).0));
+      by_index = (λ j h. rw c.requires.reciprocal_value.4 (fits _ (F.2 j h).0));
+      by_index_2 = λ j h. (F.2 j h).1;
+    }
 
 pub bounds-marks-slot : goal.bounds-marks-slot
 bounds-marks-slot c =
@@ -87,14 +97,18 @@ overflow_add-tally-in-Write-3 c =
     omega (arith, c.write_terms-terms.ensures.count_le_slots_length.0, c.requires.reciprocal_value.6)
 
 -- ---- it is this erase
-erases : (c : lts.Past-After-known_told2 tie.the-claims reads.Pre reads.Post tie.handed_clauses) → (let a = c.args in IsErase a.sizes a.place.at c.in-Erase.block)
+erases : (c : lts.Past-After-known_told2 tie.the-claims reads.Pre reads.Post tie.handed_clauses)
+    → (let a = c.args in IsErase a.sizes a.place.at c.in-Erase.block)
 erases c = (let a = c.args in is-erase a.sizes a.place.at _ (sym c.in-Erase.is ∙ c.operation.ensures))
 
 pub erase_block-requires : goal.erase_block-requires
 erase_block-requires c =
     let block = c.in-Erase.block in
     let i = (erases c.before.before.before).block_in in
-    record { p_in_bounds = rw c.requires.reciprocal_value.4 (block-in-store c.args.sizes block i); m_in_bounds = rw c.requires.reciprocal_value.5 (block-in-marks c.args.sizes block i) }
+    record {
+      p_in_bounds = rw c.requires.reciprocal_value.4 (block-in-store c.args.sizes block i);
+      m_in_bounds = rw c.requires.reciprocal_value.5 (block-in-marks c.args.sizes block i);
+    }
 
 -- ---- what is left
 pub returns-in-Write : goal.returns-in-Write
@@ -105,7 +119,8 @@ returns-in-Write c =
     let v = c.in-Write in
     let W = writes c.before.before.before.before.before.before.before.before.before.before.before.before.before.before.before in
     let pass = pass_of v.backward in
-    let sums = c.write_terms-terms.ensures.by_index a.marks.now (known c.before.before.before.before.before.before.before.before.before.before.before.before.before.before.before).shape in
+    let sums = c.write_terms-terms.ensures.by_index a.marks.now
+    (known c.before.before.before.before.before.before.before.before.before.before.before.before.before.before.before).shape in
     let room = c.write_terms-terms.ensures.count_le_slots_length.1 in record {
       fact = (stepped (planned c.args) a.place.at (write pass v.block v.page) W.is _ _ _ _
           (wrote (planned c.args) pass v.block v.page a.store.now a.marks.now c.requires.reciprocal_value.4 _ _ sums _ v.mark summed.0 W.mark-is)

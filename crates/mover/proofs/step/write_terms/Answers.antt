@@ -84,7 +84,8 @@ own-rows c few =
       | else-few w ↦ absurd (never_both few w.if-few.false)
     ]
 
-own_room : (c : lts.Joined1 tie.the-claims reads.Pre reads.Post tie.handed_clauses) → (64 ≡ length c.if-few.own_pages) × (64 ≡ length c.if-few.own_sources)
+own_room : (c : lts.Joined1 tie.the-claims reads.Pre reads.Post tie.handed_clauses)
+    → (64 ≡ length c.if-few.own_pages) × (64 ≡ length c.if-few.own_sources)
 own_room c =
     elim c.if-few.branch [
       | then-few w ↦ (
@@ -134,12 +135,18 @@ row_terms-requires c =
     let A = c.requires.pass_tables.accepted in
     let D = c.requires.pass_tables.drops-in in
     let S = rows_tell c.before.before in
-    record { list_in = (list-in (moved c.args) A, (told c.before.before.before.before.before.before.before).1, S.pages-tell.fits, λ no. ((told c.before.before.before.before.before.before.before).0.0 no, (S.sources-tell no).fits), A.ranges.n-high, A.ranges.m-high, D.drops-length, D.places-length); reciprocal_value = c.requires.reciprocal_value }
+    record {
+      list_in = (list-in (moved c.args) A, (told c.before.before.before.before.before.before.before).1, S.pages-tell.fits, λ no. ((told c.before.before.before.before.before.before.before).0.0 no, (S.sources-tell no).fits), A.ranges.n-high, A.ranges.m-high, D.drops-length, D.places-length);
+      reciprocal_value = c.requires.reciprocal_value;
+    }
 
 pub returns : goal.returns
 returns c =
     let G = c.row_terms.ensures in
-    record { count_le_slots_length = G.count_le_slots_length; by_index = λ marks T. G.by_index c.args.sets.now marks (rows_tell c.before.before.before) T }
+    record {
+      count_le_slots_length = G.count_le_slots_length;
+      by_index = λ marks T. G.by_index c.args.sets.now marks (rows_tell c.before.before.before) T;
+    }
 
 pub slice_bounds-chosen_row-end : goal.slice_bounds-chosen_row-end
 slice_bounds-chosen_row-end c = (own_room c.before.before).0
