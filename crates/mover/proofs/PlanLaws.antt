@@ -3,7 +3,7 @@ use Rattle.flash.proofs.Kit.{◌≡◌, refl, ap, ap₂, ◌∙◌, sym, fun_ext
 use Rattle.flash.specs.Lists.{any}
 use Rattle.flash.proofs.Bools.{bool_cases}
 use Rattle.split.specs.OneToOne.{dropped}
-use Rattle.split.specs.Drops.{is_dropped, completed, list_left}
+use Rattle.split.specs.Drops.{completed, list_left}
 use Rattle.split.specs.Request.{Request}
 use Rattle.split.specs.inner.Mask.{is_marked}
 use Rattle.split.specs.inner.Dropping.{DropsTold}

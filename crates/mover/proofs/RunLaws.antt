@@ -1,7 +1,7 @@
 -- A run step by step: what one step more leaves and counts, and the work page in the end.
 use mir.Val.{bool_byte}
-use Rattle.flash.proofs.Kit.{◌≡◌, refl, sym, ap, ◌∙◌, ◌≢◌, ⊎_elim, Bool, true, false, cond, List, [], ℕ, zero, suc, ◌+◌, ◌-◌, ◌*◌, ◌≤◌, ◌<◌, min}
-use Rattle.flash.proofs.Kit.{add-one, arith, eqb, length}
+use Rattle.flash.proofs.Kit.{◌≡◌, refl, sym, ap, ◌∙◌, ◌≢◌, ⊎_elim, false, List, [], ℕ, zero, suc, ◌+◌, ◌-◌, ◌*◌, ◌≤◌, ◌<◌, min}
+use Rattle.flash.proofs.Kit.{add-one, arith, eqb}
 use Rattle.flash.specs.declared.sizes.Sizes.{Sizes}
 use Rattle.flash.specs.Geometry.{slot}
 use Rattle.flash.specs.Chip.{Chip, page_at}
@@ -12,7 +12,7 @@ use Rattle.flash.proofs.Bounds.{block-in-marks, block-in-store, product_le}
 use Rattle.flash.proofs.Chips.{erase-page-other}
 use Rattle.method.specs.declared.tally.Tally.{Tally}
 use Rattle.method.specs.Move.{Plan, AcceptedMove, Lent}
-use Rattle.method.specs.Place.{Pass, forward, backward, Operation, write, erase, done, mark_of, operation_at, last_place, pass_at, filling, filled}
+use Rattle.method.specs.Place.{Pass, forward, backward, Operation, write, erase, done, operation_at, last_place, pass_at, filling, filled}
 use Rattle.method.specs.Step.{running_of, Running, perform, step, steps, operations_from, nothing_done, tallied, tally_of}
 use Rattle.method.specs.Worn.{worn_once, worn_by}
 use Rattle.method.specs.Answers.{is_elsewhere, steps_taken, run_carried_out}
