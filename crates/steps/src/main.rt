@@ -2,7 +2,11 @@
 
 #![tactic(auto)]
 
-use libc::{STDIN_FILENO, STDOUT_FILENO};
+ghost use Rattle.std.specs.Prelude.{◌≤◌, length, IfOk};
+
+use std::env::Env;
+use std::io;
+use std::io::{Input, Print, Read};
 use steplist::answer::{MOST_OUTPUT, answer};
 use steplist::word::asks_originals;
 
@@ -13,16 +17,34 @@ const MOST_INPUT: usize = 4097;
 const MOST_WORD: usize = 12;
 
 // Whether the first argument asks for the second form. One that is missing, or longer than the array, counts as empty.
-fn by_originals() -> bool {
+fn by_originals<R: Env>(rt: &R) -> bool {
     let mut word = [0u8; MOST_WORD];
-    let count = os::arg(1, &mut word);
-    asks_originals(&word[..count])
+    match rt.arg(1, &mut word) {
+        Ok(count) => asks_originals(&word[..count]),
+        Err(_) => asks_originals(&[]),
+    }
 }
 
-fn main() {
+// Reads on until the array is full or the input ends, and gives the number of bytes.
+fn read_full<R: Input>(rt: &R, input: &mut [u8]) -> io::Result<usize>
+    ensures { IfOk result (λ n. n ≤ length input.new) }
+{
+    let mut reader = rt.reader();
+    let mut got = 0;
+    while got < input.len() {
+        let more = reader.read(&mut input[got..])?;
+        if more == 0 {
+            break;
+        }
+        got += more;
+    }
+    Ok(got)
+}
+
+fn main(rt: HostRuntime) -> io::Result<()> {
     let mut input = [0u8; MOST_INPUT];
-    let got = io::read_full(STDIN_FILENO, &mut input);
+    let got = read_full(&rt, &mut input)?;
     let mut out = [0u8; MOST_OUTPUT];
-    let end = answer(by_originals(), &mut input[..got], &mut out);
-    io::write_all(STDOUT_FILENO, &out[..end]);
+    let end = answer(by_originals(&rt), &mut input[..got], &mut out);
+    rt.write_all(&out[..end])
 }
