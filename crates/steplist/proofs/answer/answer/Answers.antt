@@ -14,7 +14,8 @@ use Rattle.steplist.proofs.answer.answer.Reads as reads
 use Rattle.steplist.proofs.answer.answer.Tie as tie
 
 -- what was read is what the input within its limit asks for
-told : (c : lts.After-read tie.the-claims reads.Pre reads.Post tie.handed_clauses) → asked_as c.read.new.numbers c.read.result ≡ input_of (within_limit c.args.input.now)
+told : (c : lts.After-read tie.the-claims reads.Pre reads.Post tie.handed_clauses)
+    → asked_as c.read.new.numbers c.read.result ≡ input_of (within_limit c.args.input.now)
 told c =
     let l = c.limit-end in
     let input = c.args.input.now in
@@ -37,7 +38,7 @@ unfolding unreadable_line
 put_unreadable-requires c = omega arith
 
 pub put_refused-requires : goal.put_refused-requires
-put_refused-requires c = omega (arith, refused-short 1 (omega arith))
+put_refused-requires c = omega (arith, refused-short)
 
 pub put_move-requires : goal.put_move-requires
 put_move-requires c =
@@ -48,18 +49,21 @@ pub returns-in-Unreadable : goal.returns-in-Unreadable
 unfolding answered unreadable_line
 returns-in-Unreadable c =
     let a = c.args in
-    let done = answers a.named a.input.now c.read.new.numbers a.out.now _ _ c.read.result _ (told c.before.before.before) c.in-Unreadable.is (first-printed c.put_unreadable.ensures) in
+    let done = answers a.named a.input.now c.read.new.numbers a.out.now _ _ c.read.result _ (told c.before.before.before) c.in-Unreadable.is
+    (first-printed c.put_unreadable.ensures) in
     record { written = done.0; counts = done.1; input_after = c.limit-end.ensures.1 }
 
 pub returns-in-Refused : goal.returns-in-Refused
 unfolding answered
 returns-in-Refused c =
     let a = c.args in
-    let done = answers a.named a.input.now c.read.new.numbers a.out.now _ _ c.read.result _ (told c.before.before.before) c.in-Refused.is (first-printed c.put_refused.ensures) in
+    let done = answers a.named a.input.now c.read.new.numbers a.out.now _ _ c.read.result _ (told c.before.before.before) c.in-Refused.is
+    (first-printed c.put_refused.ensures) in
     record { written = done.0; counts = done.1; input_after = c.limit-end.ensures.1 }
 
 pub returns-in-Move : goal.returns-in-Move
 returns-in-Move c =
     let a = c.args in
-    let done = answers a.named a.input.now c.read.new.numbers a.out.now _ _ c.read.result _ (told c.before.before.before.before) c.in-Move.is c.put_move.ensures in
+    let done = answers a.named a.input.now c.read.new.numbers a.out.now _ _ c.read.result _ (told c.before.before.before.before) c.in-Move.is
+    c.put_move.ensures in
     record { written = done.0; counts = done.1; input_after = c.limit-end.ensures.1 }

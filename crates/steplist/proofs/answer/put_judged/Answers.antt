@@ -14,7 +14,8 @@ use Rattle.steplist.proofs.answer.put_judged.Tie as tie
 
 -- the split call's answer, about the numbers as they were read
 judged : (c : lts.After-split_unpinned tie.the-claims reads.Pre reads.Post tie.handed_clauses)
-    → (let a = c.args in record { number = c.split_unpinned.result; sets = c.split_unpinned.new.sets } ≡ split_answer (unpinned a.sizes a.entries.now a.sets.now))
+    → (let a = c.args in
+    record { number = c.split_unpinned.result; sets = c.split_unpinned.new.sets } ≡ split_answer (unpinned a.sizes a.entries.now a.sets.now))
 judged c = rw c.put_entries.ensures at c.split_unpinned.ensures
 
 -- what the areas of the list and of the set bytes hold from here on
@@ -27,14 +28,17 @@ left c =
     rw fits (c.put_entries.ensures, ap (λ (a : SplitAnswer). a.sets) (judged c))
 
 pub put_refused-requires : goal.put_refused-requires
-put_refused-requires c = omega (arith, refused-short 3 (omega arith))
+put_refused-requires c = omega (arith, refused-short)
 
 pub returns-then-not-fit : goal.returns-then-not-fit
 returns-then-not-fit c =
     let a = c.args in
     let line = c.put_refused.ensures in
     let large = sym c.fit.ensures ∙ c.if-not-fit.true in
-    record { written = rw (too_large a.sizes c.requires.0.allowed a.entries.now a.originals.now c.requires.0.list_length large a.named) (first-printed line); list_after = (rw large, rw large) }
+    record {
+      written = rw (too_large a.sizes c.requires.0.allowed a.entries.now a.originals.now c.requires.0.list_length large a.named) (first-printed line);
+      list_after = (rw large, rw large);
+    }
 
 pub put_entries-requires : goal.put_entries-requires
 put_entries-requires c =
@@ -46,20 +50,27 @@ split_unpinned-requires c =
     (l.few-blocks, l.few-pages, ap length c.put_entries.ensures ∙ c.requires.0.list_length)
 
 pub put_refused-requires-then-split_unpinned-ne0 : goal.put_refused-requires-then-split_unpinned-ne0
-put_refused-requires-then-split_unpinned-ne0 c = omega (arith, refused-short 3 (omega arith))
+put_refused-requires-then-split_unpinned-ne0 c = omega (arith, refused-short)
 
 pub returns-then-split_unpinned-ne0 : goal.returns-then-split_unpinned-ne0
 returns-then-split_unpinned-ne0 c =
     let a = c.args in
     let split = c.split_unpinned in
     let line = c.put_refused-then-split_unpinned-ne0.ensures in
-    record { written = rw (not-split a.sizes c.requires.0.allowed a.entries.now a.originals.now a.sets.now split.new.sets split.result c.requires.0.list_length c.requires.2 (judged c.before.before.before.before.before.before.before.before) c.if-split_unpinned-ne0.true a.named) (first-printed line); list_after = left c.before.before.before.before.before.before.before.before }
+    record {
+      written = rw (not-split a.sizes c.requires.0.allowed a.entries.now a.originals.now a.sets.now split.new.sets split.result
+          c.requires.0.list_length c.requires.2 (judged c.before.before.before.before.before.before.before.before)
+          c.if-split_unpinned-ne0.true a.named) (first-printed line);
+      list_after = left c.before.before.before.before.before.before.before.before;
+    }
 
 pub put_form-requires : goal.put_form-requires
 put_form-requires c =
     let a = c.args in
     let split = c.split_unpinned in
-    (rw c.put_entries.ensures (is-split a.sizes c.requires.0.allowed a.entries.now a.originals.now a.sets.now split.new.sets split.result c.requires.0.list_length c.requires.2 (judged c.before.before.before.before.before) c.if-split_unpinned-ne0.false c.requires.0), omega arith)
+    let good = is-split a.sizes c.requires.0.allowed a.entries.now a.originals.now a.sets.now split.new.sets split.result
+    c.requires.0.list_length c.requires.2 (judged c.before.before.before.before.before) c.if-split_unpinned-ne0.false c.requires.0 in
+    (rw c.put_entries.ensures good, omega arith)
 
 pub returns : goal.returns
 returns c =

@@ -26,7 +26,13 @@ numbers_due-due-requires c = omega (arith, limits c.before.before.before.before,
 pub slice_bounds-put_judged-end : goal.slice_bounds-put_judged-end
 slice_bounds-put_judged-end c =
     let a = c.args in
-    sym (length-take-le c.original_count-count.result a.numbers.now (omega (arith, room a.sizes c.original_count-count.result c.numbers_due-due.result a.numbers.now c.original_count-count.ensures c.numbers_due-due.ensures.0 c.requires.0 (omega arith), c.numbers_due-due.ensures)))
+    sym (length-take-le c.original_count-count.result a.numbers.now
+    (omega (
+      arith,
+      room a.sizes c.original_count-count.result c.numbers_due-due.result a.numbers.now c.original_count-count.ensures
+          c.numbers_due-due.ensures.0 c.requires.0 (omega arith),
+      c.numbers_due-due.ensures,
+    )))
 
 pub slice_bounds-list-end : goal.slice_bounds-list-end
 slice_bounds-list-end c = few c.before.before.before
@@ -43,11 +49,17 @@ slice_bounds-put_judged-end-4 c = sym (zeros-length c.original_count-count.resul
 pub put_judged-requires : goal.put_judged-requires
 put_judged-requires c =
     let a = c.args in
-    let size = zeros-length c.original_count-count.result 64 (few c.before.before.before.before.before) ∙ c.original_count-count.ensures in
-    (readable a.sizes c.original_count-count.result c.numbers_due-due.result a.numbers.now c.original_count-count.ensures c.numbers_due-due.ensures.0 c.requires.0 (omega arith), size, size, omega arith)
+    let size = zeros-length c.original_count-count.result 64 (few c.before.before.before.before.before) ∙ c.original_count-count.ensures in (
+      readable a.sizes c.original_count-count.result c.numbers_due-due.result a.numbers.now c.original_count-count.ensures
+          c.numbers_due-due.ensures.0 c.requires.0 (omega arith),
+      size,
+      size,
+      omega arith,
+    )
 
 pub returns : goal.returns
 returns c =
     let a = c.args in
     let answer = c.put_judged.ensures.written in
-    rw (same-request a.sizes c.original_count-count.result c.numbers_due-due.result a.numbers.now c.original_count-count.ensures c.numbers_due-due.ensures.0 c.requires.0 (omega arith)) at answer
+    rw (same-request a.sizes c.original_count-count.result c.numbers_due-due.result a.numbers.now c.original_count-count.ensures
+    c.numbers_due-due.ensures.0 c.requires.0 (omega arith)) at answer

@@ -14,7 +14,8 @@ put_field-next-requires c = omega (arith, simp length-append at (rw c.in-Two.is 
 
 pub put_field-requires-in-Two : goal.put_field-requires-in-Two
 unfolding concat_map
-put_field-requires-in-Two c = omega (arith, simp length-append at (rw c.in-Two.is at c.requires), simp length-append at c.put_field-next.ensures.next-is)
+put_field-requires-in-Two c =
+    omega (arith, simp length-append at (rw c.in-Two.is at c.requires), simp length-append at c.put_field-next.ensures.next-is)
 
 pub returns-in-One : goal.returns-in-One
 unfolding concat_map

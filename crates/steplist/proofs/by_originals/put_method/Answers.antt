@@ -11,8 +11,12 @@ use Rattle.steplist.proofs.by_originals.put_method.Reads as reads
 use Rattle.steplist.proofs.by_originals.put_method.Tie as tie
 
 -- there are few steps
-few : (c : lts.Start tie.the-claims reads.Pre reads.Post goal.the-invariant-loop-place goal.the-decreases-loop-place) → (last_place (record { n = c.args.n; m = c.args.m; p = 1; s = 0 }) ≤ 144) × (2 * c.args.n * c.args.m ≤ 128)
-few c = (few-steps (record { n = c.args.n; m = c.args.m; p = 1; s = 0 }) c.requires.1 c.requires.2, product_le (2 * c.args.n) c.args.m {c = 16} {d = 8} (omega (arith, c.requires.1)) c.requires.2)
+few : (c : lts.Start tie.the-claims reads.Pre reads.Post goal.the-invariant-loop-place goal.the-decreases-loop-place)
+    → (last_place (record { n = c.args.n; m = c.args.m; p = 1; s = 0 }) ≤ 144) × (2 * c.args.n * c.args.m ≤ 128)
+few c = (
+  few-steps (record { n = c.args.n; m = c.args.m; p = 1; s = 0 }) c.requires.1 c.requires.2,
+  product_le (2 * c.args.n) c.args.m {c = 16} {d = 8} (omega (arith, c.requires.1)) c.requires.2,
+)
 
 pub last_place-last-requires : goal.last_place-last-requires
 last_place-last-requires c = (omega (arith, c.requires.1), omega (arith, c.requires.2))
@@ -24,15 +28,24 @@ loop-place-init c =
 
 pub put_step_line-at-requires : goal.put_step_line-at-requires
 put_step_line-at-requires c =
-    let l = c.loop-place in
-    (c.requires.0, c.requires.1, c.requires.2, omega (arith, c.last_place-last.ensures), omega (arith, l.invariant.0.at_high, few c.before.before.before.before.before.before.before.before, c.last_place-last.ensures, c.requires.3))
+    let l = c.loop-place in (
+      c.requires.0,
+      c.requires.1,
+      c.requires.2,
+      omega (arith, c.last_place-last.ensures),
+      omega (arith, l.invariant.0.at_high, few c.before.before.before.before.before.before.before.before, c.last_place-last.ensures, c.requires.3),
+    )
 
 pub loop-place-preserved : goal.loop-place-preserved
 loop-place-preserved c =
     let a = c.args in
     let l = c.loop-place in
-    let printed = c.put_step_line-at.ensures in
-    (lists-more (move_by a.n a.m a.list.now a.sets.now) l.place l.at _ _ _ _ l.invariant.0 (omega (arith, c.last_place-last.ensures)) printed.0 printed.1, omega arith, omega arith)
+    let printed = c.put_step_line-at.ensures in (
+      lists-more (move_by a.n a.m a.list.now a.sets.now) l.place l.at _ _ _ _ l.invariant.0
+          (omega (arith, c.last_place-last.ensures)) printed.0 printed.1,
+      omega arith,
+      omega arith,
+    )
 
 pub overflow_mul-n : goal.overflow_mul-n
 overflow_mul-n c = omega (arith, c.requires.1)
@@ -46,8 +59,16 @@ overflow_mul-n-3 c = omega (arith, c.requires.1)
 pub put_end-requires : goal.put_end-requires
 put_end-requires c =
     let l = c.loop-place in
-    let short = end_short (2 * c.args.n * c.args.m) (2 * c.args.n) (omega (arith, few c.before.before.before.before.before.before.before.before)) (omega (arith, c.requires.1)) in
-    omega (arith, short, l.invariant.0.at_high, few c.before.before.before.before.before.before.before.before, c.last_place-last.ensures, c.requires.3)
+    let short = end_short (2 * c.args.n * c.args.m) (2 * c.args.n) (omega (arith, few c.before.before.before.before.before.before.before.before))
+    (omega (arith, c.requires.1)) in
+    omega (
+      arith,
+      short,
+      l.invariant.0.at_high,
+      few c.before.before.before.before.before.before.before.before,
+      c.last_place-last.ensures,
+      c.requires.3,
+    )
 
 pub returns : goal.returns
 returns c =

@@ -15,7 +15,8 @@ unfolding originals_line
 put_head-past_page-requires c = simp length-append (omega (arith, simp length-append at c.requires))
 
 -- the originals and the end of the line fit behind the page's number
-room : (c : lts.After-put_head tie.the-claims reads.Pre reads.Post) → (let a = c.args in c.put_head-past_page.result + length (concat_map (λ k. 32 ∷ decimal k) (originals_as a.originals)) + 1 ≤ length a.out.now)
+room : (c : lts.After-put_head tie.the-claims reads.Pre reads.Post)
+    → (let a = c.args in c.put_head-past_page.result + length (concat_map (λ k. 32 ∷ decimal k) (originals_as a.originals)) + 1 ≤ length a.out.now)
 unfolding originals_line
 room c = omega (arith, simp length-append at c.requires, simp length-append at c.put_head-past_page.ensures.next-is)
 
@@ -23,7 +24,8 @@ pub put_fields-past_originals-requires : goal.put_fields-past_originals-requires
 put_fields-past_originals-requires c = omega (arith, room c.before.before.before)
 
 pub put_text-requires : goal.put_text-requires
-put_text-requires c = omega (arith, room c.before.before.before.before.before.before.before.before.before, c.put_fields-past_originals.ensures.next-is)
+put_text-requires c =
+    omega (arith, room c.before.before.before.before.before.before.before.before.before, c.put_fields-past_originals.ensures.next-is)
 
 pub returns : goal.returns
 unfolding originals_line

@@ -24,7 +24,8 @@ operation-requires c = (c.requires.0.ranges, is-place _ _ _ c.new-here.ensures)
 few : (c : lts.After-operation tie.the-claims reads.Pre reads.Post) → c.args.place < 144
 few c = omega (arith, few-steps c.args.sizes c.requires.1 c.requires.2, c.requires.3)
 
-told : (c : lts.After-operation tie.the-claims reads.Pre reads.Post) → (let a = c.args in c.operation.result ≡ op_of a.sizes (operation_at a.sizes a.place))
+told : (c : lts.After-operation tie.the-claims reads.Pre reads.Post)
+    → (let a = c.args in c.operation.result ≡ op_of a.sizes (operation_at a.sizes a.place))
 told c =
     let a = c.args in
     c.operation.ensures ∙ ap (λ (p : ℕ). op_of a.sizes (operation_at a.sizes p)) (number_is _ _ _ c.new-here.ensures)

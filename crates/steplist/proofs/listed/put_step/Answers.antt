@@ -13,10 +13,12 @@ use Rattle.steplist.proofs.listed.put_step.Tie as tie
 -- what the run left and counted
 told : (c : lts.After-run_unpinned tie.the-claims reads.Pre reads.Post tie.handed_clauses)
     → (let a = c.args in let l = c.run_unpinned-ran.new in
-    OneStep (plan (unpinned a.sizes a.list.now a.sets.now)) (running_of a.store.now a.marks.now a.work.now) a.place c.run_unpinned-ran.result l.store l.marks l.work)
+    OneStep (plan (unpinned a.sizes a.list.now a.sets.now))
+    (running_of a.store.now a.marks.now a.work.now) a.place c.run_unpinned-ran.result l.store l.marks l.work)
 told c =
     let a = c.args in
-    one-step (unpinned a.sizes a.list.now a.sets.now) (running_of a.store.now a.marks.now a.work.now) a.place c.requires.listable c.requires.place_bound.0 _ _ _ _ c.run_unpinned-ran.ensures
+    one-step (unpinned a.sizes a.list.now a.sets.now)
+    (running_of a.store.now a.marks.now a.work.now) a.place c.requires.listable c.requires.place_bound.0 _ _ _ _ c.run_unpinned-ran.ensures
 
 pub run_unpinned-ran-requires : goal.run_unpinned-ran-requires
 run_unpinned-ran-requires c =

@@ -18,38 +18,47 @@ block_in : (c : lts.Start tie.the-claims reads.Pre reads.Post tie.handed_clauses
 block_in c = record { low = c.requires.2; high = c.requires.3 }
 
 -- the page of D(i) in block i
-own_is : (c : lts.After-wide tie.the-claims reads.Pre reads.Post tie.handed_clauses) → (let a = c.args in (a.i - 1) * a.sizes.m + c.wide.result ≡ D (move_of a.sizes a.list.now a.sets.now) a.set a.i)
+own_is : (c : lts.After-wide tie.the-claims reads.Pre reads.Post tie.handed_clauses)
+    → (let a = c.args in (a.i - 1) * a.sizes.m + c.wide.result ≡ D (move_of a.sizes a.list.now a.sets.now) a.set a.i)
 own_is c =
     ap (λ (p : ℕ). (c.args.i - 1) * c.args.sizes.m + p) c.wide.ensures ∙ c.set_rows.ensures.0.is c.args.i c.requires.2 c.requires.3
 
-own_in : (c : lts.After-wide tie.the-claims reads.Pre reads.Post tie.handed_clauses) → (let a = c.args in (a.i - 1) * a.sizes.m + c.wide.result < a.sizes.n * a.sizes.m)
+own_in : (c : lts.After-wide tie.the-claims reads.Pre reads.Post tie.handed_clauses)
+    → (let a = c.args in (a.i - 1) * a.sizes.m + c.wide.result < a.sizes.n * a.sizes.m)
 own_in c =
     let a = c.args in
-    rw (own_is c) (D-page (move_of a.sizes a.list.now a.sets.now) c.requires.0 a.set c.requires.1 a.i (block_in c.before.before.before.before.before.before)).inside
+    rw (own_is c) (D-page (move_of a.sizes a.list.now a.sets.now) c.requires.0 a.set c.requires.1 a.i
+    (block_in c.before.before.before.before.before.before)).inside
 
 -- products of numbers of blocks and of pages are small
-small : (c : lts.Start tie.the-claims reads.Pre reads.Post tie.handed_clauses) (u : ℕ) → u ≤ c.args.sizes.n → (u * c.args.sizes.m ≤ 4096) × (c.args.sizes.n * c.args.sizes.m ≤ 4096)
+small : (c : lts.Start tie.the-claims reads.Pre reads.Post tie.handed_clauses) (u : ℕ) → u ≤ c.args.sizes.n
+    → (u * c.args.sizes.m ≤ 4096) × (c.args.sizes.n * c.args.sizes.m ≤ 4096)
 small c u h =
     let G = c.requires.0.ranges in (
       product_le u c.args.sizes.m {c = 64} {d = 64} (omega (arith, G.n-high)) G.m-high,
       product_le c.args.sizes.n c.args.sizes.m {c = 64} {d = 64} G.n-high G.m-high,
     )
 
-tip : (c : lts.After-top_of tie.the-claims reads.Pre reads.Post tie.handed_clauses) → (let a = c.args in c.top_of.result ≡ top (move_of a.sizes a.list.now a.sets.now) a.set a.i)
+tip : (c : lts.After-top_of tie.the-claims reads.Pre reads.Post tie.handed_clauses)
+    → (let a = c.args in c.top_of.result ≡ top (move_of a.sizes a.list.now a.sets.now) a.set a.i)
 tip c =
     c.top_of.ensures _ _ c.requires.0 c.requires.1 refl c.set_rows.ensures.1
 
 -- the block where the page comes from that goes to block i
-from_is : (c : lts.After-wide2 tie.the-claims reads.Pre reads.Post tie.handed_clauses) → (let a = c.args in c.wide-u.result ≡ pred (move_of a.sizes a.list.now a.sets.now) a.set a.i)
+from_is : (c : lts.After-wide2 tie.the-claims reads.Pre reads.Post tie.handed_clauses)
+    → (let a = c.args in c.wide-u.result ≡ pred (move_of a.sizes a.list.now a.sets.now) a.set a.i)
 from_is c =
     c.wide-u.ensures ∙ c.set_rows.ensures.1.is c.args.i c.requires.2 c.requires.3
 
 from_in : (c : lts.After-wide2 tie.the-claims reads.Pre reads.Post tie.handed_clauses) → DataBlock c.args.sizes.n c.wide-u.result
 from_in c =
     let a = c.args in
-    rw (from_is c) (pred_in (move_of a.sizes a.list.now a.sets.now) c.requires.0 a.set c.requires.1 a.i (block_in c.before.before.before.before.before.before.before.before.before.before))
+    rw (from_is c) (pred_in (move_of a.sizes a.list.now a.sets.now) c.requires.0 a.set c.requires.1 a.i
+    (block_in c.before.before.before.before.before.before.before.before.before.before))
 
-other-is : (c : lts.After-wide3 tie.the-claims reads.Pre reads.Post tie.handed_clauses) → (let a = c.args in (c.wide-u.result - 1) * a.sizes.m + c.wide-2.result ≡ D (move_of a.sizes a.list.now a.sets.now) a.set (pred (move_of a.sizes a.list.now a.sets.now) a.set a.i))
+other-is : (c : lts.After-wide3 tie.the-claims reads.Pre reads.Post tie.handed_clauses)
+    → (let a = c.args in (c.wide-u.result - 1) * a.sizes.m + c.wide-2.result ≡ D (move_of a.sizes a.list.now a.sets.now) a.set
+    (pred (move_of a.sizes a.list.now a.sets.now) a.set a.i))
 other-is c =
     let a = c.args in
     let u = c.wide-u.result in
@@ -57,10 +66,13 @@ other-is c =
     ∙ c.set_rows.ensures.0.is u (from_in c.before).low (from_in c.before).high
     ∙ ap (D (move_of a.sizes a.list.now a.sets.now) a.set) (from_is c.before)
 
-other-in : (c : lts.After-wide3 tie.the-claims reads.Pre reads.Post tie.handed_clauses) → (let a = c.args in (c.wide-u.result - 1) * a.sizes.m + c.wide-2.result < a.sizes.n * a.sizes.m)
+other-in : (c : lts.After-wide3 tie.the-claims reads.Pre reads.Post tie.handed_clauses)
+    → (let a = c.args in (c.wide-u.result - 1) * a.sizes.m + c.wide-2.result < a.sizes.n * a.sizes.m)
 other-in c =
     let a = c.args in
-    rw (other-is c) (D-page (move_of a.sizes a.list.now a.sets.now) c.requires.0 a.set c.requires.1 _ (pred_in (move_of a.sizes a.list.now a.sets.now) c.requires.0 a.set c.requires.1 a.i (block_in c.before.before.before.before.before.before.before.before.before.before.before))).inside
+    rw (other-is c) (D-page (move_of a.sizes a.list.now a.sets.now) c.requires.0 a.set c.requires.1 _
+    (pred_in (move_of a.sizes a.list.now a.sets.now) c.requires.0 a.set c.requires.1 a.i
+    (block_in c.before.before.before.before.before.before.before.before.before.before.before))).inside
 
 coded-one : (M : Move) (set i : ℕ) → top M set i ≡ i → D M set i ∷ [] ≡ ascending (coded M set i)
 unfolding coded ascending inserted
@@ -79,13 +91,22 @@ pub overflow_add-own : goal.overflow_add-own
 overflow_add-own c = omega (arith, own_in c.before, small c.before.before.before.before.before.before.before 0 (omega arith))
 
 pub returns-then-top_of-i : goal.returns-then-top_of-i
-returns-then-top_of-i c = (ap (λ (k : ℕ). k ∷ []) (own_is c.before.before.before.before) ∙ coded-one _ _ _ (sym (tip c.before.before) ∙ c.if-top_of-i.true), own_in c.before.before.before.before)
+returns-then-top_of-i c = (
+  ap (λ (k : ℕ). k ∷ []) (own_is c.before.before.before.before)
+      ∙ coded-one _ _ _ (sym (tip c.before.before) ∙ c.if-top_of-i.true),
+  own_in c.before.before.before.before,
+)
 
 pub overflow_sub-u : goal.overflow_sub-u
 overflow_sub-u c = (from_in c.before).low
 
 pub overflow_mul-u : goal.overflow_mul-u
-overflow_mul-u c = omega (arith, small c.before.before.before.before.before.before.before.before.before.before.before (c.wide-u.result - 1) (omega (arith, (from_in c.before).high)))
+overflow_mul-u c =
+    omega (
+      arith,
+      small c.before.before.before.before.before.before.before.before.before.before.before (c.wide-u.result - 1)
+          (omega (arith, (from_in c.before).high)),
+    )
 
 pub overflow_sub-u-2 : goal.overflow_sub-u-2
 overflow_sub-u-2 c = (from_in c.before).low
@@ -94,12 +115,14 @@ pub bounds-pages-u : goal.bounds-pages-u
 bounds-pages-u c = omega (arith, (from_in c.before).low, (from_in c.before).high, c.requires.0.ranges.n-high)
 
 pub overflow_add-u : goal.overflow_add-u
-overflow_add-u c = omega (arith, other-in c.before, small c.before.before.before.before.before.before.before.before.before.before.before.before 0 (omega arith))
+overflow_add-u c =
+    omega (arith, other-in c.before, small c.before.before.before.before.before.before.before.before.before.before.before.before 0 (omega arith))
 
 pub returns : goal.returns
 returns c =
     let a = c.args in
     let two = ap₂ (λ (x y : ℕ). ascending (x ∷ y ∷ [])) (own_is c.before.before.before.before.before.before.before) (other-is c.before.before) in (
-      c.in_order.ensures.result_value ∙ two ∙ coded-two (move_of a.sizes a.list.now a.sets.now) a.set a.i (λ e. c.if-top_of-i.false (tip c.before.before.before.before.before ∙ e)),
+      c.in_order.ensures.result_value ∙ two
+          ∙ coded-two (move_of a.sizes a.list.now a.sets.now) a.set a.i (λ e. c.if-top_of-i.false (tip c.before.before.before.before.before ∙ e)),
       c.in_order.ensures.by_index (a.sizes.n * a.sizes.m) (own_in c.before.before.before.before.before.before.before) (other-in c.before.before),
     )

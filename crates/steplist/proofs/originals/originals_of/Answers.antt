@@ -18,7 +18,8 @@ use Rattle.steplist.proofs.originals.originals_of.Reads as reads
 use Rattle.steplist.proofs.originals.originals_of.Tie as tie
 
 -- a final page is one original, a coded one those of c(i)
-final-one : (M : Move) (t : Bool) (b q r : ℕ) → t ≡ true → r ≡ sent_to M (number_at M.sizes.m b q) → r ∷ [] ≡ ascending (originals_of M (pass_of t) b q)
+final-one : (M : Move) (t : Bool) (b q r : ℕ) → t ≡ true → r ≡ sent_to M (number_at M.sizes.m b q)
+    → r ∷ [] ≡ ascending (originals_of M (pass_of t) b q)
 unfolding originals_of written held_originals ascending inserted
 final-one M t b q r e f = rw (e, f)
 
@@ -27,11 +28,14 @@ unfolding originals_of written held_originals
 coded-of M t b q e = rw e
 
 -- the page has a number
-number : (c : lts.Then1 tie.the-claims reads.Pre reads.Post) → (let a = c.args in ((a.block - 1) * a.sizes.m + a.page < a.sizes.n * a.sizes.m) × (a.sizes.n * a.sizes.m ≤ 4096))
+number : (c : lts.Then1 tie.the-claims reads.Pre reads.Post)
+    → (let a = c.args in ((a.block - 1) * a.sizes.m + a.page < a.sizes.n * a.sizes.m) × (a.sizes.n * a.sizes.m ≤ 4096))
 number c =
     let a = c.args in
-    let G = c.requires.0.ranges in
-    (number_in (move_of a.sizes a.list.now a.sets.now) c.requires.0 a.block a.page (c.requires.3 c.if-backward.true) c.requires.2 c.requires.1, product_le a.sizes.n a.sizes.m {c = 64} {d = 64} G.n-high G.m-high)
+    let G = c.requires.0.ranges in (
+      number_in (move_of a.sizes a.list.now a.sets.now) c.requires.0 a.block a.page (c.requires.3 c.if-backward.true) c.requires.2 c.requires.1,
+      product_le a.sizes.n a.sizes.m {c = 64} {d = 64} G.n-high G.m-high,
+    )
 
 pub overflow_sub-block : goal.overflow_sub-block
 overflow_sub-block c = c.requires.3 c.if-backward.true
@@ -42,11 +46,13 @@ overflow_mul-block c = omega (arith, number c.before.before)
 pub overflow_add-block : goal.overflow_add-block
 overflow_add-block c = omega (arith, number c.before.before)
 
-sent_is : (c : lts.After-sent_to tie.the-claims reads.Pre reads.Post) → (let a = c.args in c.sent_to.result ≡ sent_to (move_of a.sizes a.list.now a.sets.now) (number_at a.sizes.m a.block a.page))
+sent_is : (c : lts.After-sent_to tie.the-claims reads.Pre reads.Post)
+    → (let a = c.args in c.sent_to.result ≡ sent_to (move_of a.sizes a.list.now a.sets.now) (number_at a.sizes.m a.block a.page))
 unfolding sent_to
 sent_is c =
     let a = c.args in
-    c.sent_to.ensures ∙ ap (λ (size : ℕ). first (λ k. eqb (get_or a.list.now k 0) (number_at a.sizes.m a.block a.page)) (range 0 size) 0) c.requires.0.list_length
+    c.sent_to.ensures
+    ∙ ap (λ (size : ℕ). first (λ k. eqb (get_or a.list.now k 0) (number_at a.sizes.m a.block a.page)) (range 0 size) 0) c.requires.0.list_length
 
 pub returns-then-backward : goal.returns-then-backward
 returns-then-backward c =
@@ -61,4 +67,5 @@ coded_originals-requires c = (c.requires.0, c.requires.1, omega arith, c.require
 pub returns : goal.returns
 returns c =
     let a = c.args in
-    (c.coded_originals.ensures.0 ∙ coded-of (move_of a.sizes a.list.now a.sets.now) a.backward a.block a.page c.if-backward.false, c.coded_originals.ensures.1)
+    let coded = coded-of (move_of a.sizes a.list.now a.sets.now) a.backward a.block a.page c.if-backward.false in
+    (c.coded_originals.ensures.0 ∙ coded, c.coded_originals.ensures.1)

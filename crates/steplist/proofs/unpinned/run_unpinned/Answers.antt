@@ -22,7 +22,8 @@ copy_list-requires c =
     c.requires.2 ∙ sym c.original_count-count.ensures ∙ sym (zeros-length c.original_count-count.result 64 (few c.before.before))
 
 -- the copy is as long as the list
-copied : (c : lts.After-copy_list tie.the-claims reads.Pre reads.Post tie.handed_clauses) → length c.copy_list.new.target ≡ c.original_count-count.result
+copied : (c : lts.After-copy_list tie.the-claims reads.Pre reads.Post tie.handed_clauses)
+    → length c.copy_list.new.target ≡ c.original_count-count.result
 copied c =
     ap length c.copy_list.ensures ∙ c.requires.2 ∙ sym c.original_count-count.ensures
 
@@ -46,5 +47,8 @@ returns c =
     rw c.unworn.ensures at c.run.ensures.work_after
     ∙ ap₂ (λ (list pins : List ℕ). run_answer (request_of a.sizes list pins a.sets.now) (record { store = a.store.now; marks = a.marks.now })
     a.work.now unworn a.place a.budget counter_end)
-    (front-again c.original_count-count.result 64 c.copy_list.new.target (copied c.before.before.before.before.before.before.before.before.before.before.before.before.before.before.before.before) ∙ c.copy_list.ensures)
-    (no_pins c.original_count-count.ensures (few c.before.before.before.before.before.before.before.before.before.before.before.before.before.before.before.before.before.before))
+    (front-again c.original_count-count.result 64 c.copy_list.new.target
+    (copied c.before.before.before.before.before.before.before.before.before.before.before.before.before.before.before.before)
+    ∙ c.copy_list.ensures)
+    (no_pins c.original_count-count.ensures
+    (few c.before.before.before.before.before.before.before.before.before.before.before.before.before.before.before.before.before.before))

@@ -21,7 +21,8 @@ copy_list-requires c =
     c.requires.2 ∙ sym c.original_count-count.ensures ∙ sym (zeros-length c.original_count-count.result 64 (few c.before.before))
 
 -- the copy is as long as the list
-copied : (c : lts.After-copy_list tie.the-claims reads.Pre reads.Post tie.handed_clauses) → length c.copy_list.new.target ≡ c.original_count-count.result
+copied : (c : lts.After-copy_list tie.the-claims reads.Pre reads.Post tie.handed_clauses)
+    → length c.copy_list.new.target ≡ c.original_count-count.result
 copied c =
     ap length c.copy_list.ensures ∙ c.requires.2 ∙ sym c.original_count-count.ensures
 
@@ -44,5 +45,6 @@ returns c =
     let a = c.args in
     c.split.ensures.sets_after
     ∙ ap₂ (λ (list pins : List ℕ). split_answer (request_of a.sizes list pins a.sets.now))
-    (front-again c.original_count-count.result 64 c.copy_list.new.target (copied c.before.before.before.before.before.before.before.before.before) ∙ c.copy_list.ensures)
+    (front-again c.original_count-count.result 64 c.copy_list.new.target (copied c.before.before.before.before.before.before.before.before.before)
+    ∙ c.copy_list.ensures)
     (no_pins c.original_count-count.ensures (few c.before.before.before.before.before.before.before.before.before.before.before))
