@@ -5,7 +5,6 @@ use Rattle.flash.specs.Tables.{first_fit, number_or0, refusal}
 use Rattle.flash.specs.declared.sizes.Sizes.{Sizes}
 use Rattle.flash.proofs.Bools.{bool_cases, fails, never_both}
 use Rattle.split.specs.OneToOne.{dropped, bad_list, is_one_to_one}
-use Rattle.split.specs.Drops.{completed}
 use Rattle.split.specs.Rule.{split_by_rule}
 use Rattle.split.proofs.DropLaws.{undropped-completed, undropped-bad, one-to-one-undropped}
 use Rattle.split.proofs.RuleLaws.{rule-split, rule-length}

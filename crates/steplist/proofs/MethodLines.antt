@@ -1,5 +1,5 @@
 -- The lines of the method's steps by originals, one after the other.
-use Rattle.flash.proofs.Kit.{◌≡◌, refl, sym, ap, ◌∙◌, subst, List, [], ◌∷◌, ◌++◌, append_assoc, append-nil, ℕ, zero, suc, ◌+◌, ◌*◌, ◌≤◌, ◌<◌, zero-add}
+use Rattle.flash.proofs.Kit.{◌≡◌, refl, sym, ◌∙◌, subst, List, [], ◌∷◌, ◌++◌, append_assoc, append-nil, ℕ, zero, suc, ◌+◌, ◌*◌, ◌≤◌, ◌<◌, zero-add}
 use Rattle.flash.proofs.Kit.{add-one, add-zero, not-suc-le-zero, arith, length, get_or, take, take-length}
 use Rattle.method.specs.Move.{Move}
 use Rattle.method.specs.Place.{Operation, done, operations, operation_at, last_place}

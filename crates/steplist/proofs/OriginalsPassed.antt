@@ -1,5 +1,5 @@
 -- What the second form writes is accepted by the check of listings, or refused as it refuses the list.
-use Rattle.flash.proofs.Kit.{◌≡◌, sym, ap, ◌∙◌, ◌≢◌, ⊎_elim, true, false, List, ℕ, ◌*◌, arith, length}
+use Rattle.flash.proofs.Kit.{◌≡◌, ap, ◌∙◌, ◌≢◌, ⊎_elim, true, false, List, ℕ, ◌*◌, arith, length}
 use Rattle.flash.specs.Tables.{refusal}
 use Rattle.flash.specs.declared.sizes.Sizes.{Sizes}
 use Rattle.flash.proofs.Bools.{bool_cases}
