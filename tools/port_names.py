@@ -32,7 +32,7 @@ def snake(word):
 def turned(word, declared):
     if word in OTHER:
         return OTHER[word]
-    if CAMEL.match(word) and word not in KEPT and (declared is None or word in declared):
+    if CAMEL.match(word) and word not in KEPT and word in declared:
         return snake(word)
     return word
 
