@@ -68,14 +68,6 @@ write-more wear old bytes b n size room h four is part e =
     let next : b * 4 + 4 ≡ (b + 1) * 4 = omega arith in
     rw (four, e ∙ sym (spelling-at wear.counters b (omega arith))) (piece-put (counter_bytes wear) old bytes (b * 4) 4 all (omega arith) is ∙ rw next)
 
--- with some counters written, the bytes are as many
-pub laid-length : (wear : Wear) (old : List ℕ) (i : ℕ) → length wear.counters ≡ 65 → length old ≡ 260 → i ≤ 260
-    → length (take i (counter_bytes wear) ++ drop i old) ≡ length old
-unfolding counter_bytes
-laid-length wear old i size room h =
-    let front = length-take-le i (counter_bytes wear) (omega (arith, spellings-length wear.counters)) in
-    omega (arith, length-append (take i (counter_bytes wear)) (drop i old), front, length-drop i old)
-
 pub write-all : (wear : Wear) (old bytes : List ℕ) (b : ℕ) → length wear.counters ≡ 65 → length old ≡ 260 → 65 ≤ b
     → bytes ≡ take (b * 4) (counter_bytes wear) ++ drop (b * 4) old → bytes ≡ counter_bytes wear
 unfolding counter_bytes

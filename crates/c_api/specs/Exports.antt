@@ -1,16 +1,19 @@
 -- What the exports promise: every number and every lent byte is that of the call on the list that the bytes spell.
-use Rattle.std.specs.Prelude.{cond, List, ℕ, eqb, length}
+use Rattle.std.specs.Prelude.{cond, Result, Ok, Err, List, ℕ, eqb, length}
 use Rattle.flash.specs.declared.sizes.Sizes.{Sizes}
 use Rattle.flash.specs.Geometry.{in_range}
 use Rattle.flash.specs.Chip.{Chip}
 use Rattle.flash.specs.Wear.{refreshed}
+use Rattle.flash.specs.Refusals.{number_of}
+use Rattle.flash.specs.declared.refusal.Refusal.{Refusal}
 use Rattle.split.specs.Request.{request_of}
 use Rattle.split.specs.Answer.{SplitAnswer, split_answer}
 use Rattle.method.specs.declared.tally.Tally.{Tally}
+use Rattle.method.specs.Step.{nothing_done}
 use Rattle.method.specs.Answers.{RunAnswer, run_refused, run_answer, MendAnswer, mend_answer, ReadAnswer, read_refused, read_answer}
 use Rattle.method.specs.Rebuild.{RebuildAnswer, rebuild_refused, rebuild_answer}
-use Rattle.recovery.specs.declared.mend.MendResult.{MendResult}
-use Rattle.mover.specs.declared.run.RunResult.{RunResult}
+use Rattle.recovery.specs.declared.mend.Mended.{Mended}
+use Rattle.mover.specs.declared.run.Ran.{Ran}
 use Rattle.c_api.specs.Bytes.{entries_of, is_odd}
 use Rattle.c_api.specs.Wear.{wear_length, wear_of, wear_bytes}
 
@@ -44,13 +47,22 @@ run_bytes lent ran = record {
   wear = cond (eqb ran.number 0) (wear_bytes ran.wear) lent;
 }
 
--- the same, from what the code returns and leaves
-abbrev pub ran_bytes : RunResult → (store marks work wear : List ℕ) → RunBytes
-ran_bytes ran store marks work wear = record {
-  number = ran.number;
+-- the same, from what the code returns and leaves: a refusal gives its number, and 0 in every other one
+abbrev pub ran_bytes : Result Ran Refusal → (store marks work wear : List ℕ) → RunBytes
+ran_bytes (Ok ran) store marks work wear = record {
+  number = 0;
   place = ran.place;
   tally = ran.tally;
-  finished = ran.finished;
+  finished = cond ran.finished 1 0;
+  chip = record { store = store; marks = marks };
+  work = work;
+  wear = wear;
+}
+ran_bytes (Err refusal) store marks work wear = record {
+  number = number_of refusal;
+  place = 0;
+  tally = nothing_done;
+  finished = 0;
   chip = record { store = store; marks = marks };
   work = work;
   wear = wear;
@@ -79,9 +91,11 @@ mend_bytes lent r = record {
   wear = cond (eqb r.number 0) (wear_bytes r.wear) lent;
 }
 
-abbrev pub mended_bytes : MendResult → (store marks wear : List ℕ) → MendBytes
-mended_bytes r store marks wear =
-    record { number = r.number; place = r.place; erases = r.erases; chip = record { store = store; marks = marks }; wear = wear }
+abbrev pub mended_bytes : Result Mended Refusal → (store marks wear : List ℕ) → MendBytes
+mended_bytes (Ok done) store marks wear =
+    record { number = 0; place = done.place; erases = done.erases; chip = record { store = store; marks = marks }; wear = wear }
+mended_bytes (Err refusal) store marks wear =
+    record { number = number_of refusal; place = 0; erases = 0; chip = record { store = store; marks = marks }; wear = wear }
 
 unfoldable pub mend_of_bytes : Sizes → Chip → (wear : List ℕ) → MendBytes
 mend_of_bytes Z chip wear =

@@ -5,16 +5,13 @@ ghost use Rattle.c_api.specs.CheckExport.{last_line, check_of_bytes};
 
 use crate::list::{MOST_ENTRIES, decode};
 use checker::check::check;
+use checker::fault::Fault;
 
 // A line's number in 32 bits, or the last that they hold.
 fn line_told(line: usize) -> u32
     ensures { result ≡ min line last_line }
 {
-    if line < 4294967295 {
-        line as u32
-    } else {
-        4294967295
-    }
+    u32::try_from(line).unwrap_or(u32::MAX)
 }
 
 #[unsafe(no_mangle)]
@@ -31,8 +28,26 @@ pub extern "C" fn mover_check_listing(
 {
     let mut entries = [0u16; MOST_ENTRIES];
     let count = decode(list, &mut entries);
-    let checked = check(n as usize, m as usize, &entries[..count], text);
-    *line = line_told(checked.line);
-    *accepted = checked.accepted;
-    checked.number
+    match check(n as usize, m as usize, &entries[..count], text) {
+        Ok(yes) => {
+            *line = 0;
+            *accepted = u32::from(yes);
+            0
+        }
+        Err(Fault::Lent(refusal)) => {
+            *line = 0;
+            *accepted = 0;
+            refusal.number()
+        }
+        Err(
+            Fault::Line {
+                refusal,
+                line: faulty,
+            },
+        ) => {
+            *line = line_told(faulty);
+            *accepted = 0;
+            refusal.number()
+        }
+    }
 }

@@ -3,6 +3,7 @@
 ghost use Rattle.std.specs.Prelude.{◌≡◌};
 ghost use Rattle.intel_hex.specs.Answers.{hex_write_answer, hex_read_answer};
 
+use crate::sizes::number;
 use intel_hex::call::{read, write};
 
 #[unsafe(no_mangle)]
@@ -17,7 +18,7 @@ pub extern "C" fn mover_hex_write(
     ensures { record { number = result; text = text.new }
         ≡ hex_write_answer n m p (record { store = store.entry.now; marks = marks.now }) text.old }
 {
-    write(n as usize, m as usize, p as usize, store, marks, text)
+    number(write(n as usize, m as usize, p as usize, store, marks, text))
 }
 
 #[unsafe(no_mangle)]
@@ -32,5 +33,5 @@ pub extern "C" fn mover_hex_read(
     ensures { record { number = result; chip = record { store = store.exit.now; marks = marks.new } }
         ≡ hex_read_answer n m p text.now (record { store = store.entry.now; marks = marks.old }) }
 {
-    read(n as usize, m as usize, p as usize, text, store, marks)
+    number(read(n as usize, m as usize, p as usize, text, store, marks))
 }

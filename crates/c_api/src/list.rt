@@ -16,12 +16,8 @@ pub fn decode(bytes: &[u8], list: &mut [u16]) -> usize
     if (bytes.len() % 2 == 1) | (list.len() < count) {
         return 0;
     }
-    let mut i = 0;
-    while i < count {
-        let low = bytes[2 * i] as u16;
-        let high = bytes[2 * i + 1] as u16;
-        list[i] = low + high * 256;
-        i += 1;
+    for i in 0..count {
+        list[i] = u16::from_le_bytes([bytes[2 * i], bytes[2 * i + 1]]);
     }
     count
 }

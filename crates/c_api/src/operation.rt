@@ -5,6 +5,7 @@ ghost use Rattle.places.specs.Operation.{operation_answer};
 
 use crate::sizes::sizes_of;
 use places::operation::operation;
+use places::place::Op;
 
 #[unsafe(no_mangle)]
 pub extern "C" fn mover_operation(
@@ -21,10 +22,41 @@ pub extern "C" fn mover_operation(
         ≡ operation_answer (record { n = n; m = m; p = 1; s = s }) place }
 {
     // a page size in range, since no step depends on it
-    let told = operation(sizes_of(n, m, 1, s), place as usize);
-    *kind = told.kind;
-    *block = told.block;
-    *page = told.page;
-    *mark = told.mark;
-    told.number
+    match operation(sizes_of(n, m, 1, s), place as usize) {
+        Ok(
+            Op::Write {
+                backward: _,
+                block: filled,
+                page: written,
+                mark: letter,
+            },
+        ) => {
+            *kind = 0;
+            *block = filled as u32;
+            *page = written as u32;
+            *mark = u32::from(letter);
+            0
+        }
+        Ok(Op::Erase { block: freed }) => {
+            *kind = 1;
+            *block = freed as u32;
+            *page = 0;
+            *mark = 0;
+            0
+        }
+        Ok(Op::Done) => {
+            *kind = 2;
+            *block = 0;
+            *page = 0;
+            *mark = 0;
+            0
+        }
+        Err(refusal) => {
+            *kind = 0;
+            *block = 0;
+            *page = 0;
+            *mark = 0;
+            refusal.number()
+        }
+    }
 }

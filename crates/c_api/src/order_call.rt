@@ -20,12 +20,18 @@ pub extern "C" fn mover_least_y(
 {
     let mut entries = [0u16; MOST_ENTRIES];
     let count = decode(list, &mut entries);
-    let told = least_y(n as usize, m as usize, &entries[..count], order);
-    let least = told.y as u32;
-    let forbidding = told.page as u32;
-    *y = least;
-    *page = forbidding;
-    told.number
+    match least_y(n as usize, m as usize, &entries[..count], order) {
+        Ok(told) => {
+            *y = told.y as u32;
+            *page = told.page as u32;
+            0
+        }
+        Err(refusal) => {
+            *y = 0;
+            *page = 0;
+            refusal.number()
+        }
+    }
 }
 
 #[unsafe(no_mangle)]
@@ -42,10 +48,16 @@ pub extern "C" fn mover_best_order(
 {
     let mut entries = [0u16; MOST_ENTRIES];
     let count = decode(list, &mut entries);
-    let told = best_order(n as usize, m as usize, &entries[..count], order);
-    let best = told.y as u32;
-    let lowest = told.page as u32;
-    *y = best;
-    *page = lowest;
-    told.number
+    match best_order(n as usize, m as usize, &entries[..count], order) {
+        Ok(best) => {
+            *y = best.y as u32;
+            *page = best.page as u32;
+            0
+        }
+        Err(refusal) => {
+            *y = 0;
+            *page = 0;
+            refusal.number()
+        }
+    }
 }

@@ -29,7 +29,7 @@ pub extern "C" fn mover_read(
 {
     let mut entries = [0u16; MOST_ENTRIES];
     let length = decode(list, &mut entries);
-    let rebuilt = read(
+    let answer = read(
         sizes_of(n, m, p, s),
         &mut entries[..length],
         pins,
@@ -39,7 +39,16 @@ pub extern "C" fn mover_read(
         work,
         original as usize,
     );
-    *count = rebuilt.count;
-    *bytes = rebuilt.bytes;
-    rebuilt.number
+    match answer {
+        Ok(rebuilt) => {
+            *count = rebuilt.count;
+            *bytes = rebuilt.bytes;
+            0
+        }
+        Err(refusal) => {
+            *count = 0;
+            *bytes = 0;
+            refusal.number()
+        }
+    }
 }

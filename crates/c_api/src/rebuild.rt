@@ -4,7 +4,7 @@ ghost use Rattle.std.specs.Prelude.{◌≡◌};
 ghost use Rattle.c_api.specs.Exports.{rebuild_of_bytes};
 
 use crate::list::{MOST_ENTRIES, decode};
-use crate::sizes::sizes_of;
+use crate::sizes::{number, sizes_of};
 use mover::rebuild::rebuild;
 
 #[unsafe(no_mangle)]
@@ -28,7 +28,7 @@ pub extern "C" fn mover_rebuild(
 {
     let mut entries = [0u16; MOST_ENTRIES];
     let length = decode(list, &mut entries);
-    rebuild(
+    number(rebuild(
         sizes_of(n, m, p, s),
         &entries[..length],
         pins,
@@ -38,5 +38,5 @@ pub extern "C" fn mover_rebuild(
         area,
         flags,
         slot as usize,
-    )
+    ))
 }

@@ -6,9 +6,9 @@ ghost use Rattle.c_api.specs.Exports.{ran_bytes, run_of_bytes};
 use crate::list::{MOST_ENTRIES, decode};
 use crate::sizes::{bad_length, sizes_of};
 use crate::wear::{WEAR, decode_wear, encode_wear};
+use flash::refusal::Refusal;
 use flash::sizes::Sizes;
-use flash::wear::unworn;
-use mover::run::{RunResult, refused, run};
+use mover::run::{Ran, run};
 
 // The run on the list and the counters that bytes spell.
 fn run_bytes(
@@ -23,13 +23,13 @@ fn run_bytes(
     place: usize,
     budget: u32,
     limit: u32,
-) -> RunResult
+) -> Result<Ran, Refusal>
     ensures { ran_bytes result store.exit.now marks.new work.new wear.new
         ≡ run_of_bytes sizes list.now pins.now sets.now
         (record { store = store.entry.now; marks = marks.old }) work.old wear.old place budget limit }
 {
     if wear.len() != WEAR {
-        return refused(bad_length(sizes), unworn());
+        return Err(bad_length(sizes));
     }
     let mut entries = [0u16; MOST_ENTRIES];
     let count = decode(list, &mut entries);
@@ -46,10 +46,9 @@ fn run_bytes(
         budget,
         limit,
     );
-    if ran.number == 0 {
-        encode_wear(ran.wear, wear);
-    }
-    ran
+    let taken = ran.outcome?;
+    encode_wear(ran.wear, wear);
+    Ok(taken)
 }
 
 #[unsafe(no_mangle)]
@@ -93,7 +92,7 @@ pub extern "C" fn mover_run(
     } ≡ run_of_bytes (record { n = n; m = m; p = p; s = s }) list.now pins.now sets.now
         (record { store = store.entry.now; marks = marks.old }) work.old wear.old place budget limit }
 {
-    let ran = run_bytes(
+    let outcome = run_bytes(
         sizes_of(n, m, p, s),
         list,
         pins,
@@ -106,12 +105,26 @@ pub extern "C" fn mover_run(
         budget,
         limit,
     );
-    *reached = ran.place;
-    *steps = ran.tally.steps;
-    *writes = ran.tally.writes;
-    *erases = ran.tally.erases;
-    *finished = ran.finished;
-    *bytes = ran.tally.bytes;
-    *reads = ran.tally.reads;
-    ran.number
+    match outcome {
+        Ok(ran) => {
+            *reached = ran.place;
+            *steps = ran.tally.steps;
+            *writes = ran.tally.writes;
+            *erases = ran.tally.erases;
+            *finished = u32::from(ran.finished);
+            *bytes = ran.tally.bytes;
+            *reads = ran.tally.reads;
+            0
+        }
+        Err(refusal) => {
+            *reached = 0;
+            *steps = 0;
+            *writes = 0;
+            *erases = 0;
+            *finished = 0;
+            *bytes = 0;
+            *reads = 0;
+            refusal.number()
+        }
+    }
 }

@@ -4,7 +4,7 @@ ghost use Rattle.std.specs.Prelude.{◌≡◌};
 ghost use Rattle.c_api.specs.Exports.{split_of_bytes};
 
 use crate::list::{MOST_ENTRIES, decode};
-use crate::sizes::sizes_of;
+use crate::sizes::{number, sizes_of};
 use split::call::split;
 
 #[unsafe(no_mangle)]
@@ -22,5 +22,5 @@ pub extern "C" fn mover_split(
 {
     let mut entries = [0u16; MOST_ENTRIES];
     let count = decode(list, &mut entries);
-    split(sizes_of(n, m, p, s), &mut entries[..count], pins, sets)
+    number(split(sizes_of(n, m, p, s), &mut entries[..count], pins, sets))
 }

@@ -1,7 +1,7 @@
 // The record of erases as C lends it: four bytes a counter, the low one first; then the highest count alike, and a byte for its block.
-ghost use Rattle.std.specs.Prelude.{◌≡◌, length};
+ghost use Rattle.std.specs.Prelude.{◌≡◌, ◌+◌, ◌≤◌, length};
 ghost use Rattle.flash.specs.Wear.{counter_count};
-ghost use Rattle.c_api.specs.Wear.{spelled, spelling, wear_length, wear_of, counter_bytes, wear_bytes};
+ghost use Rattle.c_api.specs.Wear.{spelled_at, spelling, wear_length, wear_of, counter_bytes, wear_bytes};
 
 use flash::wear::{BLOCKS, Wear};
 
@@ -15,11 +15,12 @@ const BLOCK: usize = HIGHEST + COUNTER;
 // The length of the record.
 pub const WEAR: usize = BLOCK + 1;
 
-// The counter that four bytes spell.
-fn counter(low: u8, second: u8, third: u8, high: u8) -> u32
-    ensures { result ≡ spelled low second third high }
+// The counter that the four bytes at a position spell.
+fn counter_at(bytes: &[u8], at: usize) -> u32
+    requires { at + 4 ≤ length bytes.now }
+    ensures { result ≡ spelled_at bytes.now at }
 {
-    low as u32 + second as u32 * 256 + third as u32 * 65536 + high as u32 * 16777216
+    u32::from_le_bytes([bytes[at], bytes[at + 1], bytes[at + 2], bytes[at + 3]])
 }
 
 pub fn decode_wear(bytes: &[u8]) -> Wear
@@ -28,23 +29,13 @@ pub fn decode_wear(bytes: &[u8]) -> Wear
     ensures result_value { wear_bytes result ≡ bytes.now }
 {
     let mut counters = [0u32; BLOCKS];
-    let mut b = 0;
-    while b < BLOCKS {
-        let at = b * COUNTER;
-        counters[b] = counter(bytes[at], bytes[at + 1], bytes[at + 2], bytes[at + 3]);
-        b += 1;
+    for (b, counter) in counters.iter_mut().enumerate() {
+        *counter = counter_at(bytes, b * COUNTER);
     }
-    let highest = counter(
-        bytes[HIGHEST],
-        bytes[HIGHEST + 1],
-        bytes[HIGHEST + 2],
-        bytes[HIGHEST + 3],
-    );
-    let block = bytes[BLOCK];
     Wear {
         counters,
-        highest,
-        block,
+        highest: counter_at(bytes, HIGHEST),
+        block: bytes[BLOCK],
     }
 }
 
@@ -53,10 +44,7 @@ fn spell(counter: u32, bytes: &mut [u8])
     requires { length bytes.old ≡ 4 }
     ensures { bytes.new ≡ spelling counter }
 {
-    bytes[0] = (counter % 256) as u8;
-    bytes[1] = (counter / 256 % 256) as u8;
-    bytes[2] = (counter / 65536 % 256) as u8;
-    bytes[3] = (counter / 16777216 % 256) as u8;
+    bytes.copy_from_slice(&counter.to_le_bytes());
 }
 
 // The bytes of all counters.
@@ -64,11 +52,9 @@ fn encode_counters(wear: Wear, bytes: &mut [u8])
     requires { (length bytes.old ≡ 260) × (length wear.counters ≡ counter_count) }
     ensures { bytes.new ≡ counter_bytes wear }
 {
-    let mut b = 0;
-    while b < BLOCKS {
+    for (b, counter) in wear.counters.iter().enumerate() {
         let at = b * COUNTER;
-        spell(wear.counters[b], &mut bytes[at..at + COUNTER]);
-        b += 1;
+        spell(*counter, &mut bytes[at..at + COUNTER]);
     }
 }
 

@@ -1,6 +1,7 @@
 -- The lines at a position, by the fields that are read there.
-use Rattle.flash.proofs.Kit.{◌≡◌, refl, sym, ap, ◌∙◌, ⊎_elim, true, false, ◌||◌, and-true, and-false, or-true, or-false, List, [], ◌∷◌, ℕ, suc, ◌+◌, ◌*◌, ◌^◌, ◌≤◌, ◌<◌, min, arith}
+use Rattle.flash.proofs.Kit.{◌≡◌, refl, sym, ◌∙◌, ⊎_elim, true, false, ◌||◌, and-true, and-false, or-true, or-false, List, [], ◌∷◌, ℕ, suc, ◌+◌, ◌*◌, ◌^◌, ◌≤◌, ◌<◌, min, arith}
 use Rattle.flash.proofs.Kit.{add-one, eqb, leb, ltb, length, get_or, drop, drop-drop, bit_xor, xor_zero_l, xor_zero_r, le-leb, lt-leb, lt-ltb, le-ltb, leb-true, ltb-true}
+use Rattle.std.proofs.Common.{Some, None}
 use Rattle.flash.specs.Lists.{all}
 use Rattle.flash.proofs.Bools.{or_cases}
 use Rattle.flash.proofs.Xor.{xor_assoc}
@@ -25,23 +26,19 @@ pub record Missed (text : List ℕ) (at : ℕ) : Type 0 where
   pub fields-are : (most : ℕ) → fields most (drop at text) ≡ []
   pub behind-is : (most : ℕ) → behind_fields most (drop at text) ≡ drop at text
 
-module _ (text : List ℕ) (at : ℕ) (r : Number) (e : r ≡ field_at text at) where
-  pub taken : r.good ≡ true → Taken text at r
-  taken g =
-      let good : (field_at text at).good ≡ true = sym (ap (λ (x : Number). x.good) e) ∙ g in
-      rw e (record {
-        number = _;
-        value-is = field-value text at good;
-        ahead = (field_next text at good).0;
-        within = (field_next text at good).1;
-        fields-are = fields-more text at good;
-        behind-is = behind_more text at good;
-      })
+module _ (text : List ℕ) (at : ℕ) where
+  pub taken : (r : Number) → Some r ≡ field_at text at → Taken text at r
+  taken r e = record {
+    number = _;
+    value-is = field-value text at r e;
+    ahead = (field_next text at r e).0;
+    within = (field_next text at r e).1;
+    fields-are = fields-more text at r e;
+    behind-is = behind_more text at r e;
+  }
 
-  pub missed : r.good ≡ false → Missed text at
-  missed b =
-      let bad : (field_at text at).good ≡ false = sym (ap (λ (x : Number). x.good) e) ∙ b in
-      record { fields-are = fields-none text at bad; behind-is = behind-none text at bad }
+  pub missed : None ≡ field_at text at → Missed text at
+  missed e = record { fields-are = fields-none text at e; behind-is = behind-none text at e }
 
 -- a value below the cap is the number
 pub exact : {text : List ℕ} {at : ℕ} {r : Number} (T : Taken text at r) → r.value < cap → T.number ≡ r.value
@@ -157,21 +154,21 @@ module _ (n m : ℕ) (small : n * m ≤ 64) (few : n ≤ 64) (low : m ≤ 64) (t
           let far : ltb P.number m ≡ false = le-ltb P.number m (omega (arith, P.value-is)) in
           rw (most, B.fields-are (suc (n * m)), P.fields-are (n * m), far, and-false)
 
-      module _ (g : Originals) (G : Gathered text p.next (n * m) g) where
-        -- the test of the originals is what was gathered
-        same : (gathering (n * m) (n * m) 0 0 (drop p.next text)).good ≡ are_originals (n * m) (fields (n * m) (drop p.next text))
-        unfolding gathering are_originals
-        same = refl
+      -- the test of the originals is what was gathered
+      same : (gathering (n * m) (n * m) 0 0 (drop p.next text)).good ≡ are_originals (n * m) (fields (n * m) (drop p.next text))
+      unfolding gathering are_originals
+      same = refl
 
-        pub write-wrong : g.good ≡ false → unread ≡ said_of (read_write n m (drop at text))
-        unfolding read_write formed said
-        write-wrong f =
-            let bad : are_originals (n * m) (fields (n * m) (drop p.next text)) ≡ false = sym (G.good-is ∙ same) ∙ f in
-            rw (most, B.fields-are (suc (n * m)), P.fields-are (n * m), bad, and-false)
+      pub write-wrong : Gathered text p.next (n * m) None → unread ≡ said_of (read_write n m (drop at text))
+      unfolding read_write formed said
+      write-wrong f =
+          let bad : are_originals (n * m) (fields (n * m) (drop p.next text)) ≡ false = sym same ∙ f in
+          rw (most, B.fields-are (suc (n * m)), P.fields-are (n * m), bad, and-false)
 
-        module _ (t : g.good ≡ true) (h : b.value ≤ n) (k : p.value < m) where
+      module _ (g : Originals) (G : Gathered text p.next (n * m) (Some g)) where
+        module _ (h : b.value ≤ n) (k : p.value < m) where
           good : are_originals (n * m) (fields (n * m) (drop p.next text)) ≡ true
-          good = sym (G.good-is ∙ same) ∙ t
+          good = sym same ∙ G.good-is
 
           low-block : leb B.number n ≡ true
           low-block = le-leb B.number n (omega (arith, exact B (omega arith)))
@@ -181,7 +178,7 @@ module _ (n m : ℕ) (small : n * m ≤ 64) (few : n ≤ 64) (low : m ≤ 64) (t
 
           rest_of : behind_fields (2 + n * m) (drop at text) ≡ drop g.next text
           unfolding gathering
-          rest_of = rw (most, B.behind-is (suc (n * m)), P.behind-is (n * m)) (sym (G.rest-is t))
+          rest_of = rw (most, B.behind-is (suc (n * m)), P.behind-is (n * m)) (sym (G.rest-is))
 
           pub write-unended : eqb (get_or text g.next 0) 10 ≡ false → unread ≡ said_of (read_write n m (drop at text))
           unfolding read_write formed said
@@ -204,6 +201,6 @@ module _ (n m : ℕ) (small : n * m ≤ 64) (few : n ≤ 64) (low : m ≤ 64) (t
                 good,
                 exact B (omega arith),
                 exact P (omega arith),
-                G.mask_is t,
+                G.mask_is,
                 xor_zero_l,
               )

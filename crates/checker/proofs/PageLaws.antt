@@ -1,8 +1,9 @@
 -- Laws of the pages: at rest, where they lie, and what a write or an erase leaves determined.
-use Rattle.flash.proofs.Kit.{◌≡◌, refl, sym, ap, ap₂, ◌∙◌, ◌≢◌, ⊎_elim, Bool, true, false, cond, not, ◌&&◌, List, [], ◌∷◌, ◌++◌, map, ℕ, zero, suc, ◌+◌, ◌-◌, ◌*◌, ◌^◌, ◌≤◌, ◌<◌}
+use Rattle.flash.proofs.Kit.{◌≡◌, refl, sym, ap, ap₂, ◌∙◌, ◌≢◌, ⊎_elim, Bool, true, false, cond, not, ◌&&◌, ◌||◌, List, [], ◌∷◌, ◌++◌, map, ℕ, zero, suc, ◌+◌, ◌-◌, ◌*◌, ◌^◌, ◌≤◌, ◌<◌}
 use Rattle.flash.proofs.Kit.{div-add-mod', add-mul, arith, ltb, length, get_or, set, take, drop, replicate, length-append, length-map, length-replicate, get_or-replicate}
-use Rattle.flash.proofs.Kit.{List·getD-append, get_or-append-add, lt-ltb, le-ltb, eqb, eqb-true, eq-eqb, ne_eqb, bit_xor, xor_zero_r, take_at, drop_at, drop-drop, length-take-le}
-use Rattle.flash.specs.Lists.{range, set_part}
+use Rattle.flash.proofs.Kit.{List·getD-append, get_or-append-add, lt-ltb, le-ltb, eqb, eqb-true, ne_eqb, bit_xor, xor_zero_r, take_at, drop_at, drop-cons, drop-drop, length-take-le}
+use Rattle.std.specs.List.{list_all}
+use Rattle.flash.specs.Lists.{range, all, any, set_part}
 use Rattle.flash.specs.Geometry.{slot, slot_of}
 use Rattle.flash.proofs.Bools.{or_cases}
 use Rattle.flash.proofs.Comparisons.{lt-cases}
@@ -14,6 +15,29 @@ use Rattle.checker.proofs.SumLaws.{sum-without, sum-with, sum-page}
 -- slot m + k is that of page number k
 pub slot_is : (m k : ℕ) → slot_of m k ≡ m + k
 slot_is m k = omega (arith, div-add-mod' k m)
+
+-- ---- a part that is blank
+not-both : (a b : Bool) → not (a && b) ≡ (not a || not b)
+not-both true b = refl
+not-both false b = refl
+
+pub blank-part : (pages : List ℕ) (start size : ℕ) → start + size ≤ length pages
+    → list_all (λ page. eqb page 0) (take size (drop start pages)) ≡ all (is_blank pages) (range start size)
+unfolding range all
+blank-part pages start zero h = refl
+blank-part pages start (suc size) h =
+    rw (drop-cons pages start 0 (omega arith)) (ap (λ (t : Bool). is_blank pages start && t) (blank-part pages (suc start) size (omega arith)))
+
+pub bad-part : (pages : List ℕ) (m block page size : ℕ) → block * m + page + size ≤ length pages
+    → not (list_all (λ page. eqb page 0) (take size (drop (block * m + page) pages)))
+    ≡ any (λ q. not (is_blank pages (slot m block q))) (range page size)
+unfolding range any
+bad-part pages m block page zero h = refl
+bad-part pages m block page (suc size) h =
+    let next : block * m + suc page ≡ suc (block * m + page) = omega arith in
+    rw (drop-cons pages (block * m + page) 0 (omega arith))
+    (not-both (is_blank pages (block * m + page)) _
+    ∙ ap (λ (t : Bool). not (is_blank pages (block * m + page)) || t) (rw next at (bad-part pages m block (suc page) size (omega arith))))
 
 -- ---- at rest
 abbrev plain : (n m : ℕ) → List ℕ
@@ -117,18 +141,7 @@ erase-survives count m pages block h = rw (erased-twice m pages block h) (and_sa
     and_same true = refl
     and_same false = refl
 
--- a search that has found nothing so far
-pub none_more : (test : ℕ → Bool) (low next : ℕ) → ((j : ℕ) → low ≤ j → j < next → test j ≡ false) → test next ≡ false
-    → (j : ℕ) → low ≤ j → j < next + 1 → test j ≡ false
-none_more test low next before here j a h = ⊎_elim
-    (λ (l : j < next). before j a l)
-    (λ (l : next ≤ j). let e : j ≡ next = omega arith in rw e here)
-    (lt-cases j next)
-
 -- where the list sends an original
 module _ (pages list : List ℕ) (m k r v : ℕ) (e : r ≡ get_or list k 0) (w : v ≡ 2 ^ k) where
-  pub placed-there : get_or pages (m + r) 0 ≡ v → eqb (get_or pages (slot_of m (get_or list k 0)) 0) (2 ^ k) ≡ true
-  placed-there q = rw (slot_is m (get_or list k 0), ← e) (eq-eqb _ _ (q ∙ w))
-
   pub placed-elsewhere : get_or pages (m + r) 0 ≢ v → eqb (get_or pages (slot_of m (get_or list k 0)) 0) (2 ^ k) ≡ false
   placed-elsewhere q = rw (slot_is m (get_or list k 0), ← e) (ne_eqb _ _ (λ f. q (f ∙ sym w)))

@@ -1,6 +1,7 @@
 -- Digits, numbers and fields at a position of a text.
-use Rattle.flash.proofs.Kit.{◌≡◌, refl, sym, ap, ◌∙◌, ⊎_elim, Bool, true, false, false≢true, ◌&&◌, not, and-true, List, [], ◌∷◌, ℕ, zero, suc, ◌+◌, ◌-◌, ◌*◌, ◌≤◌, ◌<◌, min, add-one, add-zero, arith}
-use Rattle.flash.proofs.Kit.{eqb, length, get_or, drop, take, length-drop, drop_of_length-le, drop-drop, drop-cons, get_or-drop, List·getD-eq-default, eqb-true, ne_eqb, le-leb}
+use Rattle.flash.proofs.Kit.{◌≡◌, refl, sym, ap, ◌∙◌, ⊎_elim, Bool, true, false, ◌&&◌, not, and-true, List, [], ◌∷◌, ℕ, zero, suc, ◌+◌, ◌-◌, ◌*◌, ◌≤◌, ◌<◌, min, add-one, add-zero, arith}
+use Rattle.flash.proofs.Kit.{eqb, length, get_or, drop, take, take_all, length-drop, drop_of_length-le, drop-drop, drop-cons, get_or-drop, List·getD-eq-default, eqb-true, ne_eqb, le-leb}
+use Rattle.std.proofs.Common.{Some, None}
 use Rattle.flash.specs.Lists.{is_same}
 use Rattle.flash.proofs.Bools.{bool_cases}
 use Rattle.flash.proofs.Comparisons.{lt-cases}
@@ -16,11 +17,15 @@ stands-within text at byte h e = ⊎_elim
     (λ (l : length text ≤ at). absurd (omega (arith, eqb-true (get_or text at 0) byte e, List·getD-eq-default text 0 l)))
     (lt-cases at (length text))
 
-pub none-beyond : (text : List ℕ) (at byte : ℕ) → 1 ≤ byte → length text ≤ at → eqb (get_or text at 0) byte ≡ false
-none-beyond text at byte h l = rw (List·getD-eq-default text 0 l) (ne_eqb 0 byte (λ e. absurd (omega arith)))
-
 pub first-at : (text : List ℕ) (at : ℕ) → get_or (drop at text) 0 0 ≡ get_or text at 0
 first-at text at = get_or-drop at text 0 0 ∙ ap (λ (i : ℕ). get_or text i 0) (add-zero at)
+
+-- what stands from a position on, and a byte of it
+pub length-tail : (text : List ℕ) (at : ℕ) → length (take (length text - at) (drop at text)) ≡ length text - at
+length-tail text at = rw (take_all (length text - at) (drop at text) (omega (arith, length-drop at text))) (length-drop at text)
+
+pub tail_at : (text : List ℕ) (at i here : ℕ) → here ≡ at + i → get_or (take (length text - at) (drop at text)) i 0 ≡ get_or text here 0
+tail_at text at i here e = rw (e, take_all (length text - at) (drop at text) (omega (arith, length-drop at text))) (get_or-drop at text i 0)
 
 -- ---- digits
 length-leading : (text : List ℕ) → length (leading text) ≤ length text
@@ -60,10 +65,14 @@ module _ (text : List ℕ) (at : ℕ) where
   unfolding leading
   leading-past h = rw (drop_of_length-le text h)
 
-  pub number-within : at ≤ length text → (number_at text at).next ≤ length text
+  -- the number that the digits there are, whether it is well formed or not
+  abbrev pub digits_at : Number
+  digits_at = record { value = min (spelled 0 (leading (drop at text))) cap; next = at + length (leading (drop at text)) }
+
+  pub number-within : at ≤ length text → digits_at.next ≤ length text
   number-within h = omega (arith, length-leading (drop at text), length-drop at text)
 
-  pub behind-at : behind (drop at text) ≡ drop (number_at text at).next text
+  pub behind-at : behind (drop at text) ≡ drop digits_at.next text
   behind-at = behind-is (drop at text) ∙ drop-drop (length (leading (drop at text))) at text
 
 -- ---- values up to the cap
@@ -87,9 +96,26 @@ pub number-long : (digits : List ℕ) → 1 < length digits → not (eqb (get_or
 unfolding is_number
 number-long digits h = rw (le-leb 1 (length digits) (omega arith), ne_eqb (length digits) 1 (λ e. absurd (omega arith)))
 
-pub number-eq : {a b : Bool} {v w n k : ℕ} → a ≡ b → v ≡ w → n ≡ k
-    → ◌≡◌ {A = Number} (record { good = a; value = v; next = n }) (record { good = b; value = w; next = k })
-number-eq p q r = rw (p, q, r)
+-- a number that is read is well formed, and none is read where the digits are not
+pub number-some : (text : List ℕ) (at : ℕ) (one : Number) → Some one ≡ number_at text at
+    → (is_number (leading (drop at text)) ≡ true) × (one ≡ digits_at text at)
+number-some text at one e = ⊎_elim
+    (λ (g : is_number (leading (drop at text)) ≡ true). let f = rw g at e in (g, cc))
+    (λ (b : is_number (leading (drop at text)) ≡ false). let f = rw b at e in cc)
+    (bool_cases (is_number (leading (drop at text))))
+
+pub number-none : (text : List ℕ) (at : ℕ) → None ≡ number_at text at → is_number (leading (drop at text)) ≡ false
+number-none text at e = ⊎_elim
+    (λ (g : is_number (leading (drop at text)) ≡ true). let f = rw g at e in cc)
+    (λ (b : is_number (leading (drop at text)) ≡ false). b)
+    (bool_cases (is_number (leading (drop at text))))
+
+pub number-good : (text : List ℕ) (at value next : ℕ) → is_number (leading (drop at text)) ≡ true → value ≡ (digits_at text at).value
+    → next ≡ (digits_at text at).next → Some (record { value = value; next = next }) ≡ number_at text at
+number-good text at value next g v n = rw (g, v, n)
+
+pub number-bad : (text : List ℕ) (at : ℕ) → is_number (leading (drop at text)) ≡ false → None ≡ number_at text at
+number-bad text at b = rw b
 
 -- what the loop over digits keeps: what is still to be read gives the number
 pub record Reading (text : List ℕ) (at next value : ℕ) : Type 0 where
@@ -116,7 +142,7 @@ reading-more text at next value more h d e R =
     }
 
 pub reading-ends : (text : List ℕ) (at next value : ℕ) → leading (drop next text) ≡ [] → Reading text at next value
-    → (value ≡ (number_at text at).value) × (next ≡ (number_at text at).next)
+    → (value ≡ (digits_at text at).value) × (next ≡ (digits_at text at).next)
 unfolding spelled
 reading-ends text at next value e R =
     let v = rw e at R.value-is in
@@ -125,68 +151,67 @@ reading-ends text at next value e R =
 
 -- ---- fields
 module _ (text : List ℕ) (at : ℕ) where
-  field_is : is_field (drop at text) ≡ (eqb (get_or text at 0) 32 && (number_at text (at + 1)).good)
+  field_is : is_field (drop at text) ≡ (eqb (get_or text at 0) 32 && is_number (leading (drop (at + 1) text)))
   unfolding is_field
   field_is = rw (first-at text at, drop-drop 1 at text)
 
-  pub field-good : (field_at text at).good ≡ is_field (drop at text)
-  unfolding field_at
-  field-good = ⊎_elim
-      (λ (e : eqb (get_or text at 0) 32 ≡ true). rw (field_is, e))
-      (λ (e : eqb (get_or text at 0) 32 ≡ false). rw (field_is, e))
-      (bool_cases (eqb (get_or text at 0) 32))
-
-  -- what a good field is, as a number: there is a space before it
-  module _ (g : (field_at text at).good ≡ true) where
-    space : eqb (get_or text at 0) 32 ≡ true
+  -- a field that is read, as a number: there is a space before it
+  module _ (one : Number) (e : Some one ≡ field_at text at) where
+    space : (eqb (get_or text at 0) 32 ≡ true) × (Some one ≡ number_at text (at + 1))
     unfolding field_at
     space = ⊎_elim
-        (λ (e : eqb (get_or text at 0) 32 ≡ true). e)
-        (λ (e : eqb (get_or text at 0) 32 ≡ false). absurd (false≢true (rw e at g)))
+        (λ (s : eqb (get_or text at 0) 32 ≡ true). (s, rw s at e))
+        (λ (s : eqb (get_or text at 0) 32 ≡ false). let f = rw s at e in cc)
         (bool_cases (eqb (get_or text at 0) 32))
 
-    pub field-number : field_at text at ≡ number_at text (at + 1)
-    unfolding field_at
-    field-number = rw space
+    field-number : (is_number (leading (drop (at + 1) text)) ≡ true) × (one ≡ digits_at text (at + 1))
+    field-number = number-some text (at + 1) one space.1
 
     -- the number as it is spelled, of any size
     abbrev pub spelled_at : ℕ
     spelled_at = spelled 0 (leading (drop (at + 1) text))
 
-    pub field-value : (field_at text at).value ≡ min spelled_at cap
-    field-value = ap (λ (r : Number). r.value) field-number
+    pub field-value : one.value ≡ min spelled_at cap
+    field-value = ap (λ (r : Number). r.value) field-number.1
 
-    pub field_next : (at < (field_at text at).next) × ((field_at text at).next ≤ length text)
+    pub field_next : (at < one.next) × (one.next ≤ length text)
     field_next =
-        let inside = stands-within text at 32 (omega arith) space in
+        let inside = stands-within text at 32 (omega arith) space.0 in
         let within = number-within text (at + 1) (omega arith) in
-        let e = ap (λ (r : Number). r.next) field-number in
+        let n = ap (λ (r : Number). r.next) field-number.1 in
         (omega arith, omega arith)
 
     there : is_field (drop at text) ≡ true
-    there = sym field-good ∙ g
+    there = rw (field_is, space.0, field-number.0)
 
-    after : behind (drop 1 (drop at text)) ≡ drop (field_at text at).next text
-    after = rw (drop-drop 1 at text, behind-at text (at + 1), field-number)
+    after : behind (drop 1 (drop at text)) ≡ drop one.next text
+    after = rw (drop-drop 1 at text, behind-at text (at + 1), field-number.1)
 
-    pub fields-more : (most : ℕ) → fields (suc most) (drop at text) ≡ spelled_at ∷ fields most (drop (field_at text at).next text)
+    pub fields-more : (most : ℕ) → fields (suc most) (drop at text) ≡ spelled_at ∷ fields most (drop one.next text)
     unfolding fields
     fields-more most = rw (there, after, drop-drop 1 at text)
 
-    pub behind_more : (most : ℕ) → behind_fields (suc most) (drop at text) ≡ behind_fields most (drop (field_at text at).next text)
+    pub behind_more : (most : ℕ) → behind_fields (suc most) (drop at text) ≡ behind_fields most (drop one.next text)
     unfolding behind_fields
     behind_more most = rw (there, after)
 
-  module _ (b : (field_at text at).good ≡ false) where
+  module _ (e : None ≡ field_at text at) where
+    none-there : is_field (drop at text) ≡ false
+    unfolding field_at
+    none-there = ⊎_elim
+        (λ (s : eqb (get_or text at 0) 32 ≡ true). rw (field_is, s, number-none text (at + 1) (rw s at e)))
+        (λ (s : eqb (get_or text at 0) 32 ≡ false). rw (field_is, s))
+        (bool_cases (eqb (get_or text at 0) 32))
+
     pub fields-none : (most : ℕ) → fields most (drop at text) ≡ []
     unfolding fields
     fields-none zero = refl
-    fields-none (suc most) = rw (sym field-good ∙ b)
+    fields-none (suc most) = rw none-there
 
     pub behind-none : (most : ℕ) → behind_fields most (drop at text) ≡ drop at text
     unfolding behind_fields
     behind-none zero = refl
-    behind-none (suc most) = rw (sym field-good ∙ b)
+    behind-none (suc most) = rw none-there
 
 -- ---- words of two and three letters
 pub two-letters : (text : List ℕ) (a b : ℕ) → 1 ≤ a → 1 ≤ b → is_same (take 2 text) (a ∷ b ∷ []) ≡ (eqb (get_or text 0 0) a && eqb (get_or text 1 0) b)

@@ -1,15 +1,19 @@
 -- What a line that was told leads to, and how the check goes on from line to line.
-use Rattle.flash.proofs.Kit.{◌≡◌, refl, sym, ap, ◌∙◌, true, false, ◌&&◌, List, [], ℕ, zero, suc, ◌+◌, ◌-◌, ◌*◌, ◌≤◌, ◌<◌, min, arith, eqb, length, drop}
+use Rattle.flash.proofs.Kit.{◌≡◌, refl, sym, ap, ◌∙◌, Bool, true, false, cond, ◌&&◌, List, [], ℕ, zero, suc, ◌+◌, ◌-◌, ◌*◌, ◌≤◌, ◌<◌, min, arith, eqb, length, drop}
 use Rattle.flash.proofs.Kit.{length-drop, drop_of_length-le, eqb-true, eq-eqb, ne_eqb}
 use Rattle.flash.proofs.Bools.{bool_eq}
 use Rattle.flash.proofs.Parts.{part-fits}
 use Rattle.checker.specs.Lines.{Line, write, erase, end, other, read_line}
-use Rattle.checker.specs.Pages.{mask_of, is_bad_write, page_written, block_erased, are_determined}
+use Rattle.checker.specs.Pages.{mask_of, is_bad_write, page_written, block_erased, are_determined, is_requested}
 use Rattle.checker.specs.Answer.{CheckAnswer, faulty, Progress, step_of, on, stop, turn, then_check, check_from}
 use Rattle.checker.specs.inner.Told.{cap, Said, wrote, erased, ended, unread, said}
+use Rattle.std.proofs.Common.{Result, Ok, Err}
+use Rattle.checker.specs.declared.fault.Fault.{Fault}
+use Rattle.checker.specs.declared.turn.Cursor.{Cursor}
 use Rattle.checker.specs.declared.turn.Turn as code
-use Rattle.checker.specs.declared.turn.Turn.TheVariants.{On, Stop}
-use Rattle.checker.specs.inner.Turns.{Standing, finished, turn_as, GoesOn}
+use Rattle.checker.specs.declared.turn.Turn.TheVariants.{On, End}
+use Rattle.checker.specs.inner.Checks.{checked_as}
+use Rattle.checker.specs.inner.Turns.{Standing, turn_as, GoesOn}
 use Rattle.checker.proofs.PageLaws.{write-survives, erase-survives}
 
 -- ---- what was told, part by part
@@ -101,8 +105,8 @@ module _ (n m : ℕ) (list : List ℕ) (line : Line) (rest : List ℕ) (P : Prog
       (λ t. eq-eqb (min x cap) y (omega (arith, eqb-true x y t)))
 
   ends : (w r w' r' : ℕ) → line ≡ end w' r' → w ≡ min w' cap → r ≡ min r' cap → length rest ≡ 0 → P.writes < cap → P.erases < cap
-      → stop (record { number = 0; line = 0; accepted = finished m list P.pages (eqb w P.writes && eqb r P.erases) }) ≡ turn n m list line rest P
-  unfolding turn finished
+      → stop (record { number = 0; line = 0; accepted = cond (eqb w P.writes && eqb r P.erases && is_requested m list P.pages) 1 0 }) ≡ turn n m list line rest P
+  unfolding turn
   ends w r w' r' is f g h k l =
       rw (is, eq-eqb (length rest) 0 h, ap (λ (x : ℕ). eqb x P.writes) f ∙ eqb-capped w' P.writes k, ap (λ (x : ℕ). eqb x P.erases) g ∙ eqb-capped r' P.erases l)
 
@@ -115,7 +119,7 @@ module _ (n m : ℕ) (list : List ℕ) (line : Line) (rest : List ℕ) (P : Prog
         rw (s.2, more)
 
     pub turn_end : length after ≡ 0 → P.writes < cap → P.erases < cap
-        → stop (record { number = 0; line = 0; accepted = finished m list P.pages (eqb w P.writes && eqb r P.erases) }) ≡ turn n m list line rest P
+        → stop (record { number = 0; line = 0; accepted = cond (eqb w P.writes && eqb r P.erases && is_requested m list P.pages) 1 0 }) ≡ turn n m list line rest P
     turn_end h k l =
         let s = said-end line rest w r after e in
         ends w r s.0 s.1 s.2 s.3 s.4 (omega (arith, ap length s.5)) k l
@@ -158,19 +162,22 @@ module _ (n m : ℕ) (list text : List ℕ) where
   check-goes-on at next P Q h k e f g = check-line at P h k ∙ rw (← e, f, g)
 
   -- what a turn told, once it is known which it is
-  module _ (at : ℕ) (P : Progress) (pages : List ℕ) (r : code.Turn)
+  module _ (at : ℕ) (P : Progress) (pages : List ℕ) (r : Result code.Turn Fault)
       (is : turn_as r pages ≡ turn n m list (read_line n m (step_of P) (drop at text)).line (read_line n m (step_of P) (drop at text)).rest P)
       (h : at < length text) (k : step_of P ≤ at) where
-    pub told-on : (writes erases next : ℕ) → r ≡ On writes erases next
+    pub told-on : (done : Cursor) → r ≡ Ok (On done)
         → GoesOn n m pages text (step_of P) (read_line n m (step_of P) (drop at text)).rest r
-        → Standing n m pages text writes erases next × (writes + erases ≡ step_of P + 1)
+        → Standing n m pages text done.writes done.erases done.at × (done.writes + done.erases ≡ step_of P + 1)
         × (check_from n m list (length text - step_of P) (drop at text) P
-        ≡ check_from n m list (length text - (writes + erases)) (drop next text) (record { writes = writes; erases = erases; pages = pages }))
-    told-on writes erases next e g =
+        ≡ check_from n m list (length text - (done.writes + done.erases)) (drop done.at text)
+        (record { writes = done.writes; erases = done.erases; pages = pages }))
+    told-on done e g =
         let on-is = rw e at is in
         let goes = rw e at g in
-        (goes.0, goes.2, check-goes-on at next P (record { writes = writes; erases = erases; pages = pages }) h k on-is goes.1 goes.2)
+        (goes.0, goes.2, check-goes-on at done.at P (record { writes = done.writes; erases = done.erases; pages = pages }) h k on-is goes.1 goes.2)
 
-    pub told-stop : (number line accepted : ℕ) → r ≡ Stop number line accepted
-        → check_from n m list (length text - step_of P) (drop at text) P ≡ record { number = number; line = line; accepted = accepted }
-    told-stop number line accepted e = check-stops at P (record { number = number; line = line; accepted = accepted }) h k (rw e at is)
+    pub told-end : (accepted : Bool) → r ≡ Ok (End accepted) → check_from n m list (length text - step_of P) (drop at text) P ≡ checked_as (Ok accepted)
+    told-end accepted e = check-stops at P (checked_as (Ok accepted)) h k (rw e at is)
+
+    pub told-fault : (fault : Fault) → r ≡ Err fault → check_from n m list (length text - step_of P) (drop at text) P ≡ checked_as (Err fault)
+    told-fault fault e = check-stops at P (checked_as (Err fault)) h k (rw e at is)

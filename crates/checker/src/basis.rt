@@ -11,7 +11,7 @@ const MOST_ORIGINALS: usize = 64;
 fn lowest_bit(mask: u64) -> usize
     ensures { result ≡ lowest_bit mask }
 {
-    u64::trailing_zeros(mask) as usize
+    mask.trailing_zeros() as usize
 }
 
 // Puts the mask into the row of its lowest bit. A row that is filled is added to it first, which takes that bit away. How many rows are filled then.
@@ -21,6 +21,7 @@ fn insert(basis: &mut [u64; MOST_ORIGINALS], filled: usize, mask: u64) -> usize
     ensures basis_after { basis.new ≡ inserted 0 basis.old mask }
 {
     let mut rest = mask;
+    // How often it turns is known by the rows alone.
     while rest != 0 {
         let i = lowest_bit(rest);
         let row = basis[i];
@@ -28,7 +29,7 @@ fn insert(basis: &mut [u64; MOST_ORIGINALS], filled: usize, mask: u64) -> usize
             basis[i] = rest;
             return filled + 1;
         }
-        rest = rest ^ row;
+        rest ^= row;
     }
     filled
 }
@@ -40,10 +41,8 @@ pub fn are_determined(pages: &[u64], count: usize) -> bool
 {
     let mut basis = [0u64; MOST_ORIGINALS];
     let mut filled = 0;
-    let mut i: usize = 0;
-    while i < pages.len() {
-        filled = insert(&mut basis, filled, pages[i]);
-        i += 1;
+    for page in pages {
+        filled = insert(&mut basis, filled, *page);
     }
     filled == count
 }

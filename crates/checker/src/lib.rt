@@ -4,6 +4,7 @@
 
 mod basis;
 pub mod check;
+pub mod fault;
 mod line;
 mod number;
 mod pages;

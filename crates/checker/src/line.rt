@@ -31,127 +31,100 @@ pub enum Told {
         erases: usize,
         next: usize,
     },
-    // A line of another form.
-    Other,
 }
 
-// The originals of a write: whether there are some and they rise, their mask, and the position behind them.
+// The originals of a write: their mask, and the position behind them.
 #[derive(Clone, Copy)]
 pub struct Originals {
-    pub good: bool,
     pub mask: u64,
     pub next: usize,
 }
 
-fn gather(text: &[u8], at: usize, count: usize) -> Originals
+// One original or more, rising.
+fn gather(text: &[u8], at: usize, count: usize) -> Option<Originals>
     requires { (at ≤ length text.now) × (count ≤ 64) }
     ensures { Gathered text.now at count result }
 {
     let mut next = at;
     let mut mask: u64 = 0;
     let mut least = 0;
-    let mut left = count;
-    while 0 < left {
-        let one = field(text, next);
-        if !one.good {
+    for _ in 0..count {
+        let Some(one) = field(text, next) else {
             break;
-        }
+        };
         let k = one.value;
         if (k < least) | (count <= k) {
-            return Originals {
-                good: false,
-                mask: 0,
-                next,
-            };
+            return None;
         }
-        mask = mask ^ (1u64 << k);
+        mask ^= 1u64 << k;
         least = k + 1;
         next = one.next;
-        left -= 1;
     }
-    Originals {
-        good: 0 < least,
-        mask,
-        next,
+    if 0 < least {
+        Some(Originals { mask, next })
+    } else {
+        None
     }
 }
 
-fn read_write(text: &[u8], at: usize, n: usize, m: usize) -> Told
+fn read_write(text: &[u8], at: usize, n: usize, m: usize) -> Option<Told>
     requires { (at ≤ length text.now) × (n ≤ 64) × (m ≤ 64) × (n * m ≤ 64) }
     ensures result_value { told_as text.now result ≡ said_of (read_write n m (drop at text.now)) }
     ensures ahead { Ahead n m at (length text.now) result }
 {
-    let block = field(text, at);
-    if !block.good {
-        return Told::Other;
-    }
+    let block = field(text, at)?;
     if n < block.value {
-        return Told::Other;
+        return None;
     }
-    let page = field(text, block.next);
-    if !page.good {
-        return Told::Other;
-    }
+    let page = field(text, block.next)?;
     if m <= page.value {
-        return Told::Other;
+        return None;
     }
-    let found = gather(text, page.next, n * m);
-    if !found.good {
-        return Told::Other;
-    }
+    let found = gather(text, page.next, n * m)?;
     if !is_at(text, found.next, LINE_FEED) {
-        return Told::Other;
+        return None;
     }
-    Told::Write {
+    Some(Told::Write {
         block: block.value,
         page: page.value,
         mask: found.mask,
         next: found.next + 1,
-    }
+    })
 }
 
-fn read_erase(text: &[u8], at: usize, n: usize) -> Told
+fn read_erase(text: &[u8], at: usize, n: usize) -> Option<Told>
     requires { (at ≤ length text.now) × (n ≤ 64) }
     ensures result_value { told_as text.now result ≡ said_of (read_erase n (drop at text.now)) }
     ensures ahead { Ahead n 0 at (length text.now) result }
 {
-    let block = field(text, at);
-    if !block.good {
-        return Told::Other;
-    }
+    let block = field(text, at)?;
     if n < block.value {
-        return Told::Other;
+        return None;
     }
     if !is_at(text, block.next, LINE_FEED) {
-        return Told::Other;
+        return None;
     }
-    Told::Erase {
+    Some(Told::Erase {
         block: block.value,
         next: block.next + 1,
-    }
+    })
 }
 
-fn read_end(text: &[u8], at: usize) -> Told
+fn read_end(text: &[u8], at: usize) -> Option<Told>
     requires { at ≤ length text.now }
     ensures result_value { told_as text.now result ≡ said_of (read_end (drop at text.now)) }
     ensures ahead { Ahead 0 0 at (length text.now) result }
 {
-    let writes = field(text, at);
-    if !writes.good {
-        return Told::Other;
-    }
-    let erases = field(text, writes.next);
-    if !erases.good {
-        return Told::Other;
-    }
+    let writes = field(text, at)?;
+    let erases = field(text, writes.next)?;
     if !is_at(text, erases.next, LINE_FEED) {
-        return Told::Other;
+        return None;
     }
-    Told::End {
+    Some(Told::End {
         writes: writes.value,
         erases: erases.value,
         next: erases.next + 1,
-    }
+    })
 }
 
 // Whether a space and this letter stand at a position.
@@ -159,37 +132,24 @@ fn is_letter(text: &[u8], at: usize, letter: u8) -> bool
     requires { 1 ≤ letter }
     ensures { result ≡ is_same (take 2 (drop at text.now)) (32 ∷ letter ∷ []) }
 {
-    if is_at(text, at, SPACE) {
-        is_at(text, at + 1, letter)
-    } else {
-        false
-    }
+    is_at(text, at, SPACE) && is_at(text, at + 1, letter)
 }
 
 // Whether `end` stands at a position.
 fn is_end(text: &[u8], at: usize) -> bool
     ensures { result ≡ is_same (take 3 (drop at text.now)) (101 ∷ 110 ∷ 100 ∷ []) }
 {
-    if !is_at(text, at, 101) {
-        return false;
-    }
-    if !is_at(text, at + 1, 110) {
-        return false;
-    }
-    is_at(text, at + 2, 100)
+    is_at(text, at, 101) && is_at(text, at + 1, 110) && is_at(text, at + 2, 100)
 }
 
-fn read_step(text: &[u8], at: usize, n: usize, m: usize, step: usize) -> Told
+fn read_step(text: &[u8], at: usize, n: usize, m: usize, step: usize) -> Option<Told>
     requires { (at ≤ length text.now) × (n ≤ 64) × (m ≤ 64) × (n * m ≤ 64) × (step < cap) }
     ensures result_value { told_as text.now result ≡ said_of (read_step n m step (drop at text.now)) }
     ensures ahead { Ahead n m at (length text.now) result }
 {
-    let own = read_number(text, at);
-    if !own.good {
-        return Told::Other;
-    }
+    let own = read_number(text, at)?;
     if own.value != step {
-        return Told::Other;
+        return None;
     }
     if is_letter(text, own.next, W) {
         return read_write(text, own.next + 2, n, m);
@@ -197,11 +157,11 @@ fn read_step(text: &[u8], at: usize, n: usize, m: usize, step: usize) -> Told
     if is_letter(text, own.next, E) {
         return read_erase(text, own.next + 2, n);
     }
-    Told::Other
+    None
 }
 
-// The line at a position, where the step has the number `step`.
-pub fn read_line(text: &[u8], at: usize, n: usize, m: usize, step: usize) -> Told
+// The line at a position, where the step has the number `step`; none if it has another form.
+pub fn read_line(text: &[u8], at: usize, n: usize, m: usize, step: usize) -> Option<Told>
     requires { (at ≤ length text.now) × (n ≤ 64) × (m ≤ 64) × (n * m ≤ 64) × (step < cap) }
     ensures result_value { told_as text.now result ≡ said_of (read_line n m step (drop at text.now)) }
     ensures ahead { Ahead n m at (length text.now) result }

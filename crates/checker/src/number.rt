@@ -3,7 +3,6 @@ ghost use Rattle.std.specs.Prelude.{◌≡◌, ◌+◌, ◌-◌, ◌*◌, ◌≤
 ghost use Rattle.checker.specs.Lines.{leading, is_number};
 ghost use Rattle.checker.specs.inner.Told.{cap, number_at, field_at};
 
-use flash::casts::word;
 use listing::number::{digit_value, is_digit};
 
 // Larger numbers count as this one.
@@ -16,10 +15,9 @@ const ZERO: u8 = 48;
 
 pub const SPACE: u8 = 32;
 
-// What stands at a position: whether it is a number, its value up to the cap, and the position behind its digits.
+// A number: its value up to the cap, and the position behind its digits.
 #[derive(Clone, Copy)]
 pub struct Number {
-    pub good: bool,
     pub value: usize,
     pub next: usize,
 }
@@ -30,7 +28,7 @@ fn more(value: usize, digit: u8) -> usize
     ensures { result ≡ min (value * 10 + (digit - 48)) cap }
 {
     if value <= TENTH {
-        value * 10 + word(digit_value(digit))
+        value * 10 + digit_value(digit) as usize
     } else {
         CAP
     }
@@ -41,30 +39,27 @@ fn is_number(text: &[u8], at: usize, size: usize) -> bool
     requires { (at + size ≤ length text.now) × (size ≡ length (leading (drop at text.now))) }
     ensures { result ≡ is_number (leading (drop at text.now)) }
 {
-    if size <= 1 {
-        return size == 1;
-    }
-    text[at] != ZERO
+    size == 1 || size > 1 && text[at] != ZERO
 }
 
-pub fn read_number(text: &[u8], at: usize) -> Number
+// The number at a position, if one stands there.
+pub fn read_number(text: &[u8], at: usize) -> Option<Number>
     requires { at ≤ length text.now }
     ensures { result ≡ number_at text.now at }
 {
     let mut next = at;
     let mut value = 0;
-    while next < text.len() {
-        let byte = text[next];
-        if !is_digit(byte) {
+    for byte in &text[at..] {
+        if !is_digit(*byte) {
             break;
         }
-        value = more(value, byte);
+        value = more(value, *byte);
         next += 1;
     }
-    Number {
-        good: is_number(text, at, next - at),
-        value,
-        next,
+    if is_number(text, at, next - at) {
+        Some(Number { value, next })
+    } else {
+        None
     }
 }
 
@@ -73,25 +68,17 @@ pub fn is_at(text: &[u8], at: usize, byte: u8) -> bool
     requires { 1 ≤ byte }
     ensures { result ≡ eqb (get_or text.now at 0) byte }
 {
-    if at < text.len() {
-        text[at] == byte
-    } else {
-        false
-    }
+    at < text.len() && text[at] == byte
 }
 
 // A space and a number.
-pub fn field(text: &[u8], at: usize) -> Number
+pub fn field(text: &[u8], at: usize) -> Option<Number>
     requires { at ≤ length text.now }
     ensures { result ≡ field_at text.now at }
 {
     if is_at(text, at, SPACE) {
         read_number(text, at + 1)
     } else {
-        Number {
-            good: false,
-            value: 0,
-            next: at,
-        }
+        None
     }
 }

@@ -1,10 +1,9 @@
 // What the pages hold, as masks of originals; a blank page is 0.
-ghost use Rattle.std.specs.Prelude.{◌≡◌, cond, ℕ, ◌+◌, ◌-◌, ◌*◌, ◌^◌, ◌≤◌, ◌<◌, ltb, length, get_or, replicate};
+ghost use Rattle.std.specs.Prelude.{◌≡◌, cond, eqb, ℕ, ◌+◌, ◌-◌, ◌*◌, ◌^◌, ◌≤◌, ◌<◌, ltb, length, get_or, replicate};
 ghost use Rattle.flash.specs.Lists.{range, all};
+ghost use Rattle.std.specs.List.{list_all};
 ghost use Rattle.checker.specs.Pages.{resting_pages, is_blank, is_bad_write, block_erased, is_requested};
 ghost use Rattle.checker.specs.inner.Pages.{are_placed};
-
-use flash::casts::entry;
 
 // What slot t holds at rest.
 fn resting(t: usize, m: usize) -> u64
@@ -19,11 +18,15 @@ pub fn put_rest(pages: &mut [u64], n: usize, m: usize)
     requires { (n * m ≤ 64) × (length pages.old ≡ (n + 1) * m) }
     ensures { pages.new ≡ resting_pages n m }
 {
-    let mut t = 0;
-    while t < pages.len() {
-        pages[t] = resting(t, m);
-        t += 1;
+    for (t, page) in pages.iter_mut().enumerate() {
+        *page = resting(t, m);
     }
+}
+
+fn are_blank(part: &[u64]) -> bool
+    ensures { result ≡ list_all (λ page. eqb page 0) part.now }
+{
+    part.iter().all(|page| *page == 0)
 }
 
 // Whether the page is not blank, or a higher one of its block is not.
@@ -32,24 +35,7 @@ pub fn is_bad_write(pages: &[u64], m: usize, block: usize, page: usize) -> bool
     ensures { result ≡ is_bad_write m pages.now block page }
 {
     let first = block * m;
-    let mut q = page;
-    while q < m {
-        if pages[first + q] != 0 {
-            return true;
-        }
-        q += 1;
-    }
-    false
-}
-
-fn empty(part: &mut [u64])
-    ensures { part.new ≡ replicate (length part.old) 0 }
-{
-    let mut i = 0;
-    while i < part.len() {
-        part[i] = 0;
-        i += 1;
-    }
+    !are_blank(&pages[first + page..first + m])
 }
 
 // All pages of a block become blank. Its part is lent on, so nothing beside it can change.
@@ -58,7 +44,7 @@ pub fn erase(pages: &mut [u64], m: usize, block: usize)
     ensures { pages.new ≡ block_erased m pages.old block }
 {
     let start = block * m;
-    empty(&mut pages[start..start + m]);
+    pages[start..start + m].fill(0);
 }
 
 // Whether each original lies where the list sends it, alone.
@@ -67,13 +53,11 @@ fn are_placed(pages: &[u64], m: usize, list: &[u16]) -> bool
     requires by_index { (k : ℕ) → k < length list.now → m + get_or list.now k 0 < length pages.now }
     ensures { result ≡ are_placed m list.now pages.now }
 {
-    let mut k: usize = 0;
-    while k < list.len() {
-        let t = m + entry(list[k]);
+    for (k, entry) in list.iter().enumerate() {
+        let t = m + usize::from(*entry);
         if pages[t] != 1u64 << k {
             return false;
         }
-        k += 1;
     }
     true
 }
@@ -82,14 +66,7 @@ fn is_spare_blank(pages: &[u64], m: usize) -> bool
     requires { m ≤ length pages.now }
     ensures { result ≡ all (is_blank pages.now) (range 0 m) }
 {
-    let mut t = 0;
-    while t < m {
-        if pages[t] != 0 {
-            return false;
-        }
-        t += 1;
-    }
-    true
+    are_blank(&pages[..m])
 }
 
 // Whether the pages are as the list asks.
@@ -98,9 +75,5 @@ pub fn is_requested(pages: &[u64], m: usize, list: &[u16]) -> bool
     requires by_index { (k : ℕ) → k < length list.now → m + get_or list.now k 0 < length pages.now }
     ensures { result ≡ is_requested m list.now pages.now }
 {
-    if are_placed(pages, m, list) {
-        is_spare_blank(pages, m)
-    } else {
-        false
-    }
+    are_placed(pages, m, list) && is_spare_blank(pages, m)
 }

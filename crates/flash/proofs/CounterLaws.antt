@@ -1,5 +1,5 @@
 -- The pair of the highest count: what becomes of it where a count is looked at.
-use Rattle.flash.proofs.Kit.{List, ◌≡◌, refl, sym, ap, ◌∙◌, subst, ◌⊎◌, inl, inr, ◌≢◌, ⊎_elim, true, false, ◌&&◌, ℕ, zero, suc, ◌+◌, ◌≤◌, ◌<◌, add-one, arith}
+use Rattle.flash.proofs.Kit.{List, ◌≡◌, refl, sym, ap, ◌∙◌, subst, ◌⊎◌, inl, inr, ◌≢◌, ⊎_elim, true, false, ◌&&◌, ℕ, zero, suc, ◌+◌, ◌≤◌, ◌<◌, max, add-one, arith}
 use Rattle.flash.proofs.Kit.{eqb, ltb, length, get_or, set, length-set, get_or-set_same, get_or-set_other, eqb-true, eq-eqb, ltb-true, ltb-false, lt-ltb, le-ltb}
 use Rattle.flash.specs.declared.wear.Wear.{Wear}
 use Rattle.flash.specs.Wear.{counter_count, counter_end, counter_at, raised, replaces, noted, risen, noted_up_to, refreshed, CorrectFor, PairCorrect}
@@ -59,13 +59,19 @@ noted-highest block count wear = ⊎_elim
     (bool_cases (replaces wear.highest wear.block count block))
 
 module _ (wear : Wear) (block highest : ℕ) (so_far : highest ≡ (noted_up_to block wear).highest) where
-  pub higher-next : highest < counter_at wear block → counter_at wear block ≡ (noted_up_to (block + 1) wear).highest
+  higher-next : highest < counter_at wear block → counter_at wear block ≡ (noted_up_to (block + 1) wear).highest
   unfolding noted_up_to
   higher-next h = rw (add-one block) (⊎_elim (λ l. sym l.1) (λ l. absurd (omega (arith, l.0))) (noted-highest block (counter_at wear block) (noted_up_to block wear)))
 
-  pub lower-next : counter_at wear block ≤ highest → highest ≡ (noted_up_to (block + 1) wear).highest
+  lower-next : counter_at wear block ≤ highest → highest ≡ (noted_up_to (block + 1) wear).highest
   unfolding noted_up_to
   lower-next h = rw (add-one block) (⊎_elim (λ l. absurd (omega (arith, l.0))) (λ l. so_far ∙ sym l.1) (noted-highest block (counter_at wear block) (noted_up_to block wear)))
+
+  pub highest-next : max highest (counter_at wear block) ≡ (noted_up_to (block + 1) wear).highest
+  highest-next = ⊎_elim
+      (λ (h : highest < counter_at wear block). omega (arith, higher-next h))
+      (λ (h : counter_at wear block ≤ highest). omega (arith, lower-next h))
+      (lt-cases highest (counter_at wear block))
 
 -- ---- the counters are as they were, but for the one that rises
 pub noted-counters : (block count : ℕ) (wear : Wear) → (noted block count wear).counters ≡ wear.counters

@@ -142,27 +142,25 @@ pub rest-counted : (new page : List ℕ) (i p written rest : ℕ) → page ≡ n
 rest-counted new page i p written rest is size h e f =
     rw (e, f, is) (written-part new i p h ∙ ap written_bytes (take_all p new (omega arith)))
 
--- what holds of the first n of a list holds of those from i on
-rest-each : (P : ℕ → Type 0) (i n : ℕ) (xs : List ℕ) → n ≤ length xs → ((j : ℕ) → j < n → P (get_or xs j 0))
-    → (j : ℕ) → j < length (take (n - i) (drop i xs)) → P (get_or (take (n - i) (drop i xs)) j 0)
-rest-each P i n xs short each j h =
-    let size = simp length-drop at (length-take (n - i) (drop i xs)) in
-    rw (get_or-take (n - i) (drop i xs) j 0 (omega arith), get_or-drop) (each (i + j) (omega arith))
+-- what holds of each element of a list holds of those from i on
+rest-each : (P : ℕ → Type 0) (i : ℕ) (xs : List ℕ) → ((j : ℕ) → j < length xs → P (get_or xs j 0))
+    → (j : ℕ) → j < length (drop i xs) → P (get_or (drop i xs) j 0)
+rest-each P i xs each j h = rw get_or-drop (each (i + j) (omega (arith, length-drop i xs)))
 
--- A pass over the slots from i on, of the first `count`: what holds of its terms, and the sum with theirs.
-module _ (p : ℕ) (slots : List ℕ) (count i : ℕ) (terms : Terms) (short : count ≤ length slots) (more : i < count)
-    (e : terms ≡ terms_of (take (count - i) (drop i slots))) where
-  some : 1 ≤ length (take (count - i) (drop i slots))
-  some = simp (length-take, length-drop) (omega arith)
+-- A pass over the slots from i on: what holds of its terms, and the sum with theirs.
+module _ (p : ℕ) (slots : List ℕ) (i : ℕ) (terms : Terms) (more : i < length slots) (is : terms ≡ terms_of (take (length slots - i) (drop i slots))) where
+  e : terms ≡ terms_of (drop i slots)
+  e = is ∙ ap terms_of (take_all (length slots - i) (drop i slots) (omega (arith, length-drop i slots)))
 
-  pub pass-terms : (P : ℕ → Type 0) → ((j : ℕ) → j < count → P (get_or slots j 0)) → EachTerm P terms
-  pass-terms P each = each-term P (take (count - i) (drop i slots)) terms some (rest-each P i count slots short each) e
+  some : 1 ≤ length (drop i slots)
+  some = simp length-drop (omega arith)
 
-  pub pass-more : (store : List ℕ) → ((j : ℕ) → j < count → get_or slots j 0 * p + p ≤ length store)
-      → sum (λ t. part p t store) (take i (take count slots)) ⊕ sum_of store p terms ≡ sum (λ t. part p t store) (take (i + 4) (take count slots))
+  pub pass-terms : (P : ℕ → Type 0) → ((j : ℕ) → j < length slots → P (get_or slots j 0)) → EachTerm P terms
+  pass-terms P each = each-term P (drop i slots) terms some (rest-each P i slots each) e
+
+  pub pass-more : (store : List ℕ) → ((j : ℕ) → j < length slots → get_or slots j 0 * p + p ≤ length store)
+      → sum (λ t. part p t store) (take i slots) ⊕ sum_of store p terms ≡ sum (λ t. part p t store) (take (i + 4) slots)
   pass-more store each =
       let pages : ℕ → List ℕ = λ t. part p t store in
-      let rest : List ℕ = take (count - i) (drop i slots) in
-      let fit = rest-each (λ t. t * p + p ≤ length store) i count slots short each in
-      rw (sum-of-four store p rest terms some fit e, take-add i 4 (take count slots), drop-take i count slots)
-      (sym (sum-append pages (take i (take count slots)) (take 4 rest)))
+      let fit = rest-each (λ t. t * p + p ≤ length store) i slots each in
+      rw (sum-of-four store p (drop i slots) terms some fit e, take-add i 4 slots) (sym (sum-append pages (take i slots) (take 4 (drop i slots))))

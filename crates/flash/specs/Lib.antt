@@ -1,6 +1,7 @@
 -- What the contracts of this crate say.
 pub mod Lists
 pub mod Tables
+pub mod Refusals
 pub mod Geometry
 pub mod PageSum
 pub mod Chip

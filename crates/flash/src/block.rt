@@ -5,7 +5,7 @@ ghost use Rattle.flash.specs.Lists.{set_part};
 ghost use Rattle.flash.specs.Chip.{erased, is_full, erase_block};
 
 use crate::ERASED;
-use crate::bytes::{fill, is_filled};
+use crate::bytes::is_filled;
 
 // A block's bytes, or its marks, are erased. Its part is lent on, so nothing beside it can change.
 fn erase_part(bytes: &mut [u8], size: usize, block: usize)
@@ -13,7 +13,7 @@ fn erase_part(bytes: &mut [u8], size: usize, block: usize)
     ensures { bytes.new ≡ set_part size block bytes.old (replicate size erased) }
 {
     let start = block * size;
-    fill(&mut bytes[start..start + size], ERASED);
+    bytes[start..start + size].fill(ERASED);
 }
 
 // All pages of the block become blank.

@@ -5,30 +5,16 @@ ghost use Rattle.flash.specs.Lists.{all};
 ghost use Rattle.flash.specs.PageSum.{◌⊕◌, written_bytes};
 
 use crate::ERASED;
-use crate::casts::{narrow, wide};
 
 // As many bytes as are counted in a byte at once.
 pub const FEW: usize = 128;
-
-// Every byte of the part becomes `value`.
-pub fn fill(part: &mut [u8], value: u8)
-    ensures { part.new ≡ replicate (length part.old) value }
-{
-    let mut i = 0;
-    while i < part.len() {
-        part[i] = value;
-        i += 1;
-    }
-}
 
 // A page of 255s is added to a page.
 pub fn invert(page: &mut [u8])
     ensures { page.new ≡ replicate (length page.old) 255 ⊕ page.old }
 {
-    let mut i = 0;
-    while i < page.len() {
-        page[i] = ERASED ^ page[i];
-        i += 1;
+    for byte in page.iter_mut() {
+        *byte = ERASED ^ *byte;
     }
 }
 
@@ -38,10 +24,8 @@ fn is_erased(bytes: &[u8]) -> bool
     ensures { result ≡ all (λ byte. eqb byte 255) bytes.now }
 {
     let mut common: u8 = ERASED;
-    let mut i = 0;
-    while i < bytes.len() {
-        common = common & bytes[i];
-        i += 1;
+    for byte in bytes {
+        common = common & *byte;
     }
     common == ERASED
 }
@@ -54,10 +38,8 @@ pub fn is_filled(bytes: &[u8], value: u8) -> bool
         return is_erased(bytes);
     }
     let mut different: u8 = 0;
-    let mut i = 0;
-    while i < bytes.len() {
-        different = different | (bytes[i] ^ value);
-        i += 1;
+    for byte in bytes {
+        different = different | (*byte ^ value);
     }
     different == 0
 }
@@ -68,10 +50,8 @@ pub fn are_below(bytes: &[u8], limit: u8) -> bool
     ensures { result ≡ all (λ byte. ltb byte limit) bytes.now }
 {
     let mut bits: u8 = 0;
-    let mut i = 0;
-    while i < bytes.len() {
-        bits = bits | bytes[i];
-        i += 1;
+    for byte in bytes {
+        bits = bits | *byte;
     }
     bits < limit
 }
@@ -90,24 +70,10 @@ pub fn position(bytes: &[u8], value: u8) -> u8
         → ((i : ℕ) → i < length bytes.now → get_or bytes.now i 0 ≡ value → i ≡ at) → result ≡ at }
 {
     let mut found: u8 = 0;
-    let mut i = 0;
-    while i < bytes.len() {
-        found = found | kept(bytes[i] == value, narrow(i));
-        i += 1;
+    for (i, byte) in bytes.iter().enumerate() {
+        found = found | kept(*byte == value, i as u8);
     }
     found
-}
-
-// The bytes of one part are put into another.
-pub fn copy(target: &mut [u8], source: &[u8])
-    requires { length source.now ≡ length target.old }
-    ensures { target.new ≡ source.now }
-{
-    let mut i = 0;
-    while i < target.len() {
-        target[i] = source[i];
-        i += 1;
-    }
 }
 
 // How many of a few bytes are not erased. They are counted in a byte, since vector instructions add as many at once as they compare.
@@ -116,10 +82,8 @@ pub fn count_few(bytes: &[u8]) -> u8
     ensures { result ≡ written_bytes bytes.now }
 {
     let mut count: u8 = 0;
-    let mut i = 0;
-    while i < bytes.len() {
-        count += (bytes[i] != ERASED) as u8;
-        i += 1;
+    for byte in bytes {
+        count += (*byte != ERASED) as u8;
     }
     count
 }
@@ -130,10 +94,11 @@ pub fn count_written(page: &[u8]) -> usize
 {
     let mut count = 0;
     let mut i = 0;
+    // pieces of one fixed length and a rest apart: the loop over a piece is unrolled, which one over `chunks` is not
     while FEW <= page.len() - i {
         let end = i + FEW;
-        count += wide(count_few(&page[i..end]));
+        count += usize::from(count_few(&page[i..end]));
         i = end;
     }
-    count + wide(count_few(&page[i..page.len()]))
+    count + usize::from(count_few(&page[i..page.len()]))
 }

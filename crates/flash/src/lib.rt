@@ -5,8 +5,8 @@
 
 pub mod block;
 pub mod bytes;
-pub mod casts;
 pub mod quotient;
+pub mod refusal;
 pub mod sizes;
 pub mod slots;
 pub mod totals;

@@ -21,47 +21,49 @@ pub struct Sizes {
     pub s: usize, // the start letter, 0 to 2: the mark of the data blocks before the move
 }
 
-// Whether the sizes are in their ranges. Nothing is multiplied before they are.
-pub fn in_range(sizes: Sizes) -> bool
-    ensures { result ≡ in_range sizes }
-{
-    (1 <= sizes.n)
-        & (sizes.n <= MOST_BLOCKS)
-        & (1 <= sizes.m)
-        & (sizes.m <= MOST_PAGES)
-        & (1 <= sizes.p)
-        & (sizes.p <= MOST_PAGE_BYTES)
-        & (sizes.s < LETTERS as usize)
-}
+impl Sizes {
+    // Whether the sizes are in their ranges. Nothing is multiplied before they are.
+    pub fn in_range(self) -> bool
+        ensures { result ≡ in_range self }
+    {
+        (1 <= self.n)
+            & (self.n <= MOST_BLOCKS)
+            & (1 <= self.m)
+            & (self.m <= MOST_PAGES)
+            & (1 <= self.p)
+            & (self.p <= MOST_PAGE_BYTES)
+            & (self.s < LETTERS as usize)
+    }
 
-// How many originals there are, which is the length of the list and of the set bytes.
-pub fn original_count(sizes: Sizes) -> usize
-    requires { (sizes.n ≤ 64) × (sizes.m ≤ 64) }
-    ensures { result ≡ original_count sizes }
-{
-    sizes.n * sizes.m
-}
+    // How many originals there are, which is the length of the list and of the set bytes.
+    pub fn original_count(self) -> usize
+        requires { (self.n ≤ 64) × (self.m ≤ 64) }
+        ensures { result ≡ original_count self }
+    {
+        self.n * self.m
+    }
 
-// How many slots there are, which is the length of the marks.
-pub fn slot_count(sizes: Sizes) -> usize
-    requires { (sizes.n ≤ 64) × (sizes.m ≤ 64) }
-    ensures { result ≡ slot_count sizes }
-{
-    (sizes.n + 1) * sizes.m
-}
+    // How many slots there are, which is the length of the marks.
+    pub fn slot_count(self) -> usize
+        requires { (self.n ≤ 64) × (self.m ≤ 64) }
+        ensures { result ≡ slot_count self }
+    {
+        (self.n + 1) * self.m
+    }
 
-// The length of the store.
-pub fn store_length(sizes: Sizes) -> usize
-    requires { (sizes.n ≤ 64) × (sizes.m ≤ 64) × (sizes.p ≤ 4096) }
-    ensures { result ≡ store_len sizes }
-{
-    slot_count(sizes) * sizes.p
-}
+    // The length of the store.
+    pub fn store_length(self) -> usize
+        requires { (self.n ≤ 64) × (self.m ≤ 64) × (self.p ≤ 4096) }
+        ensures { result ≡ store_len self }
+    {
+        self.slot_count() * self.p
+    }
 
-// The letter that comes `i` after the start letter.
-pub fn letter_after(sizes: Sizes, i: usize) -> u8
-    requires { (sizes.s < 3) × (i < 3) }
-    ensures { result ≡ letter sizes i }
-{
-    ((sizes.s + i) % LETTERS as usize) as u8
+    // The letter that comes `i` after the start letter.
+    pub fn letter_after(self, i: usize) -> u8
+        requires { (self.s < 3) × (i < 3) }
+        ensures { result ≡ letter self i }
+    {
+        ((self.s + i) % LETTERS as usize) as u8
+    }
 }

@@ -8,8 +8,7 @@ ghost use Rattle.flash.specs.Lists.{part, set_part};
 ghost use Rattle.flash.specs.PageSum.{◌⊕◌, sum, written_bytes};
 ghost use Rattle.flash.specs.inner.Terms.{slot_at, terms_of, byte_sum, EachTerm, sum_at, sum_of, passed};
 
-use crate::bytes::{FEW, copy, count_few};
-use crate::casts::wide;
+use crate::bytes::{FEW, count_few};
 
 // The slots of one pass and how many of them count: the first stands for those that are missing.
 #[derive(Clone, Copy)]
@@ -90,11 +89,8 @@ fn sum_piece(store: &[u8], p: usize, terms: Terms, add: bool, at: usize, piece: 
     ensures { piece.new
         ≡ cond add piece.old [] ⊕ take (length piece.old) (drop at (sum_of store.now p terms)) }
 {
-    let mut j = 0;
-    while j < piece.len() {
-        let sum = sum_at(store, p, terms, at + j);
-        piece[j] = added(add, piece[j], sum);
-        j += 1;
+    for (j, byte) in piece.iter_mut().enumerate() {
+        *byte = added(add, *byte, sum_at(store, p, terms, at + j));
     }
 }
 
@@ -106,11 +102,9 @@ fn sum_within(store: &mut [u8], p: usize, terms: Terms, add: bool, to: usize, fr
         ++ drop from (passed store.old p terms add (part p to store.old))) }
 {
     let target = to * p;
-    let mut i = from;
-    while i < p {
+    for i in from..p {
         let sum = sum_at(store, p, terms, i);
         store[target + i] = added(add, store[target + i], sum);
-        i += 1;
     }
 }
 
@@ -120,7 +114,7 @@ fn begin(adds: bool, old: &[u8], piece: &mut [u8])
     ensures { piece.new ≡ cond adds old.now piece.old }
 {
     if adds {
-        copy(piece, old);
+        piece.copy_from_slice(old);
     }
 }
 
@@ -145,6 +139,9 @@ fn make_piece(
     count_few(piece)
 }
 
+// A slot's page lies in the store that is read, where no other slice can be lent beside it. So what is summed into a page has a twin that sums into a
+// slot, here and in totals.rt.
+
 // The last pass into a page; returns how many bytes of what it leaves are not erased.
 fn last_to_page(store: &[u8], p: usize, terms: Terms, add: bool, page: &mut [u8]) -> usize
     requires { EachTerm (λ t. t * p + p ≤ length store.now) terms × (length page.old ≡ p) }
@@ -152,11 +149,12 @@ fn last_to_page(store: &[u8], p: usize, terms: Terms, add: bool, page: &mut [u8]
 {
     let mut written = 0;
     let mut i = 0;
+    // by pieces of one fixed length, as in `count_written`
     while FEW <= p - i {
         let end = i + FEW;
         let mut piece = [0u8; FEW];
-        written += wide(make_piece(store, p, terms, add, i, &page[i..end], &mut piece));
-        copy(&mut page[i..end], &piece);
+        written += usize::from(make_piece(store, p, terms, add, i, &page[i..end], &mut piece));
+        page[i..end].copy_from_slice(&piece);
         i = end;
     }
     // most sizes leave no rest
@@ -164,7 +162,7 @@ fn last_to_page(store: &[u8], p: usize, terms: Terms, add: bool, page: &mut [u8]
         return written;
     }
     sum_piece(store, p, terms, add, i, &mut page[i..p]);
-    written + wide(count_few(&page[i..p]))
+    written + usize::from(count_few(&page[i..p]))
 }
 
 // The last pass into the page of a slot that is none of the terms.
@@ -177,13 +175,14 @@ fn last_to_slot(store: &mut [u8], p: usize, terms: Terms, add: bool, to: usize) 
     let target = to * p;
     let mut written = 0;
     let mut i = 0;
+    // by pieces of one fixed length, as in `count_written`
     while FEW <= p - i {
         let start = target + i;
         let end = start + FEW;
         let mut piece = [0u8; FEW];
         let all = &store[..];
-        written += wide(make_piece(all, p, terms, add, i, &all[start..end], &mut piece));
-        copy(&mut store[start..end], &piece);
+        written += usize::from(make_piece(all, p, terms, add, i, &all[start..end], &mut piece));
+        store[start..end].copy_from_slice(&piece);
         i += FEW;
     }
     // most sizes leave no rest
@@ -191,41 +190,43 @@ fn last_to_slot(store: &mut [u8], p: usize, terms: Terms, add: bool, to: usize) 
         return written;
     }
     sum_within(store, p, terms, add, to, i);
-    written + wide(count_few(&store[target + i..target + p]))
+    written + usize::from(count_few(&store[target + i..target + p]))
 }
 
-// The sum of the pages of the first `count` slots goes into a page; returns how many of its bytes are not erased.
-pub fn sum_to_page(store: &[u8], p: usize, slots: &[usize], count: usize, page: &mut [u8]) -> usize
-    requires le_count { (1 ≤ count) × (count ≤ length slots.now) × (count ≤ 4096) × (length page.old ≡ p) }
-    requires by_index { (j : ℕ) → j < count → get_or slots.now j 0 * p + p ≤ length store.now }
-    ensures { (page.new ≡ sum (λ t. part p t store.now) (take count slots.now))
+// The sum of the pages of the slots goes into a page; returns how many of its bytes are not erased.
+pub fn sum_to_page(store: &[u8], p: usize, slots: &[usize], page: &mut [u8]) -> usize
+    requires le_slots { (1 ≤ length slots.now) × (length slots.now ≤ 4096) × (length page.old ≡ p) }
+    requires by_index { (j : ℕ) → j < length slots.now → get_or slots.now j 0 * p + p ≤ length store.now }
+    ensures { (page.new ≡ sum (λ t. part p t store.now) slots.now)
         × (result ≡ written_bytes page.new) × (result ≤ p) }
 {
     let mut i = 0;
-    while 4 < count - i {
-        let terms = terms_of(&slots[i..count]);
+    // four slots a pass, and the last pass apart, which counts as well: `chunks(4)` would not tell which is the last
+    while 4 < slots.len() - i {
+        let terms = terms_of(&slots[i..]);
         sum_piece(store, p, terms, 0 < i, 0, page);
         i += 4;
     }
-    let terms = terms_of(&slots[i..count]);
+    let terms = terms_of(&slots[i..]);
     last_to_page(store, p, terms, 0 < i, page)
 }
 
 // The same sum goes straight into the page of a slot that is none of the summed ones.
-pub fn sum_to_slot(store: &mut [u8], p: usize, slots: &[usize], count: usize, to: usize) -> usize
-    requires le_count { (1 ≤ count) × (count ≤ length slots.now) × (count ≤ 4096) × (to * p + p ≤ length store.old) }
-    requires by_index { (j : ℕ) → j < count → get_or slots.now j 0 * p + p ≤ length store.old }
-    requires by_index_2 { (j : ℕ) → j < count → get_or slots.now j 0 ≢ to }
+pub fn sum_to_slot(store: &mut [u8], p: usize, slots: &[usize], to: usize) -> usize
+    requires le_slots { (1 ≤ length slots.now) × (length slots.now ≤ 4096) × (to * p + p ≤ length store.old) }
+    requires by_index { (j : ℕ) → j < length slots.now → get_or slots.now j 0 * p + p ≤ length store.old }
+    requires by_index_2 { (j : ℕ) → j < length slots.now → get_or slots.now j 0 ≢ to }
     ensures { (store.new
-        ≡ set_part p to store.old (sum (λ t. part p t store.old) (take count slots.now)))
-        × (result ≡ written_bytes (sum (λ t. part p t store.old) (take count slots.now))) × (result ≤ p) }
+        ≡ set_part p to store.old (sum (λ t. part p t store.old) slots.now))
+        × (result ≡ written_bytes (sum (λ t. part p t store.old) slots.now)) × (result ≤ p) }
 {
     let mut i = 0;
-    while 4 < count - i {
-        let terms = terms_of(&slots[i..count]);
+    // the last pass apart, as in `sum_to_page`
+    while 4 < slots.len() - i {
+        let terms = terms_of(&slots[i..]);
         sum_within(store, p, terms, 0 < i, to, 0);
         i += 4;
     }
-    let terms = terms_of(&slots[i..count]);
+    let terms = terms_of(&slots[i..]);
     last_to_slot(store, p, terms, 0 < i, to)
 }

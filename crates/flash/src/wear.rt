@@ -6,9 +6,6 @@ ghost use Rattle.flash.specs.inner.Unpaired.{unpaired};
 // The spare and the most data blocks.
 pub const BLOCKS: usize = 65;
 
-// The largest number of 32 bits.
-const END: u32 = 4294967295;
-
 // A counter for each of blocks 0 to 64; the count of the most worn block and the lowest such block. The two may be wrong: `refresh` makes them afresh.
 #[derive(Clone, Copy)]
 pub struct Wear {
@@ -17,22 +14,11 @@ pub struct Wear {
     pub block: u8,
 }
 
-// No block was erased.
-pub fn unworn() -> Wear
-    ensures { result ≡ unworn }
-{
-    Wear {
-        counters: [0; BLOCKS],
-        highest: 0,
-        block: 0,
-    }
-}
-
 // One erase more; a counter that has come to its end stays there.
 fn raised(counter: u32) -> u32
     ensures { result ≡ raised counter }
 {
-    if counter < END { counter + 1 } else { counter }
+    counter.saturating_add(1)
 }
 
 // Whether the count of a block takes the place of the pair that is kept.
@@ -42,44 +28,13 @@ fn replaces(highest: u32, kept: u8, count: u32, block: u8) -> bool
     (highest < count) | ((count == highest) & (block < kept))
 }
 
-// The pair of a record.
-#[derive(Clone, Copy)]
-pub struct Most {
-    pub highest: u32,
-    pub block: u8,
-}
-
-// One erase of a block more: its counter is raised in place, and the pair is kept without a look at the others. A record by value would be copied for it.
-pub fn rise(counters: &mut [u32; BLOCKS], highest: u32, kept: u8, block: usize) -> Most
-    requires { block < 65 }
-    ensures { record { counters = counters.exit.now; highest = result.highest; block = result.block }
-        ≡ risen block (record { counters = counters.entry.now; highest = highest; block = kept }) }
-{
-    let count = raised(counters[block]);
-    counters[block] = count;
-    let named = block as u8;
-    if replaces(highest, kept, count, named) {
-        return Most {
-            highest: count,
-            block: named,
-        };
-    }
-    Most {
-        highest,
-        block: kept,
-    }
-}
-
 // The highest count. The block that has it is looked for by itself, as vectors take a loop for the count alone.
 fn highest_of(counters: &[u32; BLOCKS]) -> u32
     ensures { result ≡ (refreshed (unpaired counters.now)).highest }
 {
     let mut highest = 0u32;
-    for block in 0..BLOCKS {
-        let count = counters[block];
-        if highest < count {
-            highest = count;
-        }
+    for count in counters {
+        highest = highest.max(*count);
     }
     highest
 }
@@ -89,20 +44,48 @@ fn lowest_with(counters: &[u32; BLOCKS], highest: u32) -> u8
     requires { highest ≡ (refreshed (unpaired counters.now)).highest }
     ensures { result ≡ (refreshed (unpaired counters.now)).block }
 {
-    let mut block = 0;
-    while counters[block] != highest {
-        block += 1;
+    for (block, count) in counters.iter().enumerate() {
+        if *count == highest {
+            return block as u8;
+        }
     }
-    block as u8
+    0
 }
 
-// The pair made afresh from all counters.
-pub fn refresh(mut wear: Wear) -> Wear
-    ensures { result ≡ refreshed wear }
-{
-    let counters = wear.counters;
-    let highest = highest_of(&counters);
-    wear.highest = highest;
-    wear.block = lowest_with(&counters, highest);
-    wear
+impl Wear {
+    // No block was erased.
+    pub fn unworn() -> Wear
+        ensures { result ≡ unworn }
+    {
+        Wear {
+            counters: [0; BLOCKS],
+            highest: 0,
+            block: 0,
+        }
+    }
+
+    // One erase of a block more: its counter is raised in place, and the pair is kept without a look at the others. A record by value would be copied for it.
+    pub fn rise(&mut self, block: usize)
+        requires { block < 65 }
+        ensures { self.new ≡ risen block self.old }
+    {
+        let count = raised(self.counters[block]);
+        self.counters[block] = count;
+        let named = block as u8;
+        if replaces(self.highest, self.block, count, named) {
+            self.highest = count;
+            self.block = named;
+        }
+    }
+
+    // The pair made afresh from all counters.
+    pub fn refresh(mut self) -> Wear
+        ensures { result ≡ refreshed self }
+    {
+        let counters = self.counters;
+        let highest = highest_of(&counters);
+        self.highest = highest;
+        self.block = lowest_with(&counters, highest);
+        self
+    }
 }

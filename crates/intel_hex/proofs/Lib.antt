@@ -13,6 +13,9 @@ pub mod PairLaws
 pub mod WeightLaws
 pub mod ChunkLaws
 pub mod LineEnds
+pub mod NextLaws
+pub mod KindLaws
+pub mod VerdictLaws
 pub mod LineLaws
 pub mod PutLaws
 pub mod HeadLaws

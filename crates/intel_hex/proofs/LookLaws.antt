@@ -2,6 +2,7 @@
 use Rattle.flash.proofs.Kit.{◌≡◌, sym, ap, ◌∙◌, Bool, true, false, cond, ◌&&◌, List, Option, none, ℕ, ◌+◌, ◌*◌, ◌≤◌, ◌<◌, arith, length, take, drop}
 use Rattle.flash.proofs.Kit.{replicate, length-replicate}
 use Rattle.flash.specs.Lists.{any}
+use Rattle.flash.specs.Refusals.{number_in}
 use Rattle.intel_hex.specs.Reading.{records_in, going, fault, is_given, number_of}
 use Rattle.intel_hex.specs.declared.survey.Found.{Found}
 use Rattle.intel_hex.specs.inner.Lines.{bytes_at, Good}
@@ -34,7 +35,7 @@ module _ {text : List ℕ} {found : Found} {w : ℕ} {words : List ℕ} {at uppe
   abbrev size : ℕ
   size = found.size
 
-  pub looking-stop : found.end ≤ at → number_of (judged_by (only_in w) size text) ≡ found.number
+  pub looking-stop : found.end ≤ at → number_of (judged_by (only_in w) size text) ≡ number_in found.verdict
   looking-stop h = ap number_of L.same ∙ (walk_end L.walk h).number_is (only_in w) L.given
 
   module _ (h : at < found.end) where

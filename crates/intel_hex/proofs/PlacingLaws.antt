@@ -1,6 +1,7 @@
 -- What the last pass keeps from one record to the next: the image has what was given.
 use Rattle.flash.proofs.Kit.{◌≡◌, refl, sym, ap, ◌∙◌, List, [], ◌∷◌, ◌++◌, map, Option, some, ℕ, zero, suc, ◌+◌, ◌≤◌, ◌<◌, arith, length, take, drop}
 use Rattle.flash.proofs.Kit.{replicate, length-replicate}
+use Rattle.flash.specs.Refusals.{number_in}
 use Rattle.intel_hex.specs.Reading.{records_in, going, byte_of, bytes_of}
 use Rattle.intel_hex.specs.declared.survey.Found.{Found}
 use Rattle.intel_hex.specs.inner.Lines.{bytes_at, put_from}
@@ -43,7 +44,7 @@ placing-start text found W = record {
 }
 
 module _ {text : List ℕ} {found : Found} {image : List ℕ} {at upper : ℕ} (L : Placing text found image at upper) where
-  pub placing-stop : found.end ≤ at → found.number ≡ 0 → image ≡ bytes_of (judged_by nowhere found.size text)
+  pub placing-stop : found.end ≤ at → number_in found.verdict ≡ 0 → image ≡ bytes_of (judged_by nowhere found.size text)
   placing-stop h z =
       let S = walk_end L.walk h in
       L.image-is ∙ sym (ap bytes_of L.same ∙ S.image-is z nowhere L.given)

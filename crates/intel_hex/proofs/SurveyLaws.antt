@@ -1,51 +1,78 @@
 -- What the survey keeps from one record to the next: while the records of a span rise, its judge meets no repeated byte.
-use Rattle.flash.proofs.Kit.{◌≡◌, refl, sym, ap, ◌∙◌, ◌⊎◌, inl, inr, ⊎_elim, Bool, false, cond, ◌&&◌, and-false, List, Option, none, ℕ, ◌+◌, ◌*◌, ◌≤◌}
-use Rattle.flash.proofs.Kit.{◌<◌, arith, ne_eqb, length, get_or, take, drop, set, replicate, length-replicate, get_or-set_same, get_or-set_other}
+use Rattle.flash.proofs.Kit.{◌≡◌, refl, sym, ap, ◌∙◌, ◌⊎◌, inl, inr, ⊎_elim, Bool, true, false, cond, ◌&&◌, and-false, List, Option, none, ℕ, ◌+◌, ◌*◌, ◌≤◌}
+use Rattle.flash.proofs.Kit.{◌<◌, arith, leb, leb-true, ne_eqb, length, get_or, take, drop, set, replicate, length-replicate, get_or-set_same, get_or-set_other}
+use Rattle.std.specs.Prelude.{IsSome}
+use Rattle.std.specs.declared.option.Option as std_option
+use Rattle.std.specs.declared.option.Option.TheVariants.{None, Some}
+use Rattle.std.proofs.lemmas.Option.{none-some}
 use Rattle.flash.specs.Lists.{any}
+use Rattle.flash.proofs.Bools.{never_both}
 use Rattle.flash.proofs.Comparisons.{lt-cases, eq-cases}
+use Rattle.flash.specs.Refusals.{number_in}
 use Rattle.intel_hex.specs.Reading.{records_in, going, fault, is_given, number_of}
 use Rattle.intel_hex.specs.declared.survey.Found.{Found}
 use Rattle.intel_hex.specs.inner.Lines.{bytes_at}
 use Rattle.intel_hex.specs.inner.Passes.{judge_all_in, state_of, put_at, judged_by, only_in, nowhere, half_at, offset_at, count_at, next_at}
-use Rattle.intel_hex.specs.inner.Passes.{Stops, Goes, Steps, Walk, arrived, walks, fell, NoteIs, SurveyIs}
+use Rattle.intel_hex.specs.inner.Passes.{Stops, Goes, Steps, Walk, arrived, walks, SurveyIs}
+use Rattle.intel_hex.specs.inner.Tops.{Tops, top_of, next_top, NoteIs}
 use Rattle.intel_hex.proofs.GivenLaws.{length-put, put-before, put-after, none-given-in}
 use Rattle.intel_hex.proofs.WalkLaws.{nothing, none-at, begins}
+
+-- a top behind a record that gives bytes
+pub record Risen (o : std_option.Option ℕ) (offset count top t : ℕ) : Type 0 where
+  pub is : o ≡ Some t
+  pub low : t ≤ offset
+  pub now : top ≡ offset + count
+
+some-is : (o : std_option.Option ℕ) → IsSome o → (t : ℕ) × (o ≡ Some t)
+some-is None s = absurd (never_both s refl)
+some-is (Some t) s = (t, refl)
+
+risen_by : (b : Bool) (offset count top t : ℕ) → leb t offset ≡ b → cond b (Some (offset + count)) None ≡ Some top → Risen (Some t) offset count top t
+risen_by true offset count top t e f = record { is = refl; low = leb-true t offset e; now = cc }
+risen_by false offset count top t e f = absurd (none-some top f)
+
+risen : (o : std_option.Option ℕ) (offset count top : ℕ) → next_top o offset count ≡ Some top → (t : ℕ) × Risen o offset count top t
+risen None offset count top f = absurd (none-some top f)
+risen (Some t) offset count top f = (t, risen_by (leb t offset) offset count top t refl f)
 
 pub record Rising (text : List ℕ) (size at upper : ℕ) (given : List (Option ℕ)) (w top : ℕ) : Type 0 where
   pub strict : judged_by (only_in w) size text ≡ judge_all_in (only_in w) size (going (state_of upper given)) (records_in (drop at text))
   pub free : (b : ℕ) → w * 65536 ≤ b → b < w * 65536 + 65536 → top ≤ b → is_given (get_or given b none) ≡ false
 
-pub record Surveying (text : List ℕ) (size at upper : ℕ) (tops : List ℕ) : Type 0 where
+pub record Surveying (text : List ℕ) (size at upper : ℕ) (tops : Tops) : Type 0 where
   pub given : List (Option ℕ)
   pub same : judged_by nowhere size text ≡ judge_all_in nowhere size (going (state_of upper given)) (records_in (drop at text))
-  pub rising : (w : ℕ) → w < 257 → get_or tops w 0 < fell → Rising text size at upper given w (get_or tops w 0)
+  pub rising : (w top : ℕ) → w < 257 → top_of tops w ≡ Some top → Rising text size at upper given w top
   pub size_is : length given ≡ size
   pub inside : at ≤ length text
   pub low : upper ≤ 65535
   -- a walk from here is the rest of one from the start
   pub whole : (found : Found) → found.size ≡ size → Walk text found at upper → Walk text found 0 0
 
-pub surveying-start : (text : List ℕ) (size : ℕ) (tops : List ℕ) → Surveying text size 0 0 tops
+pub surveying-start : (text : List ℕ) (size : ℕ) (tops : Tops) → Surveying text size 0 0 tops
 surveying-start text size tops = record {
   given = replicate size none;
   same = begins nowhere size text;
-  rising = λ w h f. record { strict = begins (only_in w) size text; free = λ b l m t. none-at size b };
+  rising = λ w top h f. record { strict = begins (only_in w) size text; free = λ b l m t. none-at size b };
   size_is = length-replicate size nothing;
   inside = omega arith;
   low = omega arith;
   whole = λ found e W. W;
 }
 
-module _ {text : List ℕ} {size at upper : ℕ} {tops : List ℕ} (L : Surveying text size at upper tops) where
-  pub surveying-stop : (number : ℕ) → Stops text at upper size number → SurveyIs text size (record { size = size; number = number; end = at }) tops
-  surveying-stop number S = record {
-    size_is = refl;
-    walk = L.whole (record { size = size; number = number; end = at }) refl (arrived refl S);
+module _ {text : List ℕ} {size at upper : ℕ} {tops : Tops} (L : Surveying text size at upper tops) where
+  pub surveying-stop : (found : Found) → found.size ≡ size → found.end ≡ at → Stops text at upper size (number_in found.verdict) → SurveyIs text size found tops
+  surveying-stop found n e S = record {
+    size_is = n;
+    walk = L.whole found n (arrived (sym e) (rw n S));
     number_is = sym (ap number_of L.same ∙ S.number_is nowhere L.given);
-    rising = λ w h f. ap number_of (L.rising w h f).strict ∙ S.number_is (only_in w) L.given;
+    rising = λ w h s.
+        let t = some-is (top_of tops w) s in
+        ap number_of (L.rising w t.0 h t.1).strict ∙ S.number_is (only_in w) L.given;
   }
 
-  module _ (step : Steps text at upper size) {after : List ℕ} (K : NoteIs tops (half_at text at upper) (offset_at text at upper) (count_at text at) after) (few : size ≤ 16777216) where
+  module _ (step : Steps text at upper size) {after : Tops} (K : NoteIs tops (half_at text at upper) (offset_at text at upper) (count_at text at) after) (few : size ≤ 16777216) where
     abbrev half : ℕ
     half = half_at text at upper
 
@@ -83,55 +110,51 @@ module _ {text : List ℕ} {size at upper : ℕ} {tops : List ℕ} (L : Surveyin
         (λ (q : offset + count ≤ b). put-after L.given offset bytes fits b (omega arith))
         o
 
-    rising_none : (w : ℕ) → w < 257 → count ≡ 0 → get_or after w 0 < fell → Rising text size next half (put_at L.given offset bytes) w (get_or after w 0)
+    rising_none : (w top : ℕ) → w < 257 → count ≡ 0 → top_of after w ≡ Some top → Rising text size next half (put_at L.given offset bytes) w top
     unfolding any
-    rising_none w h z f =
-        let e : get_or after w 0 ≡ get_or tops w 0 = ap (λ (l : List ℕ). get_or l w 0) (K.none z) in
-        let R = L.rising w h (omega arith) in
+    rising_none w top h z f =
+        let e : top_of after w ≡ top_of tops w = ap (λ (l : Tops). top_of l w) (K.none z) in
+        let R = L.rising w top h (sym e ∙ f) in
         record {
           strict = goes_on w (rw (z, and-false)) R.strict;
           free = λ b l m t.
-              ap is_given (kept b (⊎_elim (λ (q : b < offset). inl q) (λ (q : offset ≤ b). inr (omega arith)) (lt-cases b offset))) ∙ R.free b l m (omega arith);
+              ap is_given (kept b (⊎_elim (λ (q : b < offset). inl q) (λ (q : offset ≤ b). inr (omega arith)) (lt-cases b offset))) ∙ R.free b l m t;
         }
 
-    rising-other : (w : ℕ) → w < 257 → 1 ≤ count → (w ≡ half → ⊥) → get_or after w 0 < fell → Rising text size next half (put_at L.given offset bytes) w (get_or after w 0)
-    rising-other w h p ne f =
-        let e = K.other w ne in
-        let R = L.rising w h (omega arith) in
+    rising-other : (w top : ℕ) → w < 257 → 1 ≤ count → (w ≡ half → ⊥) → top_of after w ≡ Some top → Rising text size next half (put_at L.given offset bytes) w top
+    rising-other w top h p ne f =
+        let R = L.rising w top h (sym (K.other w ne) ∙ f) in
         let s = G.span-start p in
         let t = G.span-end p in
         record {
           strict = goes_on w (rw (ne_eqb half w (λ q. ne (sym q)))) R.strict;
           free = λ b l m u.
-              ap is_given (kept b (⊎_elim (λ (q : b < offset). inl q) (λ (q : offset ≤ b). inr (omega arith)) (lt-cases b offset))) ∙ R.free b l m (omega arith);
+              ap is_given (kept b (⊎_elim (λ (q : b < offset). inl q) (λ (q : offset ≤ b). inr (omega arith)) (lt-cases b offset))) ∙ R.free b l m u;
         }
 
-    rising-here : (w : ℕ) → w < 257 → 1 ≤ count → w ≡ half → get_or after w 0 < fell → Rising text size next half (put_at L.given offset bytes) w (get_or after w 0)
-    rising-here w h p e f =
+    rising-here : (w top : ℕ) → w < 257 → 1 ≤ count → w ≡ half → top_of after w ≡ Some top → Rising text size next half (put_at L.given offset bytes) w top
+    rising-here w top h p e f =
         let s = G.span-start p in
         let t = G.span-end p in
         let fit = G.fits in
-        ⊎_elim
-        (λ (q : get_or after half 0 ≡ fell). absurd (omega (arith, ap (λ (x : ℕ). get_or after x 0) e)))
-        (λ (q : (get_or tops half 0 ≤ offset) × (get_or after half 0 ≡ offset + count)).
-        let now : get_or after w 0 ≡ offset + count = ap (λ (x : ℕ). get_or after x 0) e ∙ q.1 in
-        let old : get_or tops w 0 ≤ offset = omega (arith, ap (λ (x : ℕ). get_or tops x 0) e, q.0) in
-        let R = L.rising w h (omega arith) in
+        let q = risen (top_of tops half) offset count top (sym (K.here p) ∙ ap (top_of after) (sym e) ∙ f) in
+        let R = L.rising w q.0 h (ap (top_of tops) e ∙ q.1.is) in
+        let low = q.1.low in
+        let now = q.1.now in
         let none-there = none-given-in L.given offset count (λ i l. R.free (offset + i) (omega arith) (omega arith) (omega arith)) in
         record {
           strict = goes_on w (rw (none-there, and-false)) R.strict;
           free = λ b l m u. ap is_given (kept b (inr (omega arith))) ∙ R.free b l m (omega arith);
-        })
-        (K.here p)
+        }
 
     pub surveying-on : Surveying text size next half after
     surveying-on = record {
       given = put_at L.given offset bytes;
       same = L.same ∙ G.is nowhere L.given;
-      rising = λ w h f.
+      rising = λ w top h f.
           ⊎_elim
-          (λ (z : count < 1). rising_none w h (omega arith) f)
-          (λ (p : 1 ≤ count). ⊎_elim (λ (e : w ≡ half). rising-here w h p e f) (λ (ne : w ≡ half → ⊥). rising-other w h p ne f) (eq-cases w half))
+          (λ (z : count < 1). rising_none w top h (omega arith) f)
+          (λ (p : 1 ≤ count). ⊎_elim (λ (e : w ≡ half). rising-here w top h p e f) (λ (ne : w ≡ half → ⊥). rising-other w top h p ne f) (eq-cases w half))
           (lt-cases count 1);
       size_is = length-put L.given offset bytes fits ∙ L.size_is;
       inside = G.ends;
@@ -140,19 +163,13 @@ module _ {text : List ℕ} {size at upper : ℕ} {tops : List ℕ} (L : Surveyin
     }
 
 -- ---- the top of a span is noted
-pub note-none : (tops : List ℕ) (half offset count : ℕ) → count ≡ 0 → NoteIs tops half offset count tops
+pub note-none : (tops : Tops) (half offset count : ℕ) → count ≡ 0 → NoteIs tops half offset count tops
 note-none tops half offset count z = record { none = λ _. refl; here = λ p. absurd (omega arith); other = λ w ne. refl }
 
-pub note-top : (tops : List ℕ) (half offset count top : ℕ) → 1 ≤ count → half < length tops → (top ≡ fell) ⊎ ((get_or tops half 0 ≤ offset) × (top ≡ offset + count))
+pub note-top : (tops : Tops) (half offset count : ℕ) (top : std_option.Option ℕ) → 1 ≤ count → half < length tops → top ≡ next_top (top_of tops half) offset count
     → NoteIs tops half offset count (set tops half top)
-note-top tops half offset count top p h q =
-    let e = get_or-set_same tops half top 0 h in
-    record {
-      none = λ z. absurd (omega arith);
-      here = λ _.
-          ⊎_elim
-          (λ (f : top ≡ fell). inl (e ∙ f))
-          (λ (g : (get_or tops half 0 ≤ offset) × (top ≡ offset + count)). inr (g.0, e ∙ g.1))
-          q;
-      other = λ w ne. get_or-set_other tops half w top 0 ne;
-    }
+note-top tops half offset count top p h q = record {
+  none = λ z. absurd (omega arith);
+  here = λ _. get_or-set_same tops half top None h ∙ q;
+  other = λ w ne. get_or-set_other tops half w top None ne;
+}

@@ -9,7 +9,7 @@ use Rattle.intel_hex.specs.Records.{Record}
 use Rattle.intel_hex.specs.Reading.{unended, lines_from, parse_line, records_in, State, Outcome, going, fault, is_given, is_outside, is_repeated}
 use Rattle.intel_hex.specs.Reading.{give, with_upper, at_end, number_of, bytes_of}
 use Rattle.intel_hex.specs.inner.Lines.{size_at, address_at, kind_at, byte_from, word_from, bytes_from, bytes_at, Good}
-use Rattle.intel_hex.specs.inner.Passes.{judge_data_in, judge_record_in, judge_in, judge_all_in, state_of, put_at, offset_at, count_at, next_at, Stops, Goes, Steps, JudgeIs}
+use Rattle.intel_hex.specs.inner.Passes.{judge_data_in, judge_record_in, judge_in, judge_all_in, state_of, put_at, offset_at, count_at, next_at, Stops, Goes, Steps}
 use Rattle.intel_hex.proofs.WeightLaws.{digits-part, byte_small}
 use Rattle.intel_hex.proofs.LineEnds.{unended-some}
 use Rattle.intel_hex.proofs.LineLaws.{GoodLine, good-line}
@@ -216,10 +216,4 @@ module _ (text : List ℕ) (at upper size : ℕ) where
         let D = digits-part text (at + 3) 4 (address-digits text at G) in
         omega (arith, offset-data text at upper k, byte_small text (at + 3) (D (at + 3) 2 (omega arith) (omega arith)), byte_small text (at + 3 + 2) (D (at + 3 + 2) 2 (omega arith) (omega arith))))
         (eq-cases kind 4)
-
-  -- ---- the answer of a turn
-  pub judged-stop : (number : ℕ) → number < 255 → Stops text at upper size number → JudgeIs text at upper size number
-  judged-stop number h S = record { stops = λ _. S; steps = λ e. absurd (omega arith) }
-
-  pub judged-step : Steps text at upper size → JudgeIs text at upper size 255
-  judged-step S = record { stops = λ ne. absurd (ne refl); steps = λ _. S }
+    -- ---- the answer of a turn

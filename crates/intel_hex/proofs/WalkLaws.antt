@@ -1,5 +1,6 @@
 -- A pass begins with nothing given, and walks over records that were judged until the one that decides.
 use Rattle.flash.proofs.Kit.{◌≡◌, refl, Bool, false, List, Option, none, ℕ, zero, suc, ◌≤◌, ◌<◌, arith, get_or, drop, replicate}
+use Rattle.flash.specs.Refusals.{number_in}
 use Rattle.intel_hex.specs.Reading.{records_in, going, is_given, start}
 use Rattle.intel_hex.specs.declared.survey.Found.{Found}
 use Rattle.intel_hex.specs.inner.Passes.{judge_all_in, state_of, judged_by, half_at, next_at, Stops, Steps, Walk, arrived, walks}
@@ -31,6 +32,6 @@ module _ {text : List ℕ} {found : Found} where
   walk-on (arrived e S) h = absurd (omega arith)
   walk-on (walks s W) h = W
 
-  pub walk_end : {at upper : ℕ} → Walk text found at upper → found.end ≤ at → Stops text at upper found.size found.number
+  pub walk_end : {at upper : ℕ} → Walk text found at upper → found.end ≤ at → Stops text at upper found.size (number_in found.verdict)
   walk_end (arrived e S) h = S
   walk_end (walks s W) h = absurd (omega (arith, s.goes.inside, walk-le W))

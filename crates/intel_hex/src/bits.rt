@@ -6,16 +6,16 @@ use crate::SPAN;
 
 pub const WORDS: usize = 1024;
 
-fn is_set(words: &[u64], b: usize) -> bool
-    requires { (length words.now ≡ 1024) × (b < 65536) }
+fn is_set(words: &[u64; WORDS], b: usize) -> bool
+    requires { b < 65536 }
     ensures { result ≡ is_set words.now b }
 {
     let k = (b % 64) as u32;
     (words[b / 64] >> k) % 2 == 1
 }
 
-fn set(words: &mut [u64], b: usize)
-    requires { (length words.old ≡ 1024) × (b < 65536) }
+fn set(words: &mut [u64; WORDS], b: usize)
+    requires { b < 65536 }
     ensures { SetIs words.old b words.new }
 {
     let k = (b % 64) as u32;
@@ -25,25 +25,22 @@ fn set(words: &mut [u64], b: usize)
 }
 
 // Sets bits, until one is met that was set.
-fn mark(words: &mut [u64], from: usize, count: usize) -> bool
-    requires { (length words.old ≡ 1024) × (from + count ≤ 65536) }
+fn mark(words: &mut [u64; WORDS], from: usize, count: usize) -> bool
+    requires { from + count ≤ 65536 }
     ensures { MarkIs words.old from count words.new result }
 {
-    let end = from + count;
-    let mut i = from;
-    while i < end {
+    for i in from..from + count {
         if is_set(words, i) {
             return true;
         }
         set(words, i);
-        i += 1;
     }
     false
 }
 
 // Whether bytes at an offset, in the span with upper half w, were given before.
-pub fn look(words: &mut [u64], w: usize, half: usize, offset: usize, count: usize) -> bool
-    requires words_len { (length words.old ≡ 1024) × (half ≤ 65535) }
+pub fn look(words: &mut [u64; WORDS], w: usize, half: usize, offset: usize, count: usize) -> bool
+    requires half_low { half ≤ 65535 }
     requires fact { ((1 ≤ count → half * 65536 ≤ offset)) × ((1 ≤ count → offset + count ≤ half * 65536 + 65536)) }
     ensures { LookIs words.old w half offset count words.new result }
 {

@@ -2,35 +2,43 @@
 // is computed from sizes out of range.
 ghost use Rattle.std.specs.Prelude.{◌≡◌, ◌++◌, ◌-◌, ◌≤◌, length, drop, replicate};
 ghost use Rattle.flash.specs.Chip.{erased};
+ghost use Rattle.flash.specs.Refusals.{number_in};
 ghost use Rattle.intel_hex.specs.Answers.{hex_write_answer, hex_read_answer};
 
 use crate::read;
 use crate::write::{length_of, put_image};
 use flash::ERASED;
-use flash::bytes::fill;
-use flash::sizes::{Sizes, in_range, slot_count, store_length};
+use flash::refusal::Refusal;
+use flash::sizes::Sizes;
 use places::place_marks::is_elsewhere;
 
-pub fn write(n: usize, m: usize, p: usize, store: &[u8], marks: &[u8], text: &mut [u8]) -> u32
-    ensures { record { number = result; text = text.new }
+pub fn write(
+    n: usize,
+    m: usize,
+    p: usize,
+    store: &[u8],
+    marks: &[u8],
+    text: &mut [u8],
+) -> Result<(), Refusal>
+    ensures { record { number = number_in result; text = text.new }
         ≡ hex_write_answer n m p (record { store = store.entry.now; marks = marks.now }) text.old }
 {
     let sizes = Sizes { n, m, p, s: 0 };
-    if !in_range(sizes) {
-        return 1;
+    if !sizes.in_range() {
+        return Err(Refusal::BadSizes);
     }
     let first = m * p;
-    if (store.len() != store_length(sizes))
-        | (marks.len() != slot_count(sizes))
+    if (store.len() != sizes.store_length())
+        | (marks.len() != sizes.slot_count())
         | (text.len() != length_of(n * m * p))
     {
-        return 2;
+        return Err(Refusal::BadLength);
     }
     if is_elsewhere(sizes, store, marks, 0) {
-        return 5;
+        return Err(Refusal::BadPlace);
     }
     put_image(&store[first..], text);
-    0
+    Ok(())
 }
 
 // The spare is blank, and the data blocks are marked 0.
@@ -39,27 +47,31 @@ fn set_rest(store: &mut [u8], marks: &mut [u8], spare: usize, pages: usize)
     ensures { (store.new ≡ replicate spare erased ++ drop spare store.old)
         × (marks.new ≡ replicate pages erased ++ replicate (length marks.old - pages) 0) }
 {
-    fill(&mut store[..spare], ERASED);
-    fill(&mut marks[..pages], ERASED);
-    fill(&mut marks[pages..], 0);
+    store[..spare].fill(ERASED);
+    marks[..pages].fill(ERASED);
+    marks[pages..].fill(0);
 }
 
-pub fn read(n: usize, m: usize, p: usize, text: &[u8], store: &mut [u8], marks: &mut [u8]) -> u32
-    ensures { record { number = result; chip = record { store = store.exit.now; marks = marks.new } }
+pub fn read(
+    n: usize,
+    m: usize,
+    p: usize,
+    text: &[u8],
+    store: &mut [u8],
+    marks: &mut [u8],
+) -> Result<(), Refusal>
+    ensures { record { number = number_in result; chip = record { store = store.exit.now; marks = marks.new } }
         ≡ hex_read_answer n m p text.now (record { store = store.entry.now; marks = marks.old }) }
 {
     let sizes = Sizes { n, m, p, s: 0 };
-    if !in_range(sizes) {
-        return 1;
+    if !sizes.in_range() {
+        return Err(Refusal::BadSizes);
     }
-    if (store.len() != store_length(sizes)) | (marks.len() != slot_count(sizes)) {
-        return 2;
+    if (store.len() != sizes.store_length()) | (marks.len() != sizes.slot_count()) {
+        return Err(Refusal::BadLength);
     }
     let spare = m * p;
-    let number = read::read(text, &mut store[spare..]);
-    if number != 0 {
-        return number;
-    }
+    read::read(text, &mut store[spare..])?;
     set_rest(store, marks, spare, m);
-    0
+    Ok(())
 }

@@ -47,10 +47,8 @@ pub fn others(text: &[u8], from: usize) -> u8
     ensures { result ≡ others_from text.now from 32 }
 {
     let mut count: u8 = 0;
-    let mut i = 0;
-    while i < CODES {
+    for i in 0..CODES {
         count += other(text[from + i]);
-        i += 1;
     }
     count
 }
@@ -61,11 +59,9 @@ pub fn total(text: &[u8], from: usize) -> u32
     ensures { result ≡ weight_from text.now from 16 }
 {
     let mut sum: u32 = 0;
-    let mut i = 0;
-    while i < CHUNK {
+    for i in 0..CHUNK {
         let at = from + 2 * i;
-        sum += byte_of(text[at], text[at + 1]) as u32;
-        i += 1;
+        sum += u32::from(byte_of(text[at], text[at + 1]));
     }
     sum
 }

@@ -5,11 +5,13 @@
 mod bits;
 pub mod call;
 mod codes;
+mod kind;
 mod line;
 mod print;
 mod put;
 mod read;
 mod survey;
+mod text;
 mod turn;
 mod weights;
 mod write;

@@ -1,32 +1,36 @@
 // A line is judged where it stands: its end is not looked for, since its first byte says where that must be.
-ghost use Rattle.std.specs.Prelude.{◌≡◌, ◌≤◌, ◌<◌, length};
+ghost use Rattle.std.specs.Prelude.{◌≡◌, ◌≤◌, ◌<◌, length, MatchOption};
 ghost use Rattle.intel_hex.specs.Reading.{is_type};
-ghost use Rattle.intel_hex.specs.inner.Lines.{Weights, next_from, Framed, GoodIs};
+ghost use Rattle.intel_hex.specs.inner.Lines.{next_from, Framed, GoodIs};
 
-use crate::weights::{NO_DIGIT, byte_at, record_weight, weight_from, word_at};
+use crate::text::Text;
+use crate::weights::NO_DIGIT;
 use crate::{LINE_FEED, SHORTEST};
-use flash::casts::word;
 
 const CARRIAGE_RETURN: u8 = 13;
 
 const COLON: u8 = 58;
 
-// The position behind a line whose digits end at a position, or 0 if it does not end there.
-pub fn next_from(text: &[u8], stop: usize) -> usize
+// The position behind a line whose digits end at a position, if it ends there.
+pub fn next_from(text: &[u8], stop: usize) -> Option<usize>
     requires { stop < length text.now }
-    ensures { result ≡ next_from text.now stop }
+    ensures { MatchOption result (next_from text.now stop ≡ 0) (λ next. (next ≡ next_from text.now stop) × (1 ≤ next)) }
 {
     if text[stop] == LINE_FEED {
-        return stop + 1;
+        return Some(stop + 1);
     }
     if text[stop] != CARRIAGE_RETURN {
-        return 0;
+        return None;
     }
     let last = stop + 1;
     if last == text.len() {
-        return 0;
+        return None;
     }
-    if text[last] == LINE_FEED { stop + 2 } else { 0 }
+    if text[last] == LINE_FEED {
+        Some(stop + 2)
+    } else {
+        None
+    }
 }
 
 fn is_type(kind: usize, address: usize, size: usize) -> bool
@@ -37,47 +41,45 @@ fn is_type(kind: usize, address: usize, size: usize) -> bool
         | ((kind == 4) & (address == 0) & (size == 2))
 }
 
-// Whether a record that is framed has nothing but digits, a sum that is a multiple of 256, and a known type.
-fn is_sound(weights: &[u32], text: &[u8], at: usize, size: usize) -> bool
-    requires { Weights weights.now × Framed text.now at size × (size ≤ 255) }
-    ensures { GoodIs text.now at result }
-{
-    let sum = record_weight(weights, text, at + 1, size);
-    if NO_DIGIT <= sum {
-        return false;
+impl Text<'_> {
+    // Whether a record that is framed has nothing but digits, a sum that is a multiple of 256, and a known type.
+    fn is_sound(&self, at: usize, size: usize) -> bool
+        requires { Framed self.now.codes.now at size × (size ≤ 255) }
+        ensures { GoodIs self.now.codes.now at result }
+    {
+        let sum = self.record_weight(at + 1, size);
+        if NO_DIGIT <= sum {
+            return false;
+        }
+        if sum % 256 != 0 {
+            return false;
+        }
+        is_type(self.byte_at(at + 7), self.word_at(at + 3), size)
     }
-    if sum % 256 != 0 {
-        return false;
-    }
-    is_type(
-        byte_at(weights, text, at + 7),
-        word_at(weights, text, at + 3),
-        size,
-    )
-}
 
-// Whether a record stands at a position that is not malformed.
-pub fn is_good(weights: &[u32], text: &[u8], at: usize) -> bool
-    requires { Weights weights.now × (at < length text.now) }
-    ensures { GoodIs text.now at result }
-{
-    if text.len() - at < SHORTEST {
-        return false;
+    // Whether a record stands at a position that is not malformed.
+    pub fn is_good(&self, at: usize) -> bool
+        requires { at < length self.now.codes.now }
+        ensures { GoodIs self.now.codes.now at result }
+    {
+        if self.codes.len() - at < SHORTEST {
+            return false;
+        }
+        if self.codes[at] != COLON {
+            return false;
+        }
+        let first = self.weight_from(at + 1, 1);
+        if 255 < first {
+            return false;
+        }
+        let size = first as usize;
+        let stop = at + 11 + 2 * size;
+        if self.codes.len() <= stop {
+            return false;
+        }
+        if next_from(self.codes, stop).is_none() {
+            return false;
+        }
+        self.is_sound(at, size)
     }
-    if text[at] != COLON {
-        return false;
-    }
-    let first = weight_from(weights, text, at + 1, 1);
-    if 255 < first {
-        return false;
-    }
-    let size = word(first);
-    let stop = at + 11 + 2 * size;
-    if text.len() <= stop {
-        return false;
-    }
-    if next_from(text, stop) == 0 {
-        return false;
-    }
-    is_sound(weights, text, at, size)
 }

@@ -3,10 +3,11 @@ ghost use Rattle.std.specs.Prelude.{◌≡◌, [], ◌∷◌, ◌++◌, ◌+◌,
 ghost use Rattle.flash.specs.Lists.{concat_map, total};
 ghost use Rattle.listing.specs.Digits.{capitals, digit_of, hex};
 ghost use Rattle.listing.specs.Lines.{Printed};
+ghost use Rattle.intel_hex.specs.inner.Kinds.{code_of};
 ghost use Rattle.intel_hex.specs.Records.{record_text};
 
 use crate::LINE_FEED;
-use flash::bytes::copy;
+use crate::kind::Kind;
 use listing::digits::put_text;
 
 // Room for what stands in front of a checksum, 4 fields and 16 bytes, in whole words of 8: the loop over it is compiled to vector
@@ -25,9 +26,9 @@ fn digit_of(d: u8) -> u8
 }
 
 // What stands in front of the checksum is put into an area; behind it the area stays.
-fn gather(area: &mut [u8], kind: u8, address: usize, bytes: &[u8])
-    requires { (length area.old ≡ 24) × (address < 65536) × (length bytes.now ≤ 16) }
-    ensures { area.new ≡ length bytes.now ∷ address / 256 ∷ address % 256 ∷ kind
+fn gather(area: &mut [u8; ROOM], kind: Kind, address: usize, bytes: &[u8])
+    requires { (address < 65536) × (length bytes.now ≤ 16) }
+    ensures { area.new ≡ length bytes.now ∷ address / 256 ∷ address % 256 ∷ code_of kind
         ∷ (bytes.now ++ drop (4 + length bytes.now) area.old) }
 {
     let size = bytes.len();
@@ -38,23 +39,19 @@ fn gather(area: &mut [u8], kind: u8, address: usize, bytes: &[u8])
     area[0] = count;
     area[1] = high;
     area[2] = low;
-    area[3] = kind;
-    copy(&mut area[4..end], bytes);
+    area[3] = kind.code();
+    area[4..end].copy_from_slice(bytes);
 }
 
 // The digits of all bytes of an area, and their sum.
-fn spell(area: &[u8], digits: &mut [u8]) -> u32
-    requires { (length area.now ≡ 24) × (length digits.old ≡ 48) }
+fn spell(area: &[u8; ROOM], digits: &mut [u8; DIGITS]) -> u32
     ensures { (digits.new ≡ concat_map (hex capitals) area.now) × (result ≡ total area.now) }
 {
     let mut sum: u32 = 0;
-    let mut i = 0;
-    while i < ROOM {
-        let byte = area[i];
-        digits[2 * i] = digit_of(byte / 16);
-        digits[2 * i + 1] = digit_of(byte % 16);
-        sum += byte as u32;
-        i += 1;
+    for (i, byte) in area.iter().enumerate() {
+        digits[2 * i] = digit_of(*byte / 16);
+        digits[2 * i + 1] = digit_of(*byte % 16);
+        sum += u32::from(*byte);
     }
     sum
 }
@@ -70,9 +67,9 @@ fn put_tail(text: &mut [u8], at: usize, sum: u32) -> usize
     put_text(text, at, &[high, low, LINE_FEED])
 }
 
-pub fn put_record(text: &mut [u8], at: usize, kind: u8, address: usize, bytes: &[u8]) -> usize
+pub fn put_record(text: &mut [u8], at: usize, kind: Kind, address: usize, bytes: &[u8]) -> usize
     requires { (address < 65536) × (length bytes.now ≤ 16) × (at + 2 * length bytes.now + 12 ≤ length text.old) }
-    ensures { Printed (record_text (record { kind = kind; address = address; bytes = bytes.now }))
+    ensures { Printed (record_text (record { kind = code_of kind; address = address; bytes = bytes.now }))
         text.old at text.new result }
 {
     let mut area = [0u8; ROOM];

@@ -1,26 +1,24 @@
 // The last pass over a text that has no fault: its bytes are put into the image.
 ghost use Rattle.std.specs.Prelude.{◌≡◌, ◌+◌, ◌*◌, ◌≤◌, ◌<◌, length};
+ghost use Rattle.flash.specs.Refusals.{number_in};
 ghost use Rattle.intel_hex.specs.Reading.{bytes_of};
-ghost use Rattle.intel_hex.specs.inner.Lines.{Weights, AreDigits, bytes_from, put_from};
+ghost use Rattle.intel_hex.specs.inner.Lines.{AreDigits, bytes_from, put_from};
 ghost use Rattle.intel_hex.specs.inner.Passes.{judged_by, nowhere, Walk};
 
 use crate::CHUNK;
 use crate::codes::byte_of;
 use crate::survey::Found;
-use crate::turn::{count_at, half_at, next_at, offset_at};
+use crate::text::Text;
 use flash::ERASED;
-use flash::bytes::{copy, fill};
 
 // The bytes that two digits each spell become those of a part.
 fn put_bytes(text: &[u8], from: usize, part: &mut [u8])
     requires { (from + 2 * length part.old ≤ length text.now) × AreDigits text.now from (2 * length part.old) }
     ensures { part.new ≡ bytes_from text.now from (length part.old) }
 {
-    let mut i = 0;
-    while i < part.len() {
+    for (i, byte) in part.iter_mut().enumerate() {
         let at = from + 2 * i;
-        part[i] = byte_of(text[at], text[at + 1]);
-        i += 1;
+        *byte = byte_of(text[at], text[at + 1]);
     }
 }
 
@@ -32,7 +30,7 @@ fn put_chunk(text: &[u8], from: usize, image: &mut [u8], offset: usize)
     let mut bytes = [0u8; CHUNK];
     put_bytes(text, from, &mut bytes);
     let end = offset + CHUNK;
-    copy(&mut image[offset..end], &bytes);
+    image[offset..end].copy_from_slice(&bytes);
 }
 
 fn put_rest(text: &[u8], from: usize, count: usize, image: &mut [u8], offset: usize)
@@ -48,30 +46,32 @@ fn put(text: &[u8], from: usize, count: usize, image: &mut [u8], offset: usize)
     requires { (from + 2 * count ≤ length text.now) × AreDigits text.now from (2 * count) × (offset + count ≤ length image.old) }
     ensures { image.new ≡ put_from text.now from count image.old offset }
 {
-    let mut i = 0;
-    while i + CHUNK <= count {
+    let whole = count / CHUNK;
+    for chunk in 0..whole {
+        let i = chunk * CHUNK;
         put_chunk(text, from + 2 * i, image, offset + i);
-        i += CHUNK;
     }
+    let i = whole * CHUNK;
     put_rest(text, from + 2 * i, count - i, image, offset + i);
 }
 
 // All bytes are put where they go; the others are as an erase leaves them. A head is read before its bytes are put: behind that the compiler
 // would have it read again, lest the bytes were put over it.
-pub fn put_all(weights: &[u32], text: &[u8], found: Found, image: &mut [u8])
-    requires weights { Weights weights.now × Walk text.now found 0 0 }
-    requires number_value { (found.number ≡ 0) × (length image.old ≡ found.size) }
-    ensures { image.new ≡ bytes_of (judged_by nowhere found.size text.now) }
+pub fn put_all(text: &Text, found: Found, image: &mut [u8])
+    requires walk { Walk text.now.codes.now found 0 0 }
+    requires number_value { (number_in found.verdict ≡ 0) × (length image.old ≡ found.size) }
+    ensures { image.new ≡ bytes_of (judged_by nowhere found.size text.now.codes.now) }
 {
-    fill(image, ERASED);
+    image.fill(ERASED);
     let mut at = 0;
     let mut upper = 0;
+    // A cursor, since where the next record stands is read in this one.
     while at < found.end {
-        let count = count_at(weights, text, at);
-        let offset = offset_at(weights, text, at, upper);
-        let half = half_at(weights, text, at, upper);
-        let next = next_at(weights, text, at);
-        put(text, at + 9, count, image, offset);
+        let count = text.count_at(at);
+        let offset = text.offset_at(at, upper);
+        let half = text.half_at(at, upper);
+        let next = text.next_at(at);
+        put(text.codes, at + 9, count, image, offset);
         upper = half;
         at = next;
     }

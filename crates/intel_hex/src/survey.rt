@@ -1,33 +1,36 @@
 // The first pass over a text: each record is judged, repeated bytes apart, and for each span of 64 KiB it is noted whether its records rise.
-ghost use Rattle.std.specs.Prelude.{◌≡◌, ◌⊎◌, ◌+◌, ◌≤◌, ◌<◌, length};
-ghost use Rattle.intel_hex.specs.inner.Lines.{Weights};
-ghost use Rattle.intel_hex.specs.inner.Passes.{fell, NoteIs, SurveyIs};
+ghost use Rattle.std.specs.Prelude.{◌≡◌, ◌+◌, ◌≤◌, ◌<◌, length};
+ghost use Rattle.intel_hex.specs.inner.Passes.{SurveyIs};
+ghost use Rattle.intel_hex.specs.inner.Tops.{next_top, NoteIs};
 
-use crate::turn::{GOES_ON, count_at, half_at, judge_at, next_at, offset_at};
+use crate::text::Text;
+use flash::refusal::Refusal;
 
 // The spans of the largest image, and one behind it.
 pub const SPANS: usize = 257;
 
-pub const FELL: usize = 4294967295;
-
-// For an image of `size` bytes: the number, repeated bytes apart, and the position of the record that decides it.
+// For an image of `size` bytes: whether the text is refused, repeated bytes apart, and the position of the record that decides it.
 #[derive(Clone, Copy)]
 pub struct Found {
     pub size: usize,
-    pub number: u32,
+    pub verdict: Result<(), Refusal>,
     pub end: usize,
 }
 
-// Where what is given in a span ends, after a record.
-fn next_top(top: usize, offset: usize, count: usize) -> usize
+// Where what is given in a span ends, after a record, if its records rise.
+fn next_top(top: Option<usize>, offset: usize, count: usize) -> Option<usize>
     requires { offset + count ≤ 16777216 }
-    ensures { (result ≡ fell) ⊎ ((top ≤ offset) × (result ≡ offset + count)) }
+    ensures { result ≡ next_top top offset count }
 {
-    if top <= offset { offset + count } else { FELL }
+    if top? <= offset {
+        Some(offset + count)
+    } else {
+        None
+    }
 }
 
-fn note(tops: &mut [usize], half: usize, offset: usize, count: usize)
-    requires tops_len { (length tops.old ≡ 257) × (offset + count ≤ 16777216) }
+fn note(tops: &mut [Option<usize>; SPANS], half: usize, offset: usize, count: usize)
+    requires fits { offset + count ≤ 16777216 }
     requires half_bound { 1 ≤ count → half < 257 }
     ensures { NoteIs tops.old half offset count tops.new }
 {
@@ -37,29 +40,24 @@ fn note(tops: &mut [usize], half: usize, offset: usize, count: usize)
     tops[half] = next_top(tops[half], offset, count);
 }
 
-pub fn survey(weights: &[u32], text: &[u8], size: usize, tops: &mut [usize]) -> Found
-    requires { Weights weights.now × (size ≤ 16777216) × (length tops.old ≡ 257) }
-    ensures { SurveyIs text.now size result tops.new }
+pub fn survey(text: &Text, size: usize, tops: &mut [Option<usize>; SPANS]) -> Found
+    requires { size ≤ 16777216 }
+    ensures { SurveyIs text.now.codes.now size result tops.new }
 {
     let mut at = 0;
     let mut upper = 0;
+    // A loop, since where the next record stands is known only once this one is judged.
     loop {
-        let number = judge_at(weights, text, at, upper, size);
-        if number != GOES_ON {
+        if let Some(verdict) = text.judge_at(at, upper, size) {
             return Found {
                 size,
-                number,
+                verdict,
                 end: at,
             };
         }
-        let half = half_at(weights, text, at, upper);
-        note(
-            tops,
-            half,
-            offset_at(weights, text, at, upper),
-            count_at(weights, text, at),
-        );
+        let half = text.half_at(at, upper);
+        note(tops, half, text.offset_at(at, upper), text.count_at(at));
         upper = half;
-        at = next_at(weights, text, at);
+        at = text.next_at(at);
     }
 }

@@ -3,6 +3,7 @@ ghost use Rattle.std.specs.Prelude.{◌≡◌, ◌+◌, ◌-◌, ◌*◌, ◌/�
 ghost use Rattle.listing.specs.Lines.{Printed};
 ghost use Rattle.intel_hex.specs.Writing.{upper_at, records_at, records_from, short_records, record_count, text_of, hex_text, hex_length};
 
+use crate::kind::Kind;
 use crate::print::put_record;
 use crate::{CHUNK, SHORTEST, SPAN};
 
@@ -36,7 +37,7 @@ fn put_upper(text: &mut [u8], at: usize, i: usize) -> usize
     }
     let high = (i / CHUNKS / 256) as u8;
     let low = (i / CHUNKS % 256) as u8;
-    put_record(text, at, 4, 0, &[high, low])
+    put_record(text, at, Kind::Upper, 0, &[high, low])
 }
 
 // Data record i, of 16 bytes, behind its record of type 04. The length is a constant, so that the loops within are unrolled.
@@ -47,7 +48,8 @@ fn put_16(image: &[u8], i: usize, text: &mut [u8], at: usize) -> usize
 {
     let start = i * CHUNK;
     let next = put_upper(text, at, i);
-    put_record(text, next, 0, start % SPAN, &image[start..start + CHUNK])
+    let bytes = &image[start..start + CHUNK];
+    put_record(text, next, Kind::Data, start % SPAN, bytes)
 }
 
 // The last data record, if it is shorter.
@@ -62,7 +64,7 @@ fn put_last(image: &[u8], text: &mut [u8], at: usize) -> usize
     let i = image.len() / CHUNK;
     let start = i * CHUNK;
     let next = put_upper(text, at, i);
-    put_record(text, next, 0, start % SPAN, &image[start..])
+    put_record(text, next, Kind::Data, start % SPAN, &image[start..])
 }
 
 fn put_data(image: &[u8], text: &mut [u8]) -> usize
@@ -70,12 +72,9 @@ fn put_data(image: &[u8], text: &mut [u8]) -> usize
     ensures { Printed (text_of (records_from image.now 0 (record_count (length image.now))))
         text.old 0 text.new result }
 {
-    let whole = image.len() / CHUNK;
     let mut next = 0;
-    let mut i = 0;
-    while i < whole {
+    for i in 0..image.len() / CHUNK {
         next = put_16(image, i, text, next);
-        i += 1;
     }
     put_last(image, text, next)
 }
@@ -85,5 +84,5 @@ pub fn put_image(image: &[u8], text: &mut [u8])
     ensures { text.new ≡ hex_text image.now }
 {
     let next = put_data(image, text);
-    put_record(text, next, 1, 0, b"");
+    put_record(text, next, Kind::End, 0, b"");
 }

@@ -7,3 +7,4 @@ pub mod TakeLaws
 pub mod InputLaws
 pub mod ReadBack
 pub mod Exampled
+pub mod Told

@@ -1,6 +1,6 @@
 -- Laws of texts printed one behind the other.
-use Rattle.flash.proofs.Kit.{◌≡◌, refl, sym, ap, ◌∙◌, subst, List, [], ◌∷◌, ◌++◌, append_assoc, append-nil, ℕ, suc, ◌+◌, ◌-◌, ◌*◌, ◌≤◌, ◌<◌, add-one}
-use Rattle.flash.proofs.Kit.{arith, length, get_or, take, drop, set, length-append, length-drop, take-append-drop, take-suc, take-suc-set, take_at}
+use Rattle.flash.proofs.Kit.{◌≡◌, refl, sym, ap, ◌∙◌, subst, List, [], ◌∷◌, ◌++◌, append_assoc, append-nil, ℕ, ◌+◌, ◌-◌, ◌*◌, ◌≤◌, ◌<◌, add-one}
+use Rattle.flash.proofs.Kit.{arith, length, get_or, take, drop, length-append, length-drop, take-append-drop, take-suc, take_at}
 use Rattle.flash.proofs.Kit.{drop_at, drop-drop, drop-append-add, length-take-le}
 use Rattle.flash.specs.Lists.{concat_map}
 use Rattle.listing.specs.Digits.{hex}
@@ -59,12 +59,6 @@ over-printed start area {text} {before} {after} {at} {next} e w p =
 
 pub first-printed : {text before after : List ℕ} {next : ℕ} → Printed text before 0 after next → Written text before after next
 first-printed {text} {before} p = over-printed [] before refl refl p
-
--- one byte more of a text that is printed byte by byte
-pub printed-byte : (text before out : List ℕ) (at i : ℕ) → i < length text → at + i < length out → take (at + i) out ≡ take at before ++ take i text → take (at + (i + 1)) (set out (at + i) (get_or text i 0)) ≡ take at before ++ take (i + 1) text
-printed-byte text before out at i h l e =
-    let n : at + (i + 1) ≡ suc (at + i) = omega arith in
-    rw (n, take-suc-set out (at + i) (get_or text i 0) l, e, add-one i, take-suc text i 0 h, append_assoc)
 
 concat_map-more : (f : ℕ → List ℕ) (xs : List ℕ) (x : ℕ) → concat_map f (xs ++ (x ∷ [])) ≡ concat_map f xs ++ f x
 unfolding concat_map

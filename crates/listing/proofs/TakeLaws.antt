@@ -1,14 +1,12 @@
 -- Numbers that are taken from the front of a text, one after the other.
-use Rattle.flash.proofs.Kit.{◌≡◌, refl, sym, ◌∙◌, Bool, true, false, ◌⊎◌, ⊎_elim, List, [], ◌∷◌, ◌++◌, append_assoc, append-nil, Option, none, some}
+use Rattle.flash.proofs.Kit.{◌≡◌, refl, sym, ◌∙◌, Bool, true, false, List, [], ◌∷◌, ◌++◌, append_assoc, append-nil, Option, none, some}
 use Rattle.flash.proofs.Kit.{ℕ, zero, suc, ◌+◌, ◌-◌, ◌≤◌, ◌<◌, add-one, arith, eqb, length, take, drop, set, take-append-drop, take-suc-set}
 use Rattle.flash.proofs.Kit.{length-take-le, ne_eqb}
-use denote.Enum.Declared.{tag_of}
 use Rattle.listing.specs.declared.number.Word.{Word}
 use Rattle.listing.specs.declared.number.Word.TheVariants.{Number, Malformed, End}
 use Rattle.listing.specs.Numbers.{numbers_in, Next, number, malformed, end, next, taken, numbers_met}
 use Rattle.listing.specs.Area.{over}
 use Rattle.listing.specs.ReaderAnswers.{told_as}
-use Rattle.listing.specs.contracts.number.Word.{the_type}
 
 -- the code found a number
 pub went_on : (text : List ℕ) (value at : ℕ) (words : List (Option ℕ)) → number value (numbers_in (drop at text)) ≡ next words → words ≡ some value ∷ numbers_in (drop at text)
@@ -17,13 +15,13 @@ went_on text value at [] e = absurd (let z : ◌≡◌ {A = ℕ} 0 1 = cc in ome
 went_on text value at (none ∷ words) e = absurd (let z : ◌≡◌ {A = ℕ} 0 1 = cc in omega arith)
 went_on text value at (some x ∷ words) e = cc
 
--- the code found none: its answer is another variant, by the variants' numbers
-pub stopped : (text : List ℕ) (r : Word) (words : List (Option ℕ)) (values : List ℕ) (count : ℕ) → (tag_of the_type r ≡ 1) ⊎ (tag_of the_type r ≡ 2) → told_as text r ≡ next words
+-- the code found none
+pub stopped : (text : List ℕ) (r : Word) (words : List (Option ℕ)) (values : List ℕ) (count : ℕ) → ((value at : ℕ) → r ≡ Number value at → ⊥) → told_as text r ≡ next words
     → (taken values (suc count) words ≡ none) × (numbers_met (suc count) words ≡ [])
 unfolding taken numbers_met next
 stopped text r [] values count t e = (refl, refl)
 stopped text r (none ∷ words) values count t e = (refl, refl)
-stopped text (Number value at) (some x ∷ words) values count t e = absurd (⊎_elim (λ (q : 0 ≡ 1). omega arith) (λ (q : 0 ≡ 2). omega arith) t)
+stopped text (Number value at) (some x ∷ words) values count t e = absurd (t value at refl)
 stopped text Malformed (some x ∷ words) values count t e = absurd (let z : ◌≡◌ {A = ℕ} 0 1 = cc in omega arith)
 stopped text End (some x ∷ words) values count t e = absurd (let z : ◌≡◌ {A = ℕ} 0 1 = cc in omega arith)
 

@@ -4,13 +4,15 @@ ghost use Rattle.flash.specs.Lists.{concat_map};
 ghost use Rattle.listing.specs.Digits.{small, digit_of, digits, places_up_to, decimal, hex};
 ghost use Rattle.listing.specs.Lines.{Printed};
 
-use flash::casts::wide;
-
 fn digit_of(d: usize) -> u8
     requires { d < 16 }
     ensures { result ≡ digit_of small d }
 {
-    if d < 10 { 48 + d as u8 } else { 87 + d as u8 }
+    if d < 10 {
+        b'0' + d as u8
+    } else {
+        b'a' - 10 + d as u8
+    }
 }
 
 // How many decimal digits n has.
@@ -19,6 +21,7 @@ fn count_places(n: usize) -> usize
 {
     let mut count = 1;
     let mut rest = n;
+    // What is left of n steers the loop: nothing is gone through.
     while 10 <= rest {
         rest = rest / 10;
         count += 1;
@@ -33,12 +36,10 @@ fn put_digits(out: &mut [u8], at: usize, base: usize, count: usize, n: usize) ->
     ensures { Printed (digits small base count n) out.old at out.new result }
 {
     let end = at + count;
-    let mut i = end;
     let mut rest = n;
-    while at < i {
-        i -= 1;
+    for i in (at..end).rev() {
         out[i] = digit_of(rest % base);
-        rest = rest / base;
+        rest /= base;
     }
     end
 }
@@ -55,10 +56,8 @@ pub fn put_hex(out: &mut [u8], at: usize, bytes: &[u8]) -> usize
     ensures { Printed (concat_map (hex small) bytes.now) out.old at out.new result }
 {
     let mut next = at;
-    let mut i = 0;
-    while i < bytes.len() {
-        next = put_digits(out, next, 16, 2, wide(bytes[i]));
-        i += 1;
+    for byte in bytes {
+        next = put_digits(out, next, 16, 2, usize::from(*byte));
     }
     next
 }
@@ -67,12 +66,9 @@ pub fn put_text(out: &mut [u8], at: usize, text: &[u8]) -> usize
     requires { at + length text.now ≤ length out.old }
     ensures { Printed text.now out.old at out.new result }
 {
-    let mut i = 0;
-    while i < text.len() {
-        out[at + i] = text[i];
-        i += 1;
-    }
-    at + i
+    let next = at + text.len();
+    out[at..next].copy_from_slice(text);
+    next
 }
 
 // A text, and a number behind it.

@@ -1,43 +1,53 @@
 // Numbers of the input as entries of 16 bits and as bytes.
-ghost use Rattle.std.specs.Prelude.{true, ◌≡◌, leb, length};
+ghost use Rattle.std.specs.Prelude.{true, ◌≡◌, ℕ, ◌≤◌, leb, length, map};
 ghost use Rattle.flash.specs.Lists.{all};
 
 // Whether none of the numbers is above `most`.
 pub fn fit(numbers: &[u32], most: u32) -> bool
     ensures { result ≡ all (λ number. leb number most) numbers.now }
 {
-    let mut i = 0;
-    while i < numbers.len() {
-        if most < numbers[i] {
-            return false;
-        }
-        i += 1;
-    }
-    true
+    numbers.iter().all(|number| *number <= most)
 }
 
-// Numbers that fit, as entries of a list.
-pub fn put_entries(numbers: &[u32], list: &mut [u16])
-    requires numbers_len { length numbers.now ≡ length list.old }
-    requires numbers_value { all (λ number. leb number 65535) numbers.now ≡ true }
-    ensures { list.new ≡ numbers.now }
-{
-    let mut i = 0;
-    while i < list.len() {
-        list[i] = numbers[i] as u16;
-        i += 1;
+// An entry of a list or a byte, which is cut from a number that fits.
+pub trait Cell: Copy {
+    // The largest number that fits, and what it becomes.
+    ghost most: { ℕ };
+
+    ghost of: { ℕ → Self };
+
+    fn cut(number: u32) -> Self
+        requires { number ≤ most }
+        ensures { result ≡ of number };
+}
+
+impl Cell for u16 {
+    ghost most = { 65535 };
+
+    ghost of = { λ number. number };
+
+    fn cut(number: u32) -> u16 {
+        number as u16
     }
 }
 
-// Numbers that fit, as bytes.
-pub fn put_bytes(numbers: &[u32], bytes: &mut [u8])
-    requires numbers_len { length numbers.now ≡ length bytes.old }
-    requires numbers_value { all (λ number. leb number 255) numbers.now ≡ true }
-    ensures { bytes.new ≡ numbers.now }
+impl Cell for u8 {
+    ghost most = { 255 };
+
+    ghost of = { λ number. number };
+
+    fn cut(number: u32) -> u8 {
+        number as u8
+    }
+}
+
+// Numbers that fit, as entries of a list or as bytes.
+pub fn put<T: Cell>(numbers: &[u32], cells: &mut [T])
+    requires numbers_len { length numbers.now ≡ length cells.old }
+    requires numbers_value { all (λ number. leb number T.most) numbers.now ≡ true }
+    ensures { cells.new ≡ map T.of numbers.now }
 {
-    let mut i = 0;
-    while i < bytes.len() {
-        bytes[i] = numbers[i] as u8;
-        i += 1;
+    for (i, number) in numbers.iter().enumerate() {
+        cells[i] = T::cut(*number);
     }
 }

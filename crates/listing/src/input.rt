@@ -8,41 +8,30 @@ ghost use Rattle.listing.specs.Input.{is_allowed, exactly, input_of, numbers_put
 
 use crate::fit::fit;
 use crate::number::{Word, number};
-use flash::casts::word;
-use flash::sizes::{Sizes, original_count};
+use flash::sizes::Sizes;
 
 pub const INPUT_LIMIT: usize = 4096;
 
 // The numbers due for the largest sizes: 64 entries and 64 × 64 bytes.
 pub const MOST_NUMBERS: usize = 4160;
 
-// Whether as many numbers as an area holds were found.
-#[derive(Clone, Copy)]
-pub enum Filled {
-    // They are in the area; the position behind the last.
-    Full { next: usize },
-    // There are too few, or a word is no number.
-    Short,
-}
-
-// The area is filled with the numbers from a position on.
-fn fill(text: &[u8], from: usize, area: &mut [u32]) -> Filled
+// The area is filled with the numbers from a position on. Answers the position behind the last, or None where there are too few
+// or a word is no number.
+fn fill(text: &[u8], from: usize, area: &mut [u32]) -> Option<usize>
     ensures result_after { filled_as text.now area.new result
         ≡ taken [] (length area.old) (numbers_in (drop from text.now)) }
     ensures area_after { area.new ≡ over (numbers_met (length area.old) (numbers_in (drop from text.now)))
         area.old }
 {
     let mut at = from;
-    let mut i = 0;
-    while i < area.len() {
+    for cell in area.iter_mut() {
         let Word::Number { value, next } = number(text, at) else {
-            return Filled::Short;
+            return None;
         };
-        area[i] = value;
+        *cell = value;
         at = next;
-        i += 1;
     }
-    Filled::Full { next: at }
+    Some(at)
 }
 
 // The program's own limits.
@@ -69,11 +58,7 @@ pub fn numbers_due(count: usize, p: usize) -> usize
 fn is_end(text: &[u8], at: usize) -> bool
     ensures { result ≡ eqb (length (numbers_in (drop at text.now))) 0 }
 {
-    match number(text, at) {
-        Word::End => true,
-        Word::Malformed => false,
-        Word::Number { value: _, next: _ } => false,
-    }
+    matches!(number(text, at), Word::End)
 }
 
 // Whether exactly the numbers due for `count` originals stand from a position on, bytes to 255. They are put into `numbers`.
@@ -85,48 +70,42 @@ fn read_numbers(text: &[u8], from: usize, count: usize, p: usize, numbers: &mut 
         numbers.old }
 {
     let due = numbers_due(count, p);
-    let Filled::Full { next } = fill(text, from, &mut numbers[..due]) else {
+    let Some(next) = fill(text, from, &mut numbers[..due]) else {
         return false;
     };
-    if fit(&numbers[count..due], 255) {
-        is_end(text, next)
-    } else {
-        false
-    }
+    fit(&numbers[count..due], 255) && is_end(text, next)
 }
 
-// What the input asks for.
+// Why an input asks for no move.
 #[derive(Clone, Copy)]
-pub enum InputRead {
+pub enum InputError {
     Unreadable,
     // `refused 1`
     Refused,
-    // The list's entries and then the bytes are in the lent area.
-    Move { sizes: Sizes },
 }
 
-// Reads the input: the four sizes, and the numbers due behind them.
-pub fn read(text: &[u8], numbers: &mut [u32; MOST_NUMBERS]) -> InputRead
+// Reads the input: the four sizes, and the numbers due behind them. The list's entries and then the bytes are put into the lent area.
+pub fn read(text: &[u8], numbers: &mut [u32; MOST_NUMBERS]) -> Result<Sizes, InputError>
     ensures result_after { asked_as numbers.new result ≡ input_of text.now }
     ensures numbers_after { numbers.new ≡ over (numbers_put text.now) numbers.old }
 {
     let mut four = [0u32; 4];
-    let Filled::Full { next } = fill(text, 0, &mut four) else {
-        return InputRead::Unreadable;
+    let Some(next) = fill(text, 0, &mut four) else {
+        return Err(InputError::Unreadable);
     };
     let sizes = Sizes {
-        n: word(four[0]),
-        m: word(four[1]),
-        p: word(four[2]),
-        s: word(four[3]),
+        n: four[0] as usize,
+        m: four[1] as usize,
+        p: four[2] as usize,
+        s: four[3] as usize,
     };
     if !is_allowed(sizes) {
-        return InputRead::Refused;
+        return Err(InputError::Refused);
     }
-    if read_numbers(text, next, original_count(sizes), sizes.p, numbers) {
-        InputRead::Move { sizes }
+    if read_numbers(text, next, sizes.original_count(), sizes.p, numbers) {
+        Ok(sizes)
     } else {
-        InputRead::Unreadable
+        Err(InputError::Unreadable)
     }
 }
 

@@ -19,20 +19,20 @@ pub enum Word {
 fn is_separator(byte: u8) -> bool
     ensures { result ≡ is_separator byte }
 {
-    (byte == 32) | (byte == 10)
+    (byte == b' ') | (byte == b'\n')
 }
 
 pub fn is_digit(byte: u8) -> bool
     ensures { result ≡ is_digit byte }
 {
-    (48 <= byte) & (byte <= 57)
+    byte.is_ascii_digit()
 }
 
 pub fn digit_value(byte: u8) -> u32
     requires { 48 ≤ byte }
     ensures { result ≡ byte - 48 }
 {
-    (byte - 48) as u32
+    u32::from(byte - b'0')
 }
 
 // The next position that holds no separator, or the end.
@@ -40,14 +40,12 @@ fn skip(text: &[u8], from: usize) -> usize
     ensures text_value { numbers_in (drop result text.now) ≡ numbers_in (drop from text.now) }
     ensures result_value { result < length text.now → is_separator (get_or text.now result 0) ≡ false }
 {
-    let mut at = from;
-    while at < text.len() {
+    for at in from..text.len() {
         if !is_separator(text[at]) {
             return at;
         }
-        at += 1;
     }
-    at
+    text.len()
 }
 
 // The number that starts at a position where no separator stands.
@@ -55,9 +53,8 @@ fn spelled(text: &[u8], start: usize) -> Word
     requires { start < length text.now → is_separator (get_or text.now start 0) ≡ false }
     ensures { told_as text.now result ≡ next (numbers_in (drop start text.now)) }
 {
-    let mut at = start;
     let mut value: u32 = 0;
-    while at < text.len() {
+    for at in start..text.len() {
         let byte = text[at];
         if is_separator(byte) {
             return Word::Number { value, next: at };
@@ -69,12 +66,14 @@ fn spelled(text: &[u8], start: usize) -> Word
             return Word::Malformed;
         }
         value = value * 10 + digit_value(byte);
-        at += 1;
     }
-    if at == start {
+    if text.len() <= start {
         Word::End
     } else {
-        Word::Number { value, next: at }
+        Word::Number {
+            value,
+            next: text.len(),
+        }
     }
 }
 

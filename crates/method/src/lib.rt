@@ -4,6 +4,7 @@
 
 ghost use Rattle.method.specs.Claims.{Claims};
 
+pub mod accepted;
 pub mod tally;
 
 // Nothing to run: the contract demands the proofs of the theorems, so that none can vanish unnoticed.

@@ -56,8 +56,6 @@ module _ (R : Request) (after drops places : List ℕ) (left : after ≡ complet
 
   pub drops-told : ListFits R → DropsIn (move_of R.sizes after R.sets) drops places
   drops-told F = record {
-    drops-length = T.pages-length;
-    places-length = T.places-length;
     places-tell = λ k h.
         ap (λ (l : List ℕ). is_marked places (get_or l k 0)) left ∙ T.places-tell k (rw F.list_length h) ∙ sym (T.pages-tell k);
   }

@@ -1,7 +1,11 @@
 -- The answer of read, case by case, and what the marks tell it: the moment.
-use Rattle.flash.proofs.Kit.{◌≡◌, ◌∙◌, ◌≢◌, Bool, true, false, cond, List, [], ℕ, ◌+◌, ◌≤◌, ◌<◌, arith, eqb, leb, length, ne_eqb}
+use Rattle.flash.proofs.Kit.{◌≡◌, ◌∙◌, Bool, true, false, cond, List, [], ℕ, ◌+◌, ◌≤◌, ◌<◌, arith, eqb, leb, length, ne_eqb}
 use Rattle.flash.proofs.Kit.{le-leb, lt-leb}
+use Rattle.std.specs.Prelude.{Ok, Err}
 use Rattle.flash.specs.Tables.{refusal}
+use Rattle.flash.specs.Refusals.{number_of}
+use Rattle.flash.specs.declared.refusal.Refusal.{Refusal}
+use Rattle.flash.specs.declared.refusal.Refusal.TheVariants.{BadMarks, BadOriginal}
 use Rattle.flash.proofs.Tables.{refusal-nil}
 use Rattle.flash.specs.declared.sizes.Sizes.{Sizes}
 use Rattle.flash.specs.Geometry.{original_count}
@@ -20,22 +24,21 @@ use Rattle.recovery.specs.inner.Gathered.{Shown}
 use Rattle.walk.specs.declared.moment.Moment.{Moment}
 use Rattle.walk.specs.inner.Moments.{moment_in, HasMoment}
 use Rattle.mover.specs.Answers.{read_as}
-use Rattle.mover.specs.declared.read.ReadResult.{ReadResult}
-use Rattle.mover.proofs.RefusalLaws.{row_first, by_move, past-move}
+use Rattle.mover.proofs.RefusalLaws.{not-0, row_first, by_move, past-move}
 
 module _ (R : Request) (chip : Chip) (work : List ℕ) (k : ℕ) where
-  -- what a refused read returns; it leaves the work page
-  abbrev Refused : ℕ → ReadResult → Type 0
-  Refused x r = r ≡ record { number = x; count = 0; bytes = 0 } → read_as r work ≡ read_answer R chip work k
+  -- what a refused read comes to; it leaves the work page
+  abbrev Refused : Refusal → Type 0
+  Refused r = read_as (Err r) work ≡ read_answer R chip work k
 
-  refused-answer : (x : ℕ) (r : ReadResult) → x ≢ 0 → refusal (read_rows R chip work k) ≡ x → Refused x r
+  refused-answer : (r : Refusal) → refusal (read_rows R chip work k) ≡ number_of r → Refused r
   unfolding read_answer
-  refused-answer x r ne e f = rw (f, e, ne_eqb x 0 ne)
+  refused-answer r e = rw (e, ne_eqb (number_of r) 0 (not-0 r))
 
   -- rows 1 to 4 decide
-  pub refused-by-move : (x : ℕ) (r : ReadResult) → x ≡ refusal (move_rows R chip work []) → x ≢ 0 → Refused x r
+  pub refused-by-move : (r : Refusal) → number_of r ≡ refusal (move_rows R chip work []) → Refused r
   unfolding read_rows
-  refused-by-move x r e ne = refused-answer x r ne (by_move R chip work _ x e ne)
+  refused-by-move r e = refused-answer r (by_move R chip work _ (number_of r) e (not-0 r))
 
   -- and else rows 6 and 7
   module _ (e : 0 ≡ refusal (move_rows R chip work [])) where
@@ -43,15 +46,15 @@ module _ (R : Request) (chip : Chip) (work : List ℕ) (k : ℕ) where
     unfolding read_rows
     by-rest = past-move R chip work _ e ∙ rw (row_first, row_first, refusal-nil)
 
-    pub refused-6 : (r : ReadResult) → fits_none (reading R.sizes chip.marks) ≡ true → Refused 6 r
-    refused-6 r f = refused-answer 6 r (λ z. absurd (omega arith)) (by-rest ∙ rw f)
+    pub refused-6 : fits_none (reading R.sizes chip.marks) ≡ true → Refused BadMarks
+    refused-6 f = refused-answer BadMarks (by-rest ∙ rw f)
 
-    pub refused-7 : (r : ReadResult) → fits_none (reading R.sizes chip.marks) ≡ false → original_count R.sizes ≤ k → Refused 7 r
-    refused-7 r f g = refused-answer 7 r (λ z. absurd (omega arith)) (by-rest ∙ rw (f, le-leb _ _ g))
+    pub refused-7 : fits_none (reading R.sizes chip.marks) ≡ false → original_count R.sizes ≤ k → Refused BadOriginal
+    refused-7 f g = refused-answer BadOriginal (by-rest ∙ rw (f, le-leb _ _ g))
 
     pub rebuilt : (count bytes : ℕ) (after : List ℕ) → fits_none (reading R.sizes chip.marks) ≡ false → k < original_count R.sizes
         → count ≡ length (stored_slots (read_terms (plan R) chip.marks k)) → after ≡ read_page (plan R) chip k → bytes ≡ written_bytes after
-        → read_as (record { number = 0; count = count; bytes = bytes }) after ≡ read_answer R chip work k
+        → read_as (Ok (record { count = count; bytes = bytes })) after ≡ read_answer R chip work k
     unfolding read_answer
     rebuilt count bytes after f g h i j = rw (by-rest, f, lt-leb _ _ g, terms-seen (plan R) chip.marks k, page-seen (plan R) chip k, h, j, i)
 

@@ -1,6 +1,11 @@
 -- Rows 1, 2, 3, 11 and 4 of the table, and what a move is given that they do not refuse.
 use Rattle.flash.proofs.Kit.{◌≡◌, refl, ◌∙◌, ◌≢◌, Bool, true, false, cond, ◌&&◌, not, List, [], ◌∷◌, ℕ, ◌*◌, arith, eqb, ne_eqb}
+use Rattle.std.specs.Prelude.{Err}
 use Rattle.flash.specs.Lists.{any}
+use Rattle.flash.specs.Refusals.{number_of}
+use Rattle.flash.specs.declared.refusal.Refusal.{Refusal}
+use Rattle.flash.specs.declared.refusal.Refusal.TheVariants.{BadPlace, BadWear}
+use Rattle.split.proofs.Refused.{some-number}
 use Rattle.flash.specs.Tables.{Row, first_fit, number_or0, refusal}
 use Rattle.flash.specs.Geometry.{in_range, original_count}
 use Rattle.flash.specs.Chip.{Chip}
@@ -12,11 +17,13 @@ use Rattle.split.specs.Pins.{moves_pinned}
 use Rattle.split.specs.Request.{Request}
 use Rattle.split.proofs.DropLaws.{undropped-completed, undropped-bad}
 use Rattle.method.specs.Move.{move, plan}
-use Rattle.method.specs.Step.{nothing_done}
 use Rattle.method.specs.Worn.{is_worn_out}
 use Rattle.method.specs.Answers.{bad_parts, is_elsewhere, move_rows, run_rows, RunAnswer, steps_taken, run_carried_out, run_refused, run_answer}
-use Rattle.mover.specs.Answers.{ran_as}
-use Rattle.mover.specs.declared.run.RunResult.{RunResult}
+use Rattle.mover.specs.Answers.{run_as}
+
+-- a refusal's number is not that of a call that is carried out
+pub not-0 : (r : Refusal) → number_of r ≢ 0
+not-0 r z = absurd (omega (arith, some-number r, z))
 
 pub row_first : (fits : Bool) (gives : ℕ) (rest : List (Row ℕ)) → refusal (record { fits = fits; gives = gives } ∷ rest) ≡ cond fits gives (refusal rest)
 unfolding refusal first_fit number_or0
@@ -125,27 +132,25 @@ module _ (R : Request) (chip : Chip) (work : List ℕ) (wear : Wear) (place limi
   by_place e = past-move R chip work _ e ∙ rw (row_first, row_first, refusal-nil)
 
   module _ (budget : ℕ) where
-    -- what a refused run returns; it leaves all as it was
-    abbrev Refused : ℕ → Type 0
-    Refused x =
-        (ran : RunResult) → ran ≡ record { number = x; place = 0; tally = nothing_done; finished = 0; wear = wear }
-        → ran_as ran chip.store chip.marks work ≡ run_answer R chip work wear place budget limit
+    -- what a refused run comes to; it leaves all as it was
+    abbrev Refused : Refusal → Type 0
+    Refused r = run_as (Err r) chip.store chip.marks work wear ≡ run_answer R chip work wear place budget limit
 
-    refused-answer : (x : ℕ) → x ≢ 0 → refusal (run_rows R chip work wear place limit) ≡ x → Refused x
+    refused-answer : (r : Refusal) → refusal (run_rows R chip work wear place limit) ≡ number_of r → Refused r
     unfolding run_answer run_refused
-    refused-answer x ne e ran r = rw (r, e, ne_eqb x 0 ne)
+    refused-answer r e = rw (e, ne_eqb (number_of r) 0 (not-0 r))
 
     -- these rows decide, and else rows 5 and 12
-    pub refused-by-move : (x : ℕ) → x ≡ refusal (move_rows R chip work []) → x ≢ 0 → Refused x
+    pub refused-by-move : (r : Refusal) → number_of r ≡ refusal (move_rows R chip work []) → Refused r
     unfolding run_rows
-    refused-by-move x e ne = refused-answer x ne (by_move R chip work _ x e ne)
+    refused-by-move r e = refused-answer r (by_move R chip work _ (number_of r) e (not-0 r))
 
-    pub refused-by-place : 0 ≡ refusal (move_rows R chip work []) → true ≡ is_elsewhere R.sizes chip place → Refused 5
-    refused-by-place e f = refused-answer 5 (λ z. absurd (omega arith)) (by_place e ∙ rw (← f))
+    pub refused-by-place : 0 ≡ refusal (move_rows R chip work []) → true ≡ is_elsewhere R.sizes chip place → Refused BadPlace
+    refused-by-place e f = refused-answer BadPlace (by_place e ∙ rw (← f))
 
     pub refused-by-wear : 0 ≡ refusal (move_rows R chip work []) → false ≡ is_elsewhere R.sizes chip place
-        → true ≡ is_worn_out R.sizes.n wear place limit → Refused 12
-    refused-by-wear e f g = refused-answer 12 (λ z. absurd (omega arith)) (by_place e ∙ rw (← f, ← g))
+        → true ≡ is_worn_out R.sizes.n wear place limit → Refused BadWear
+    refused-by-wear e f g = refused-answer BadWear (by_place e ∙ rw (← f, ← g))
 
     pub not-refused : 0 ≡ refusal (move_rows R chip work []) → false ≡ is_elsewhere R.sizes chip place → false ≡ is_worn_out R.sizes.n wear place limit
         → (answer : RunAnswer) → answer ≡ run_carried_out (plan R) chip work wear place (steps_taken R.sizes place budget)

@@ -1,14 +1,13 @@
 -- A run step by step: what one step more leaves and counts, and the work page in the end.
-use mir.Val.{bool_byte}
+use Rattle.std.specs.Prelude.{Ok}
 use Rattle.flash.proofs.Kit.{◌≡◌, refl, sym, ap, ◌∙◌, ◌≢◌, ⊎_elim, false, List, [], ℕ, zero, suc, ◌+◌, ◌-◌, ◌*◌, ◌≤◌, ◌<◌, min}
 use Rattle.flash.proofs.Kit.{add-one, arith, eqb}
 use Rattle.flash.specs.declared.sizes.Sizes.{Sizes}
-use Rattle.flash.specs.Geometry.{slot}
+use Rattle.flash.specs.Geometry.{Bounds, slot, slot_count, store_len}
 use Rattle.flash.specs.Chip.{Chip, page_at}
 use Rattle.flash.specs.declared.wear.Wear.{Wear}
 use Rattle.flash.specs.Wear.{risen}
-use Rattle.flash.proofs.Bools.{one-or-0}
-use Rattle.flash.proofs.Bounds.{block-in-marks, block-in-store, product_le}
+use Rattle.flash.proofs.Bounds.{block-in-marks, block-in-store, slot-in-marks, slot-in-store, product_le}
 use Rattle.flash.proofs.Chips.{erase-page-other}
 use Rattle.method.specs.declared.tally.Tally.{Tally}
 use Rattle.method.specs.Move.{Plan, AcceptedMove, Lent}
@@ -22,11 +21,13 @@ use Rattle.method.proofs.states.StepsLeadOn.{Stood, steps-stand}
 use Rattle.method.proofs.states.RunsCount.{page-kept, few_bytes}
 use Rattle.method.proofs.states.ReadsCounted.{few-reads}
 use Rattle.method.proofs.places.PagesHeld.{Change, by-write, by-erase, change}
-use Rattle.method.proofs.places.StepsAtPlaces.{next_block, page-cases, backward-low, after_write, after-erase, operation-writes}
+use Rattle.method.proofs.places.StepsAtPlaces.{next_block, page-cases, backward-low, after_write, after-erase, operation-writes, filling-in}
 use Rattle.method.proofs.wear.WornLaws.{worn-next}
 use Rattle.method.proofs.places.Tallies.{tally-next, few-tallied}
+use Rattle.places.specs.declared.place.Place.{Place}
+use Rattle.places.specs.inner.Place.{place_of}
 use Rattle.places.proofs.PlaceLaws.{last-small}
-use Rattle.mover.specs.Answers.{ran_as}
+use Rattle.mover.specs.Answers.{run_as}
 use Rattle.mover.specs.inner.Steps.{last_slot}
 
 pub none-taken : (X : Plan) (place : ℕ) (run : Running) → run.chip ≡ (steps X 0 place run).chip
@@ -86,18 +87,40 @@ module _ (Z : Sizes) (place i : ℕ) (on : place + i < last_place Z) where
       (λ (k : filled Z (place + i) ≡ Z.m). absurd (ne k))
       (page-cases Z (place + i))
 
+-- ---- the steps of a run are in the move, and the move has few
+pub run-fits : (Z : Sizes) → Bounds Z → (chip : Chip) (place budget last taken : ℕ) → is_elsewhere Z chip place ≡ false
+    → last ≡ last_place Z → taken ≡ min budget (last - place) → (place + taken ≤ last_place Z) × (last_place Z ≤ 8320)
+run-fits Z B chip place budget last taken here e f =
+    let inside = (stands_at Z chip place here).inside in
+    (omega (arith, e, f, inside), last-small Z B)
+
+-- ---- what the place of a last step tells, and where the slot of the last write lies
+module _ (Z : Sizes) (B : Bounds Z) (at : ℕ) (in-move : at ≤ last_place Z) where
+  pub last-told : (here : Place) → here ≡ place_of Z at → (here.block ≡ filling Z at) × (here.page ≡ filled Z at) × (here.block * Z.m ≤ 4096)
+  unfolding place_of
+  last-told here e =
+      let block : here.block ≡ filling Z at = ap (λ (p : Place). p.block) e in
+      let high = filling-in Z at in-move in
+      (block, ap (λ (p : Place). p.page) e, product_le here.block Z.m {c = 64} {d = 64} (omega (arith, B.n-high)) B.m-high)
+
+  pub last-inside : (last_slot Z at ≤ 4160) × (last_slot Z at * Z.p + Z.p ≤ store_len Z) × (store_len Z ≤ 17039360)
+  last-inside =
+      let inside : last_slot Z at < slot_count Z = slot-in-marks Z _ _ (filling-in Z at in-move) (omega (arith, B.m-low)) in
+      let slots = product_le (Z.n + 1) Z.m {c = 65} {d = 64} (omega (arith, B.n-high)) B.m-high in
+      (omega arith, slot-in-store Z (last_slot Z at) inside, product_le (slot_count Z) Z.p {c = 4160} {d = 4096} slots B.p-high)
+
 -- ---- the answer of a run that is carried out
 pub carried : (X : Plan) (store marks work : List ℕ) (wear : Wear) (place budget last taken : ℕ) (store' marks' work' : List ℕ) (tally : Tally) (wear' : Wear)
     → last ≡ last_place X.move.sizes → taken ≡ min budget (last - place)
     → ◌≡◌ {A = Chip} (record { store = store'; marks = marks' }) (steps X taken place (running_of store marks work)).chip
     → work' ≡ (steps X taken place (running_of store marks work)).work → tally ≡ tally_of X taken place (running_of store marks work)
     → wear' ≡ worn_by (operations_from X.move.sizes place taken) wear
-    → ran_as (record { number = 0; place = place + taken; tally = tally; finished = bool_byte (eqb (place + taken) last); wear = wear' }) store' marks' work'
+    → run_as (Ok (record { place = place + taken; tally = tally; finished = eqb (place + taken) last })) store' marks' work' wear'
     ≡ run_carried_out X (record { store = store; marks = marks }) work wear place (steps_taken X.move.sizes place budget)
 unfolding run_carried_out steps_taken
 carried X store marks work wear place budget last taken store' marks' work' tally wear' e f L W C D =
     let t : taken ≡ min budget (last_place X.move.sizes - place) = rw e at f in
-    rw (← t, ← e, C, ← L, ← W, D, one-or-0)
+    rw (← t, ← e, C, ← L, ← W, D)
 
 -- ---- a run that goes on: after so many steps it stands at the place that they lead to
 module _ (X : Plan) (A : AcceptedMove X.move) (run : Running) (place : ℕ) (L : Lent X.move.sizes run.chip run.work)

@@ -1,11 +1,14 @@
 -- What a step does: what a write sums, and the operation that a place has.
-use Rattle.flash.proofs.Kit.{[], ◌≡◌, refl, sym, ap, ◌∙◌, subst, ⊎_elim, Bool, true, false, cond, List, ℕ, ◌+◌, ◌-◌, ◌*◌, ◌%◌, ◌≤◌, ◌<◌, add-one, arith}
-use Rattle.flash.proofs.Kit.{length, get_or, set, take, drop}
+use Rattle.flash.proofs.Kit.{[], ◌≡◌, refl, sym, ap, ◌∙◌, subst, ⊎_elim, Bool, true, false, ◌||◌, cond, List, ℕ, ◌+◌, ◌-◌, ◌*◌, ◌%◌, ◌≤◌, ◌<◌, add-one, arith}
+use Rattle.flash.proofs.Kit.{length, get_or, set, take, drop, get_or-take, length-take-le}
 use Rattle.flash.specs.Lists.{part, set_part}
-use Rattle.flash.specs.Geometry.{slot, number_at, store_len}
+use Rattle.flash.specs.declared.sizes.Sizes.{Sizes}
+use Rattle.flash.specs.Geometry.{Bounds, slot, number_at, store_len}
+use Rattle.flash.proofs.Bounds.{slot-in-marks, product_le}
 use Rattle.flash.specs.PageSum.{written_bytes}
 use Rattle.flash.specs.Chip.{Chip, write_page}
 use Rattle.flash.specs.inner.Totals.{total_page}
+use Rattle.flash.proofs.Bools.{bool_cases}
 use Rattle.flash.proofs.Comparisons.{lt-cases}
 use Rattle.split.specs.Split.{set_of}
 use Rattle.split.specs.inner.Rows.{ByDestination}
@@ -26,7 +29,7 @@ use Rattle.places.specs.inner.Place.{is_backward, pass_of, place_of}
 use Rattle.walk.specs.inner.Rows.{row_length}
 use Rattle.walk.specs.declared.terms.Addends.{Addends}
 use Rattle.walk.specs.inner.Terms.{AddsUp}
-use Rattle.mover.specs.inner.Steps.{DropsIn}
+use Rattle.mover.specs.inner.Steps.{DropsIn, OtherTable, SetWritten}
 
 -- ---- a write
 module _ (X : Plan) (pass : Pass) (block page : ℕ) (store marks : List ℕ) (size : length store ≡ store_len X.move.sizes) (slots : List ℕ) (r : Addends)
@@ -69,6 +72,21 @@ set-sent M A other D b page low high page-ok =
     let set-lt = set-in M A k k-in in
     let there : get_or other number 0 ≡ get_or M.sets k 0 % 128 = rw (entry-sent M A number number_in) at (D k (rw A.list_length k-in)) in
     (omega (arith, A.ranges.m-high), omega (arith, A.ranges.m-high))
+
+-- the set of a page that is written, as a table and the page tell it
+module _ (M : Move) (A : AcceptedMove M) (t few : Bool) (other : List ℕ) (b page set : ℕ) (T : OtherTable M (t || few) other)
+    (low : t ≡ true → 1 ≤ b) (high : b ≤ M.sizes.n) (page-in : page < M.sizes.m)
+    (own : t ≡ false → set ≡ page) (there : t ≡ true → set ≡ get_or other (number_at M.sizes.m b page) 0) where
+  sent : t ≡ true → (set ≡ set_of M.sets (sent_to M (number_at M.sizes.m b page))) × (set < M.sizes.m)
+  sent back =
+      let s = set-sent M A other (T.sets-tell (rw back)) b page (low back) high page-in in
+      (there back ∙ s.0, rw (there back) s.1)
+
+  pub written-set : SetWritten M t b page set × (set < M.sizes.m)
+  written-set = (
+    (own, λ back. (sent back).0),
+    ⊎_elim (λ (back : t ≡ true). (sent back).1) (λ (forth : t ≡ false). rw (own forth) page-in) (bool_cases t),
+  )
 
 -- the bit of a place tells whether the page that goes there is dropped
 pub drop-sent : (M : Move) → AcceptedMove M → (drops places : List ℕ) → DropsIn M drops places → (b page : ℕ) → 1 ≤ b → b ≤ M.sizes.n → page < M.sizes.m
@@ -125,3 +143,14 @@ module _ (M : Move) (A : AcceptedMove M) (here : Place) (placed : here ≡ place
       (λ (h : at < last_place M.sizes). by-change h (change M.sizes at h) t b q e)
       (λ (h : last_place M.sizes ≤ at). absurd (clash (let f = operation-done M.sizes at h in (cc))))
       (lt-cases at (last_place M.sizes))
+
+-- what holds of the first slots of an array, as a list of their own
+pub of-front : (P : ℕ → Type 0) (slots : List ℕ) (count : ℕ) → count ≤ length slots → ((j : ℕ) → j < count → P (get_or slots j 0))
+    → (j : ℕ) → j < length (take count slots) → P (get_or (take count slots) j 0)
+of-front P slots count l f j h =
+    let k : j < count = omega (arith, length-take-le count slots l) in
+    subst P (sym (get_or-take count slots j 0 k)) (f j k)
+
+-- the slot of a write is one of the store, which has few
+pub slot-inside : (Z : Sizes) → Bounds Z → (b page : ℕ) → b ≤ Z.n → page < Z.m → (b * Z.m + page < (Z.n + 1) * Z.m) × ((Z.n + 1) * Z.m ≤ 4160)
+slot-inside Z R b page b-in page-in = (slot-in-marks Z b page b-in page-in, product_le (Z.n + 1) Z.m {c = 65} {d = 64} (omega (arith, R.n-high)) R.m-high)

@@ -2,6 +2,7 @@
 
 #![tactic(auto)]
 
+mod prepared;
 pub mod read;
 pub mod rebuild;
 mod rebuild_refusals;

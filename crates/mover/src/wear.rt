@@ -15,11 +15,10 @@ fn erases_of(n: usize, block: usize) -> u32
 fn passes(limit: u32, counter: u32, erases: u32) -> bool
     ensures { result ≡ ltb limit (counter + erases) }
 {
-    if limit < counter {
-        return true;
+    match limit.checked_sub(counter) {
+        Some(left) => left < erases,
+        None => true,
     }
-    let left = limit - counter;
-    left < erases
 }
 
 // Whether a whole move would take the counter of some block of the store past the limit.
@@ -27,12 +26,10 @@ fn wears_out(n: usize, wear: Wear, limit: u32) -> bool
     requires { n ≤ 64 }
     ensures { result ≡ wears_out n wear limit }
 {
-    let mut block = 0;
-    while block <= n {
-        if passes(limit, wear.counters[block], erases_of(n, block)) {
+    for (block, counter) in wear.counters[..=n].iter().enumerate() {
+        if passes(limit, *counter, erases_of(n, block)) {
             return true;
         }
-        block += 1;
     }
     false
 }

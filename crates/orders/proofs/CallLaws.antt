@@ -4,7 +4,7 @@ use Rattle.flash.specs.Tables.{refusal}
 use Rattle.orders.specs.Orders.{bad_order}
 use Rattle.orders.specs.Answer.{list_rows, LeastAnswer, least_answer}
 use Rattle.orders.specs.inner.Places.{Placed, Surveyed}
-use Rattle.orders.specs.declared.survey.Found.{Found}
+use Rattle.orders.specs.declared.survey.Least.{Least}
 use Rattle.orders.proofs.PlaceLaws.{least-found, page-found}
 use Rattle.orders.proofs.RowLaws.{passed, least-done}
 
@@ -24,7 +24,7 @@ pub quotient-lt : (m x most : ℕ) → 1 ≤ m → x < most * m → x / m < most
 quotient-lt m x most low h = (div-lt_iff_lt-mul low).1 h
 
 pub least-answered : (n m : ℕ) (list order : List ℕ) → refusal (list_rows n m 64 list order) ≡ 0 → bad_order n order ≡ false
-    → (places : List ℕ) → Placed order n places → (found : Found) → Surveyed m list places (length list) found
+    → (places : List ℕ) → Placed order n places → (found : Least) → Surveyed m list places (length list) found
     → ◌≡◌ {A = LeastAnswer} (record { number = 0; y = found.y; page = found.page }) (least_answer n m list order)
 least-answered n m list order rows good places P found S =
     let few = (passed n m 64 list order rows).list-size in

@@ -9,7 +9,7 @@ use Rattle.split.proofs.DropLaws.{is-kept}
 use Rattle.orders.specs.Orders.{block_at, least_y, forbidding_page}
 use Rattle.orders.specs.Claims.{Forbids}
 use Rattle.orders.specs.inner.Places.{Placed, back_to, Surveyed}
-use Rattle.orders.specs.declared.survey.Found.{Found}
+use Rattle.orders.specs.declared.survey.Least.{Least}
 use Rattle.orders.proofs.LeastLaws.{kept_entry, least-is, page-is, no-page}
 
 module _ (m : ℕ) (list places : List ℕ) where
@@ -57,7 +57,7 @@ module _ (m : ℕ) (list places : List ℕ) where
   pub none-surveyed : Surveyed m list places 0 (record { y = 0; page = 0 })
   none-surveyed = record { most = λ k h. absurd (omega arith); met = λ ne. absurd (ne refl); first = λ k h. absurd (omega arith); none = λ e. refl }
 
-  module _ (k : ℕ) (found : Found) (S : Surveyed m list places k found) where
+  module _ (k : ℕ) (found : Least) (S : Surveyed m list places k found) where
     pub surveyed-higher : (place : ℕ) → place ≡ back_to m list places k → found.y < place → Surveyed m list places (k + 1) (record { y = place; page = k })
     surveyed-higher place is h = record {
       most = below_more (λ j. back_to m list places j ≤ place) k (λ j l. omega (arith, S.most j l)) (omega arith);
@@ -102,7 +102,7 @@ module _ (m : ℕ) (list places : List ℕ) where
         let is = back-far k (is-kept list k F.kept) (omega (arith, F.far, F.above)) in
         omega (arith, F.above)
 
-    module _ (found : Found) (S : Surveyed m list places (n * m) found) where
+    module _ (found : Least) (S : Surveyed m list places (n * m) found) where
       pub least-found : least_y n m list order ≡ found.y
       least-found = least-is n m list order found.y high (λ k F. absurd (omega (arith, S.most k F.page, forbids-back found.y k F))) some
         where

@@ -61,15 +61,6 @@ module _ (order : List ℕ) (k i n : ℕ) (size : length order ≡ n) (high : i 
         (drop-set-lt (suc (i - 1)) body (i - 1) block (omega arith) ∙ ap (λ (x : ℕ). drop x body) up ∙ behind)
         ∙ next-order block (be ∙ ap₂ (λ (a b : ℕ). a % b + 1) re de)
 
-    pub put-length : (c block : ℕ) (part : List ℕ) → c ≡ n - i → length part ≡ length (take c (drop i order))
-        → length (set (take i order ++ (part ++ drop c (drop i order))) (i - 1) block) ≡ n
-    put-length c block part ce e =
-        let behind : List ℕ = drop c (drop i order) in
-        let front : length (take i order) ≡ i = length-take-le i order (omega arith) in
-        let all : length (take c (drop i order)) ≡ n - i = ap length (take_all c (drop i order) (omega (arith, tail-size))) ∙ tail-size in
-        let none : length behind ≡ 0 = ap length (drop_of_length-le (drop i order) {i = c} (omega (arith, tail-size))) in
-        omega (arith, length-set (take i order ++ (part ++ behind)) (i - 1) block, length-append (take i order) (part ++ behind), length-append part behind)
-
 -- before the last place is written
 pub none-put : (order : List ℕ) (k : ℕ) → (drop (length order) order ≡ order_by (length order - length order) k) × (k ≡ k / factorial (length order - length order))
 none-put order k =

@@ -1,6 +1,6 @@
 -- The table of who sends to whom gives the y of an order.
 use Rattle.flash.proofs.Kit.{◌≡◌, refl, sym, ap, ap₂, ◌∙◌, ◌≢◌, ⊎_elim, Bool, true, false, ◌||◌, or-true, List, ℕ, zero, suc, ◌+◌, ◌-◌, ◌*◌, ◌/◌, ◌≤◌, ◌<◌}
-use Rattle.flash.proofs.Kit.{div-lt_iff_lt-mul, arith, eqb, length, get_or, eqb-true, eq-eqb, below_more, replicate}
+use Rattle.flash.proofs.Kit.{div-lt_iff_lt-mul, arith, eqb, length, get_or, eqb-true, eq-eqb, below_more, replicate, take, drop, take_all, length-drop, get_or-drop}
 use Rattle.flash.specs.Lists.{down_from, first}
 use Rattle.flash.proofs.Bools.{bool_cases, never_both, or_cases}
 use Rattle.flash.proofs.Comparisons.{eq-cases}
@@ -15,6 +15,13 @@ use Rattle.orders.specs.Claims.{Forbids}
 use Rattle.orders.specs.inner.Places.{Surveyable}
 use Rattle.orders.specs.inner.Table.{cell, Sends, Short, is_sent_from, is_sent, y_by}
 use Rattle.orders.proofs.LeastLaws.{kept_entry, least-is}
+
+-- what stands from a position on, and a block of it
+pub length-tail : (order : List ℕ) (at : ℕ) → length (take (length order - at) (drop at order)) ≡ length order - at
+length-tail order at = rw (take_all (length order - at) (drop at order) (omega (arith, length-drop at order))) (length-drop at order)
+
+pub tail_at : (order : List ℕ) (at i : ℕ) → get_or (take (length order - at) (drop at order)) i 0 ≡ get_or order (at + i) 0
+tail_at order at i = rw (take_all (length order - at) (drop at order) (omega (arith, length-drop at order))) (get_or-drop at order i 0)
 
 -- ---- a search from n down to 1
 pub record Highest (test : ℕ → Bool) (n r : ℕ) : Type 0 where

@@ -5,7 +5,6 @@ ghost use Rattle.orders.specs.inner.Table.{y_by};
 ghost use Rattle.orders.specs.inner.Search.{FirstLeast};
 
 use crate::table::y_by;
-use flash::casts::narrow;
 use split::drops::MASKS;
 
 // The most blocks whose orders are all tried: there are 5,040.
@@ -16,10 +15,8 @@ fn order_count(n: usize) -> usize
     ensures { result ≡ factorial n }
 {
     let mut count = 1;
-    let mut i = 0;
-    while i < n {
-        i += 1;
-        count = i * count;
+    for i in 0..n {
+        count = (i + 1) * count;
     }
     count
 }
@@ -36,10 +33,8 @@ fn raise(part: &mut [u8], left: u8)
     requires { (i : ℕ) → i < length part.old → get_or part.old i 0 ≤ 7 }
     ensures { part.new ≡ map (leaving left) part.old }
 {
-    let mut i = 0;
-    while i < part.len() {
-        part[i] = raised(left, part[i]);
-        i += 1;
+    for block in part.iter_mut() {
+        *block = raised(left, *block);
     }
 }
 
@@ -49,13 +44,11 @@ pub fn put_order(order: &mut [u8], k: usize)
     ensures { order.new ≡ order_at (length order.old) k }
 {
     let mut rest = k;
-    let mut i = order.len();
-    while 0 < i {
-        let count = order.len() - i + 1;
-        let block = narrow(rest % count + 1);
+    for i in (0..order.len()).rev() {
+        let count = order.len() - i;
+        let block = (rest % count + 1) as u8;
         rest = rest / count;
-        raise(&mut order[i..], block);
-        i -= 1;
+        raise(&mut order[i + 1..], block);
         order[i] = block;
     }
 }
@@ -85,14 +78,12 @@ pub fn best_number(n: usize, table: &[u64; MASKS]) -> usize
     let count = order_count(n);
     let mut best = n;
     let mut at = 0;
-    let mut k = 0;
-    while k < count {
+    for k in 0..count {
         let y = y_of(n, k, table);
         if y < best {
             best = y;
             at = k;
         }
-        k += 1;
     }
     at
 }

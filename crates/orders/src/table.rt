@@ -3,8 +3,7 @@ ghost use Rattle.std.specs.Prelude.{◌≡◌, ◌≤◌, ◌<◌, length, repli
 ghost use Rattle.orders.specs.inner.Places.{Surveyable};
 ghost use Rattle.orders.specs.inner.Table.{Sends, Short, is_sent_from, y_by};
 
-use flash::casts::{entry, wide};
-use flash::quotient::{quotient, reciprocal};
+use flash::quotient::Divisor;
 use split::drops::{DROPPED, MASKS, is_marked, mark};
 
 // The bits of one target.
@@ -15,16 +14,13 @@ pub fn mark_sends(m: usize, list: &[u16], table: &mut [u64; MASKS])
     requires { Surveyable 7 m list.now × (table.old ≡ replicate 64 0) }
     ensures { Sends m list.now (length list.now) table.new }
 {
-    let part = reciprocal(m);
-    let mut k = 0;
-    while k < list.len() {
-        let lent = list[k];
-        if lent != DROPPED {
-            let target = quotient(entry(lent), m, part) + 1;
-            let source = quotient(k, m, part) + 1;
+    let divisor = Divisor::new(m);
+    for (k, lent) in list.iter().enumerate() {
+        if *lent != DROPPED {
+            let target = divisor.quotient(usize::from(*lent)) + 1;
+            let source = divisor.quotient(k) + 1;
             mark(table, target * BITS + source);
         }
-        k += 1;
     }
 }
 
@@ -33,12 +29,10 @@ fn is_sent_from(table: &[u64; MASKS], order: &[u8], from: usize, target: usize) 
     requires { (length table.now ≡ 64) × Short order.now × (from ≤ length order.now) × (target < 64) }
     ensures { result ≡ is_sent_from table.now order.now from target }
 {
-    let mut j = from;
-    while j < order.len() {
-        if is_marked(table, target * BITS + wide(order[j])) {
+    for block in &order[from..] {
+        if is_marked(table, target * BITS + usize::from(*block)) {
             return true;
         }
-        j += 1;
     }
     false
 }
@@ -48,12 +42,10 @@ pub fn y_by(table: &[u64; MASKS], order: &[u8]) -> usize
     requires { (length table.now ≡ 64) × Short order.now × (2 ≤ length order.now) }
     ensures { result ≡ y_by table.now order.now }
 {
-    let mut i = order.len() - 2;
-    while 0 < i {
-        if is_sent_from(table, order, i + 1, wide(order[i - 1])) {
+    for i in (1..order.len() - 1).rev() {
+        if is_sent_from(table, order, i + 1, usize::from(order[i - 1])) {
             return i;
         }
-        i -= 1;
     }
     0
 }

@@ -6,7 +6,10 @@ use Rattle.method.specs.Place.{Pass, forward, backward, Operation, write, erase,
 use Rattle.method.proofs.basics.Indexes.{clash}
 use Rattle.method.proofs.places.StepsAtPlaces.{next_block, backward-low, forward-high, operation-done}
 use Rattle.method.proofs.places.PagesHeld.{Change, by-write, by-erase, change}
+use Rattle.std.specs.Prelude.{Ok}
+use Rattle.places.specs.declared.place.Op.{Op}
 use Rattle.places.specs.declared.place.Op.TheVariants.{Write, Erase, Done}
+use Rattle.places.specs.Operation.{told_of, told_in, IsWithin}
 use Rattle.places.specs.inner.Place.{is_backward, op_of, pass_of}
 use Rattle.places.proofs.PlaceLaws.{pass-told}
 
@@ -45,6 +48,13 @@ module _ (Z : Sizes) where
   told-done (erase block) e = let z : ◌≡◌ {A = ℕ} 0 1 = cc in absurd (clash z)
   told-done done e = refl
 
+  -- and its numbers
+  pub told-step : (op : Operation) → told_in (Ok (op_of Z op)) ≡ told_of Z op
+  unfolding told_of
+  told-step (write pass block page) = refl
+  told-step (erase block) = refl
+  told-step done = refl
+
   -- the step at a place: its answer, and where the block and the page lie
   module _ (at : ℕ) where
     bounds-write : (pass : Pass) (b q : ℕ) → operation_at Z at ≡ write pass b q → (q < m) × (b ≤ n) × (pass ≡ backward → 1 ≤ b) × (pass ≡ forward → b + 1 ≤ n)
@@ -80,3 +90,8 @@ module _ (Z : Sizes) where
 
     pub is-erase : (b : ℕ) → Erase b ≡ op_of Z (operation_at Z at) → IsErase at b
     is-erase b e = let w = told-erase (operation_at Z at) b e in record { is = w; block_in = bounds-erase b w }
+
+  pub step-within : (op : Op) (at : ℕ) → op ≡ op_of Z (operation_at Z at) → IsWithin Z op
+  step-within (Write t b q mark) at e = let W = is-write at t b q mark e in (W.block_in, W.page-in)
+  step-within (Erase b) at e = (is-erase at b e).block_in
+  step-within Done at e = tt

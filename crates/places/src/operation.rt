@@ -1,56 +1,24 @@
 // The step at a place, told to a program that drives the chip itself.
-ghost use Rattle.std.specs.Prelude.{◌≡◌};
-ghost use Rattle.places.specs.Operation.{operation_answer};
+ghost use Rattle.std.specs.Prelude.{◌≡◌, IfOk};
+ghost use Rattle.method.specs.Place.{operation_at};
+ghost use Rattle.places.specs.inner.Place.{op_of};
+ghost use Rattle.places.specs.Operation.{operation_answer, told_in, IsWithin};
 
 use crate::place::{Op, Place, last_place};
-use flash::sizes::{Sizes, in_range};
-
-// The refusal number, or 0; the kind: 0 for a write, 1 for an erase, 2 where no step is left; the block, the page and its mark.
-// A number that does not apply is 0.
-#[derive(Clone, Copy)]
-pub struct OperationResult {
-    pub number: u32,
-    pub kind: u32,
-    pub block: u32,
-    pub page: u32,
-    pub mark: u32,
-}
+use flash::refusal::Refusal;
+use flash::sizes::Sizes;
 
 // The step at a place of a move with these sizes.
-pub fn operation(sizes: Sizes, place: usize) -> OperationResult
-    ensures { result ≡ operation_answer sizes place }
+pub fn operation(sizes: Sizes, place: usize) -> Result<Op, Refusal>
+    ensures answer { told_in result ≡ operation_answer sizes place }
+    ensures step { IfOk result (λ op. op ≡ op_of sizes (operation_at sizes place)) }
+    ensures within { IfOk result (λ op. IsWithin sizes op) }
 {
-    let mut told = OperationResult {
-        number: 0,
-        kind: 0,
-        block: 0,
-        page: 0,
-        mark: 0,
-    };
-    if !in_range(sizes) {
-        told.number = 1;
-        return told;
+    if !sizes.in_range() {
+        return Err(Refusal::BadSizes);
     }
     if last_place(sizes) < place {
-        told.number = 5;
-        return told;
+        return Err(Refusal::BadPlace);
     }
-    match Place::new(sizes, place).operation(sizes) {
-        Op::Write {
-            backward: _,
-            block,
-            page,
-            mark,
-        } => {
-            told.block = block as u32;
-            told.page = page as u32;
-            told.mark = mark as u32;
-        }
-        Op::Erase { block } => {
-            told.kind = 1;
-            told.block = block as u32;
-        }
-        Op::Done => told.kind = 2,
-    }
-    told
+    Ok(Place::new(sizes, place).operation(sizes))
 }

@@ -5,7 +5,7 @@ ghost use Rattle.flash.specs.Geometry.{Bounds};
 ghost use Rattle.method.specs.Place.{erase, operation_at, last_place};
 ghost use Rattle.places.specs.inner.Place.{place_of, op_of};
 
-use flash::sizes::{Sizes, letter_after};
+use flash::sizes::Sizes;
 
 // What is to be done at a place.
 #[derive(Clone, Copy)]
@@ -81,7 +81,7 @@ impl Place {
                 backward,
                 block,
                 page,
-                mark: letter_after(sizes, pass),
+                mark: sizes.letter_after(pass),
             };
         }
         Op::Erase {

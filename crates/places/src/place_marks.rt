@@ -10,7 +10,7 @@ ghost use Rattle.places.specs.inner.Place.{place_of};
 use crate::place::{Place, last_place};
 use flash::ERASED;
 use flash::bytes::is_filled;
-use flash::sizes::{Sizes, letter_after};
+use flash::sizes::Sizes;
 
 // Whether the bytes of a stretch are all this value.
 fn stretch_is(bytes: &[u8], start: usize, end: usize, value: u8) -> bool
@@ -34,10 +34,10 @@ fn marks_stand(sizes: Sizes, marks: &[u8], place: Place) -> bool
     let above = first + m;
     let written = if place.backward { 2 } else { 1 };
     let kept = if place.backward { 2 } else { 0 };
-    stretch_is(marks, 0, first, letter_after(sizes, 1))
-        & stretch_is(marks, first, blank, letter_after(sizes, written))
+    stretch_is(marks, 0, first, sizes.letter_after(1))
+        & stretch_is(marks, first, blank, sizes.letter_after(written))
         & stretch_is(marks, blank, above, ERASED)
-        & stretch_is(marks, above, marks.len(), letter_after(sizes, kept))
+        & stretch_is(marks, above, marks.len(), sizes.letter_after(kept))
 }
 
 // The three grounds of number 5. Where the marks stand, the slots marked 255 are one stretch too.

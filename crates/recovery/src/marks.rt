@@ -12,7 +12,7 @@ ghost use Rattle.recovery.specs.inner.Gathered.{moment_of, Shown};
 use flash::LETTERS;
 use flash::block::is_full;
 use flash::bytes::is_filled;
-use flash::sizes::{Sizes, letter_after};
+use flash::sizes::Sizes;
 
 // What the marks tell: the pass, and where in it. `answer_of` in specs/ lists the number and the values of each case.
 #[derive(Clone, Copy)]
@@ -57,6 +57,7 @@ fn begun_with(marks: &[u8], m: usize, blocks: usize, letter: u8) -> usize
 {
     let mut low = 0;
     let mut high = blocks;
+    // the range is halved by hand: the blocks lie in the marks as m bytes each, and `partition_point` goes over single items
     while low < high {
         let middle = (low + high) / 2;
         if marks[middle * m] == letter {
@@ -109,7 +110,7 @@ pub fn read_marks(sizes: Sizes, marks: &[u8]) -> MarksRead
     let blocks = n + 1;
     let mut unfinished: usize = 0;
     let mut torn = 0;
-    let mut upper = letter_after(sizes, 1);
+    let mut upper = sizes.letter_after(1);
     let mut change = blocks;
     'search: for block in passed_over(marks, m, blocks, upper)..blocks {
         let first = block * m;
@@ -137,5 +138,5 @@ pub fn read_marks(sizes: Sizes, marks: &[u8]) -> MarksRead
             }
         }
     }
-    moment(n, upper == letter_after(sizes, 2), unfinished, torn, change)
+    moment(n, upper == sizes.letter_after(2), unfinished, torn, change)
 }

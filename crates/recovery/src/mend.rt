@@ -2,19 +2,25 @@
 
 ghost use Rattle.std.specs.Prelude.{◌≡◌, ◌≤◌};
 ghost use Rattle.method.specs.Answers.{mend_answer};
-ghost use Rattle.recovery.specs.MarksRead.{place_in_turn, answered};
+ghost use Rattle.recovery.specs.MarksRead.{place_in_turn, recovered_as, answered};
 
 use crate::marks::{MarksRead, read_marks};
 use flash::block::erase_block;
-use flash::sizes::{Sizes, in_range, slot_count, store_length};
-use flash::wear::{Wear, rise};
+use flash::refusal::Refusal;
+use flash::sizes::Sizes;
+use flash::wear::Wear;
 
-// The number of the refusal, or 0; the place in the move, the erases, 0 or 1, and the counters with them.
+// The place in the move, and the erases, 0 or 1.
 #[derive(Clone, Copy)]
-pub struct MendResult {
-    pub number: u32,
+pub struct Mended {
     pub place: u32,
     pub erases: u32,
+}
+
+// What came of it, and the counters with that, after a refusal too.
+#[derive(Clone, Copy)]
+pub struct MendResult {
+    pub outcome: Result<Mended, Refusal>,
     pub wear: Wear,
 }
 
@@ -31,44 +37,43 @@ fn place_in_turn(sizes: Sizes, backward: bool, block: usize, written: usize) -> 
 
 // Reads the marks and erases the unfinished block, if there is one. The refusals are looked for in the table's order, so that
 // no length is computed from sizes out of range.
-pub fn mend(sizes: Sizes, store: &mut [u8], marks: &mut [u8], wear: Wear) -> MendResult
-    ensures { answered result store.exit.now marks.new
-        ≡ mend_answer sizes (record { store = store.entry.now; marks = marks.old }) wear }
+fn recover(
+    sizes: Sizes,
+    store: &mut [u8],
+    marks: &mut [u8],
+    wear: &mut Wear,
+) -> Result<Mended, Refusal>
+    ensures { recovered_as result store.exit.now marks.new wear.new
+        ≡ mend_answer sizes (record { store = store.entry.now; marks = marks.old }) wear.old }
 {
-    let mut mended = MendResult {
-        number: 0,
-        place: 0,
-        erases: 0,
-        wear,
-    };
-    if !in_range(sizes) {
-        mended.number = 1;
-        return mended;
+    if !sizes.in_range() {
+        return Err(Refusal::BadSizes);
     }
-    if (store.len() != store_length(sizes)) | (marks.len() != slot_count(sizes)) {
-        mended.number = 2;
-        return mended;
+    if (store.len() != sizes.store_length()) | (marks.len() != sizes.slot_count()) {
+        return Err(Refusal::BadLength);
     }
     match read_marks(sizes, marks) {
-        MarksRead::NoMoment => mended.number = 6,
+        MarksRead::NoMoment => Err(Refusal::BadMarks),
         MarksRead::Full { backward, change } => {
             // all pages of this block are written, and the erase of its turn is due
             let filled = if backward { change } else { change - 1 };
-            mended.place = place_in_turn(sizes, backward, filled, sizes.m);
+            let place = place_in_turn(sizes, backward, filled, sizes.m);
+            Ok(Mended { place, erases: 0 })
         }
         MarksRead::Torn { backward, block } => {
             erase_block(store, marks, sizes.m, sizes.p, block);
-            mended.place = place_in_turn(sizes, backward, block, 0);
-            mended.erases = 1;
-            let mut counters = wear.counters;
-            let most = rise(&mut counters, wear.highest, wear.block, block);
-            let worn = Wear {
-                counters,
-                highest: most.highest,
-                block: most.block,
-            };
-            mended.wear = worn;
+            let place = place_in_turn(sizes, backward, block, 0);
+            wear.rise(block);
+            Ok(Mended { place, erases: 1 })
         }
     }
-    mended
+}
+
+// The counters go in by value and come back with every answer.
+pub fn mend(sizes: Sizes, store: &mut [u8], marks: &mut [u8], mut wear: Wear) -> MendResult
+    ensures { answered result store.exit.now marks.new
+        ≡ mend_answer sizes (record { store = store.entry.now; marks = marks.old }) wear }
+{
+    let outcome = recover(sizes, store, marks, &mut wear);
+    MendResult { outcome, wear }
 }

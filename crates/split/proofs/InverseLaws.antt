@@ -1,10 +1,10 @@
 -- Rows turned into their inverses: one row, all rows, and that the bytes which the rule leaves are turned into its sets.
-use Rattle.flash.proofs.Kit.{◌≡◌, refl, sym, ap, ap₂, ◌∙◌, List, ℕ, ◌+◌, ◌*◌, ◌/◌, ◌%◌, ◌≤◌, ◌<◌, not-suc-le-zero, below_more, div-add-mod'}
-use Rattle.flash.proofs.Kit.{div-lt_iff_lt-mul, mod-lt, arith, length, get_or, set as put, get_or-set_same, get_or-set_other, take_all, ext_get_or, lt-ltb}
+use Rattle.flash.proofs.Kit.{◌≡◌, sym, ap, ap₂, ◌∙◌, List, ℕ, ◌+◌, ◌*◌, ◌/◌, ◌%◌, ◌≤◌, ◌<◌, below_more, div-add-mod'}
+use Rattle.flash.proofs.Kit.{div-lt_iff_lt-mul, mod-lt, arith, length, get_or, take_all, ext_get_or, lt-ltb}
 use Rattle.flash.specs.Lists.{part, set_part}
 use Rattle.split.specs.Split.{set_of}
 use Rattle.split.specs.Rule.{source, sets_given, split_by_rule}
-use Rattle.split.specs.inner.Inverse.{Permuted, Inverted, RowsPermuted, RowsInverted}
+use Rattle.split.specs.inner.Inverse.{Inverted, RowsPermuted, RowsInverted}
 use Rattle.split.specs.inner.Rows.{Accepted}
 use Rattle.split.specs.inner.Cells.{IsPage}
 use Rattle.split.specs.inner.Work.{Working}
@@ -15,20 +15,10 @@ use Rattle.split.proofs.Numbers.{source_row}
 abbrev pub Back : (row inverse : List ℕ) → (count : ℕ) → Type 0
 Back row inverse count = (j : ℕ) → j < count → get_or inverse (get_or row j 0) 0 ≡ j
 
-pub one-back : (row inverse : List ℕ) (at number : ℕ) → Permuted row → Back row inverse at → at < length row → number ≡ get_or row at 0
-    → number < length inverse → Back row (put inverse number at) (at + 1)
-one-back row inverse at number P B h is room = below_more (λ j. get_or (put inverse number at) (get_or row j 0) 0 ≡ j) at
-    (λ j l. get_or-set_other inverse number (get_or row j 0) at 0
-    (λ e. let s = P.distinct j at (omega arith) h (e ∙ is) in absurd (omega arith)) ∙ B j l)
-    (ap (λ (x : ℕ). get_or (put inverse number at) x 0) (sym is) ∙ get_or-set_same inverse number at 0 room)
-
 -- ---- row after row
 pub record Turned (m : ℕ) (start bytes : List ℕ) (i : ℕ) : Type 0 where
   pub done : (r : ℕ) → r < i → Inverted (part m r start) (part m r bytes)
   pub rest : (r : ℕ) → i ≤ r → part m r bytes ≡ part m r start
-
-pub none-turned : (m : ℕ) (start : List ℕ) → Turned m start start 0
-none-turned m start = record { done = λ r h. absurd (not-suc-le-zero h); rest = λ r h. refl }
 
 pub one-turned : (m : ℕ) (start bytes new : List ℕ) (i : ℕ) → Turned m start bytes i → i * m + m ≤ length bytes → length new ≡ m
     → Inverted (part m i bytes) new → Turned m start (set_part m i bytes new) (i + 1)

@@ -21,3 +21,4 @@ pub mod PathLaws
 pub mod Filling
 pub mod PathEnds
 pub mod InverseLaws
+pub mod Refused

@@ -1,25 +1,12 @@
 -- Laws of a table of masks that has a bit for each of 4,096 pages.
-use Rattle.flash.proofs.Kit.{◌≡◌, refl, ap, ◌∙◌, ◌≢◌, ⊎_elim, true, false, ◌||◌, or-false, or-true, not, List, ℕ, zero, suc, ◌+◌, ◌-◌, ◌/◌, ◌%◌, ◌^◌, ◌≤◌, ◌<◌}
-use Rattle.flash.proofs.Kit.{arith, div-one, div-le_self, div-eq_of_lt, zero-div, shr-shr, pow-suc, eqb, length, get_or, set, replicate, get_or-set_same, get_or-set_other, eq-eqb, ne_eqb}
-use Rattle.split.specs.inner.Mask.{bit_at, lowest_zero, WithBit, is_marked}
-use Rattle.flash.proofs.Comparisons.{eq-cases, lt-cases}
+use Rattle.flash.proofs.Kit.{◌≡◌, refl, ap, ◌∙◌, ⊎_elim, true, false, not, List, ℕ, zero, suc, ◌+◌, ◌-◌, ◌/◌, ◌%◌, ◌^◌, ◌≤◌, ◌<◌}
+use Rattle.flash.proofs.Kit.{arith, div-one, div-le_self, div-eq_of_lt, zero-div, shr-shr, pow-suc, eqb, get_or, replicate}
+use Rattle.split.specs.inner.Mask.{bit_at, lowest_zero, is_marked}
+use Rattle.flash.proofs.Comparisons.{lt-cases}
 use Rattle.split.proofs.MaskLaws.{zeros-at, no_bits, bit-lt, bit-suc, comp-half, comp-odd, ones_below, zero-there}
 
 pub unmarked : (count x : ℕ) → is_marked (replicate count 0) x ≡ false
 unmarked count x = ap (λ (mask : ℕ). eqb (bit_at mask (x % 64)) 1) (zeros-at count (x / 64)) ∙ ap (λ (bit : ℕ). eqb bit 1) (no_bits (x % 64))
-
--- one bit more
-pub marked_more : (masks : List ℕ) (k mask : ℕ) → k / 64 < length masks → WithBit (get_or masks (k / 64) 0) (k % 64) mask
-    → (x : ℕ) → is_marked (set masks (k / 64) mask) x ≡ (is_marked masks x || eqb x k)
-marked_more masks k mask h w x = ⊎_elim
-    (λ (q : x ≡ k). rw (q, eq-eqb k k refl, or-true, get_or-set_same masks (k / 64) mask 0 h, w.now))
-    (λ (q : x ≢ k). rw (ne_eqb x k q, or-false) (⊎_elim
-    (λ (p : x / 64 ≡ k / 64).
-    let ne : x % 64 ≢ k % 64 = λ r. q (omega arith) in
-    rw (p, get_or-set_same masks (k / 64) mask 0 h, w.same (x % 64) ne))
-    (λ (p : x / 64 ≢ k / 64). rw (get_or-set_other masks (k / 64) (x / 64) mask 0 p))
-    (eq-cases (x / 64) (k / 64))))
-    (eq-cases x k)
 
 -- the bits of a complement
 complement-bit : (k mask bit : ℕ) → mask < 2 ^ k → bit < k → bit_at ((2 ^ k - 1) - mask) bit ≡ 1 - bit_at mask bit

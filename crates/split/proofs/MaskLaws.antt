@@ -1,10 +1,10 @@
 -- Laws of the bits of a mask.
-use Rattle.flash.proofs.Kit.{◌≡◌, refl, ap, sym, ◌∙◌, ◌≢◌, inl, inr, ⊎_elim, Bool, true, false, cond, List, ℕ, zero, suc, ◌+◌, ◌-◌, ◌/◌, ◌%◌, ◌^◌}
+use Rattle.flash.proofs.Kit.{◌≡◌, refl, ap, sym, ◌∙◌, ◌≢◌, ⊎_elim, Bool, true, false, cond, List, ℕ, zero, suc, ◌+◌, ◌-◌, ◌/◌, ◌%◌, ◌^◌}
 use Rattle.flash.proofs.Kit.{◌≤◌, ◌<◌, max, pow-suc, div-eq_of_lt, div_self, div-one, mod-lt, zero-div, one-add, arith, eqb, length, get_or, set}
 use Rattle.flash.proofs.Kit.{replicate, get_or-set_same, get_or-set_other, count_trailing_zeros, under, pow_pos, pow-lt, pow-add, shr-shr, shl-shr, bit_or}
 use Rattle.flash.proofs.Kit.{or_step, or_shr, bit_xor, xor_step, xor_shr, differ, eqb-true, eqb-false}
 use Rattle.flash.specs.Lists.{range, first}
-use Rattle.split.specs.inner.Mask.{bit_at, lowest_zero, WithBit, FlippedAt, FlippedBoth}
+use Rattle.split.specs.inner.Mask.{bit_at, lowest_zero, WithBit, FlippedAt}
 use Rattle.flash.proofs.Bools.{bool_cases}
 use Rattle.flash.proofs.Ranges.{First, Missed, first-cases}
 use Rattle.flash.proofs.Comparisons.{lt-cases, eq-cases}
@@ -129,17 +129,6 @@ flipped-at masks at bit h = record {
 
     kept : (other : ℕ) → other ≢ bit → bit_at (bit_xor mask (2 ^ bit)) other ≡ bit_at mask other
     kept other ne = xor-bit mask (2 ^ bit) other ∙ ap (differ (bit_at mask other)) (power-other bit other ne) ∙ differ-zero (bit_at mask other)
-
-pub flipped-both : (masks middle after : List ℕ) (at a b : ℕ) → a ≢ b → FlippedAt masks at a middle → FlippedAt middle at b after
-    → FlippedBoth masks at a b after
-flipped-both masks middle after at a b differ f g = record {
-  changed = λ bit e. ⊎_elim
-      (λ (p : bit ≡ a). rw p (g.same at a (inr differ) ∙ f.changed))
-      (λ (p : bit ≡ b). rw p (g.changed ∙ ap (λ (x : ℕ). 1 - x) (f.same at b (inr (λ q. differ (sym q))))))
-      e;
-  same = λ block bit e. g.same block bit (⊎_elim (λ (p : block ≢ at). inl p) (λ (p : (bit ≢ a) × (bit ≢ b)). inr p.1) e)
-      ∙ f.same block bit (⊎_elim (λ (p : block ≢ at). inl p) (λ (p : (bit ≢ a) × (bit ≢ b)). inr p.0) e);
-}
 
 -- ---- the lowest zero
 pub ones_below : (mask bit : ℕ) → bit < lowest_zero mask → bit_at mask bit ≡ 1

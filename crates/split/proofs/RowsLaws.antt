@@ -3,6 +3,8 @@ use Rattle.flash.proofs.Kit.{◌≡◌, refl, sym, ap, ◌∙◌, ◌≢◌, ⊎
 use Rattle.flash.proofs.Kit.{below_more, div-lt_iff_lt-mul, div-add-mod', mod-lt, mod-eq_of_lt, arith, eqb, ltb, leb, length, get_or, set, take}
 use Rattle.flash.proofs.Kit.{replicate, length-replicate, length-take, get_or-take, get_or-replicate, List·getD-append, get_or-set_same, get_or-set_other}
 use Rattle.flash.proofs.Kit.{eqb-true, eq-eqb, ltb-true, lt-ltb, leb-true, le-leb}
+use Rattle.flash.proofs.Kit.{zero, suc, suc-mul, drop, get_or-drop}
+use Rattle.std.specs.Simd.{first_chunks}
 use Rattle.flash.specs.Lists.{range, all, any, part}
 use Rattle.flash.specs.Geometry.{block_of}
 use Rattle.split.specs.OneToOne.{is_one_to_one}
@@ -14,17 +16,10 @@ use Rattle.flash.proofs.Searches.{all-at, all_of, any_of, any-find}
 use Rattle.flash.proofs.Ranges.{all_in, all-is}
 use Rattle.flash.proofs.Parts.{part-fits, length_part, part_at}
 use Rattle.flash.proofs.Comparisons.{eq-cases}
-use Rattle.split.proofs.MaskLaws.{bit-lt, no_bits, or-bit, ones_below, lowest-above}
+use Rattle.split.proofs.MaskLaws.{bit-lt, or-bit, ones_below, lowest-above}
 use Rattle.split.proofs.Pigeon.{once, inside}
 use Rattle.split.proofs.OneToOneLaws.{one-to-one-of, entry_lt, entry-same, entry-onto}
 use Rattle.split.proofs.SplitLaws.{PageOf, Proper, same_place, set-lt, page-from, page-to, split-of}
-
--- ---- the bits of a row
-pub bits_none : (bytes : List ℕ) (start : ℕ) → Bits bytes start start 0
-bits_none bytes start = record {
-  marked = λ k a h. absurd (omega arith);
-  only = λ number e. absurd (omega (arith, no_bits number));
-}
 
 pub bits-more : (bytes : List ℕ) (start k mask after bit : ℕ) → Bits bytes start k mask → start ≤ k → bit ≡ get_or bytes k 0 % 64
     → WithBit mask bit after
@@ -55,6 +50,32 @@ with_two one two after bit w = record {
   now = or-bit one after bit ∙ rw w.now (omega (arith, bit-lt one bit));
   same = λ other ne. rw (or-bit one after other, or-bit one two other, w.same other ne);
 }
+
+-- the bits of a part by itself are those of its place
+pub bits-of-part : (m i : ℕ) (bytes : List ℕ) (mask : ℕ) → i * m + m ≤ length bytes → Bits (part m i bytes) 0 (length (part m i bytes)) mask
+    → Bits bytes (i * m) (i * m + m) mask
+bits-of-part m i bytes mask room B = record {
+  marked = λ k a h.
+      let j : k - i * m < m = omega arith in
+      let back : i * m + (k - i * m) ≡ k = omega arith in
+      let at = part_at m i bytes (k - i * m) 0 j ∙ ap (λ (t : ℕ). get_or bytes t 0) back in
+      rw at at (B.marked (k - i * m) (omega arith) (omega (arith, long)));
+  only = λ x e.
+      let r = B.only x e in
+      let j : r.0 < m = omega (arith, r.2, long) in
+      (i * m + r.0, omega arith, omega (arith, j), rw (← part_at m i bytes r.0 0 j) r.3);
+}
+  where
+    long : length (part m i bytes) ≡ m
+    long = length_part m i bytes room
+
+-- an element of a chunk
+pub chunk-at : (n count : ℕ) (xs : List ℕ) (k j : ℕ) (d : List ℕ) → k < count → j < n → get_or (get_or (first_chunks n count xs) k d) j 0 ≡ get_or xs (k * n + j) 0
+chunk-at n zero xs k j d h l = absurd (omega arith)
+chunk-at n (suc count) xs zero j d h l = get_or-take n xs j 0 l ∙ ap (λ (t : ℕ). get_or xs t 0) (omega arith)
+chunk-at n (suc count) xs (suc k) j d h l =
+    let place : n + (k * n + j) ≡ suc k * n + j = rw (suc-mul k n) (omega arith) in
+    chunk-at n count (drop n xs) k j d (omega arith) l ∙ get_or-drop n xs (k * n + j) 0 ∙ ap (λ (t : ℕ). get_or xs t 0) place
 
 pub bits-tell : (m i : ℕ) (bytes : List ℕ) (mask : ℕ) → m ≤ 64 → i * m + m ≤ length bytes → Bits bytes (i * m) (i * m + m) mask
     → leb m (lowest_zero mask) ≡ has_each m (part m i bytes)

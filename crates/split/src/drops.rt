@@ -14,7 +14,7 @@ pub const DROPPED: u16 = 65535;
 // The masks that have a bit for each page.
 pub const MASKS: usize = 64;
 
-const BITS: usize = 64;
+const BITS: usize = u64::BITS as usize;
 
 const PAGES: usize = MASKS * BITS;
 
@@ -23,10 +23,8 @@ pub fn has_drop(list: &[u16]) -> bool
     ensures { result ≡ any (eqb dropped) list.now }
 {
     let mut found = false;
-    let mut k = 0;
-    while k < list.len() {
-        found = found | (list[k] == DROPPED);
-        k += 1;
+    for entry in list {
+        found |= *entry == DROPPED;
     }
     found
 }
@@ -45,23 +43,21 @@ pub fn mark(masks: &mut [u64], k: usize)
     masks[k / BITS] = with_bit(masks[k / BITS], k % BITS);
 }
 
-fn flip_all(masks: &mut [u64])
-    requires { length masks.old ≡ 64 }
+fn flip_all(masks: &mut [u64; MASKS])
     ensures { (x : ℕ) → x < 4096 → is_marked masks.new x ≡ not (is_marked masks.old x) }
 {
-    let mut i = 0;
-    while i < masks.len() {
-        masks[i] = !masks[i];
-        i += 1;
+    for mask in masks.iter_mut() {
+        *mask = !*mask;
     }
 }
 
 // The first mark from `start` on, or 4,096. A mask without one is passed over at once.
-fn next_mark(masks: &[u64], start: usize) -> usize
-    requires { (length masks.now ≡ 64) × (start ≤ 4096) }
+fn next_mark(masks: &[u64; MASKS], start: usize) -> usize
+    requires { start ≤ 4096 }
     ensures { result ≡ first (is_marked masks.now) (range start (4096 - start)) 4096 }
 {
     let mut at = start;
+    // The marks say how far the search jumps.
     while at < PAGES {
         let skipped = lowest_free(!(masks[at / BITS] >> (at % BITS)));
         if skipped < BITS {
@@ -73,29 +69,26 @@ fn next_mark(masks: &[u64], start: usize) -> usize
 }
 
 // Gives the dropped pages, ascending, the marked places, ascending, and marks the pages.
-fn pair(list: &mut [u16], pages: &mut [u64], places: &[u64])
-    requires pages_len { (length pages.old ≡ 64) × (length places.now ≡ 64) × (length list.old ≤ 4096)
-        × (bad_list (length list.old) list.old ≡ false) }
+fn pair(list: &mut [u16], pages: &mut [u64; MASKS], places: &[u64; MASKS])
+    requires list_len { (length list.old ≤ 4096) × (bad_list (length list.old) list.old ≡ false) }
     requires by_index { ((x : ℕ) → is_marked pages.old x ≡ false)
         × ((x : ℕ) → x < 4096 → is_marked places.now x ≡ not (any (eqb x) (kept_entries list.old))) }
     ensures list_after { list.new ≡ completed list.old }
     ensures by_index_2 { (x : ℕ) → is_marked pages.new x ≡ is_dropped list.old x }
 {
     let mut place = 0;
-    let mut k = 0;
-    while k < list.len() {
-        if list[k] == DROPPED {
+    for (k, entry) in list.iter_mut().enumerate() {
+        if *entry == DROPPED {
             place = next_mark(places, place);
-            list[k] = place as u16;
+            *entry = place as u16;
             mark(pages, k);
             place += 1;
         }
-        k += 1;
     }
 }
 
-// Completes a list that is not refused as 3, where `places` has the marks of its check; then the bits tell of the dropped pages and of the places that they
-// get.
+// Completes a list that is not refused as 3, where `places` has the marks of its check; then the bits tell of the dropped pages and of the
+// places that they get.
 pub fn complete(list: &mut [u16], pages: &mut [u64; MASKS], places: &mut [u64; MASKS])
     requires list_len_bound { (length list.old ≤ 4096) × (bad_list (length list.old) list.old ≡ false) }
     requires pages_value { (pages.old ≡ replicate 64 0) × KeptMarked list.old places.old }

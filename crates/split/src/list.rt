@@ -1,50 +1,48 @@
 // The check of a list of destinations, and of its pins.
-ghost use Rattle.std.specs.Prelude.{◌≡◌, true, cond, not, ◌≤◌, length, replicate};
+ghost use Rattle.std.specs.Prelude.{◌≡◌, cond, not, ◌≤◌, length, replicate};
+ghost use Rattle.flash.specs.Refusals.{number_in};
 ghost use Rattle.split.specs.OneToOne.{bad_list};
 ghost use Rattle.split.specs.Pins.{moves_pinned};
 ghost use Rattle.split.specs.inner.Dropping.{KeptMarked};
 
 use crate::drops::{DROPPED, MASKS, is_marked, mark};
 use crate::pins::moves_pinned;
-use flash::casts::entry;
+use flash::refusal::Refusal;
 
-// Whether no entry of a kept page is at or above `originals` and none is met twice; then the marks tell which numbers were met.
-fn check(list: &[u16], originals: usize, marks: &mut [u64; MASKS]) -> bool
+// Refuses a list with an entry of a kept page at or above `originals`, or one that is met twice. Else the marks tell which numbers were met.
+fn check(list: &[u16], originals: usize, marks: &mut [u64; MASKS]) -> Result<(), Refusal>
     requires { (originals ≤ 4096) × (marks.old ≡ replicate 64 0) }
-    ensures value { result ≡ not (bad_list originals list.now) }
-    ensures kept_marked { result ≡ true → KeptMarked list.now marks.new }
+    ensures value { number_in result ≡ cond (bad_list originals list.now) 3 0 }
+    ensures kept_marked { number_in result ≡ 0 → KeptMarked list.now marks.new }
 {
-    let mut k = 0;
-    while k < list.len() {
-        let lent = list[k];
-        if lent != DROPPED {
-            let number = entry(lent);
-            if originals <= number {
-                return false;
-            }
-            if is_marked(marks, number) {
-                return false;
+    for lent in list {
+        if *lent != DROPPED {
+            let number = usize::from(*lent);
+            if originals <= number || is_marked(marks, number) {
+                return Err(Refusal::BadList);
             }
             mark(marks, number);
         }
-        k += 1;
     }
-    true
+    Ok(())
 }
 
-// Number 3 or 11 of a lent list, or 0; then the marks are on the numbers that kept pages are sent to.
-pub fn list_refusal(list: &[u16], pins: &[u8], originals: usize, marks: &mut [u64; MASKS]) -> u32
+// Refuses a lent list as number 3 or 11. Else the marks are on the numbers that kept pages are sent to.
+pub fn list_refusal(
+    list: &[u16],
+    pins: &[u8],
+    originals: usize,
+    marks: &mut [u64; MASKS],
+) -> Result<(), Refusal>
     requires { (length pins.now ≡ length list.now) × (length list.now ≤ 4096) × (originals ≤ 4096) × (marks.old ≡ replicate 64 0) }
-    ensures value { result ≡ cond (bad_list originals list.now) 3 (cond (moves_pinned pins.now list.now) 11 0) }
-    ensures kept_marked { result ≡ 0 → KeptMarked list.now marks.new }
+    ensures value { number_in result ≡ cond (bad_list originals list.now) 3 (cond (moves_pinned pins.now list.now) 11 0) }
+    ensures kept_marked { number_in result ≡ 0 → KeptMarked list.now marks.new }
 {
-    if !check(list, originals, marks) {
-        return 3;
-    }
+    check(list, originals, marks)?;
     if moves_pinned(pins, list) {
-        return 11;
+        return Err(Refusal::BadPins);
     }
-    0
+    Ok(())
 }
 
 // Whether a list would not be refused as 3, whatever is pinned.
@@ -53,5 +51,5 @@ pub fn is_good(list: &[u16], originals: usize) -> bool
     ensures { result ≡ not (bad_list originals list.now) }
 {
     let mut marks = [0u64; MASKS];
-    check(list, originals, &mut marks)
+    check(list, originals, &mut marks).is_ok()
 }

@@ -14,10 +14,8 @@ pub fn moves_pinned(pins: &[u8], list: &[u16]) -> bool
         return false;
     }
     let mut moved = false;
-    let mut k = 0;
-    while k < list.len() {
-        moved = moved | ((pins[k] != 0) & (list[k] != k as u16));
-        k += 1;
+    for (k, entry) in list.iter().enumerate() {
+        moved |= (pins[k] != 0) & (*entry != k as u16);
     }
     moved
 }

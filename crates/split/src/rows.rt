@@ -2,13 +2,14 @@
 // gathered, and afterwards it is seen that none is missing. As many numbers as there are places meet no place twice if they meet each.
 ghost use Rattle.std.specs.Prelude.{◌≡◌, cond, List, ℕ, ◌+◌, ◌*◌, ◌≤◌, ltb, length};
 ghost use Rattle.flash.specs.Lists.{all};
+ghost use Rattle.flash.specs.Refusals.{number_in};
 ghost use Rattle.split.specs.OneToOne.{is_one_to_one};
 ghost use Rattle.split.specs.Split.{is_split};
 ghost use Rattle.split.specs.inner.Rows.{ByDestination, Entered, Bits, rows_have_each};
 
 use crate::mask::{lowest_free, with_bit};
-use flash::bytes::{are_below, fill};
-use flash::casts::{entry, wide};
+use flash::bytes::are_below;
+use flash::refusal::Refusal;
 
 // The places of the table.
 const PLACES: usize = 4096;
@@ -28,12 +29,10 @@ fn enter_row(list: &[u16], sets: &[u8], start: usize, end: usize, table: &mut [u
     ensures { Entered list.now sets.now end table.new × Bits sets.now start end result }
 {
     let mut met = 0u64;
-    let mut k = start;
-    while k < end {
+    for k in start..end {
         let set = sets[k];
-        table[entry(list[k]) % PLACES] = set % NO_BYTE;
-        met = with_bit(met, wide(set % MOST_SETS));
-        k += 1;
+        table[usize::from(list[k]) % PLACES] = set % NO_BYTE;
+        met = with_bit(met, usize::from(set % MOST_SETS));
     }
     met
 }
@@ -43,33 +42,29 @@ pub fn sets_by_destination(n: usize, m: usize, list: &[u16], sets: &[u8], table:
     requires { (m ≤ 64) × (n * m ≤ 4096) × (length list.now ≡ n * m) × (length sets.now ≡ n * m) × (length table.old ≡ 4096) }
     ensures { Entered list.now sets.now (n * m) table.new × (result ≡ rows_have_each n m sets.now) }
 {
-    fill(&mut table[0..n * m], NO_ORIGINAL);
+    table[..n * m].fill(NO_ORIGINAL);
     let mut each = true;
-    let mut i = 0;
-    while i < n {
+    for i in 0..n {
         let start = i * m;
         let met = enter_row(list, sets, start, start + m, table);
-        each = each & (m <= lowest_free(met));
-        i += 1;
+        each &= m <= lowest_free(met);
     }
     each
 }
 
-// The bits of the bytes from `start` to before `end`. They are gathered in two masks, so that one need not wait for the other.
-fn bits(bytes: &[u8], start: usize, end: usize) -> u64
-    requires { (start ≤ end) × (end ≤ length bytes.now) }
-    ensures { Bits bytes.now start end result }
+// The bits of the bytes. They are gathered in two masks, so that one need not wait for the other.
+fn bits(bytes: &[u8]) -> u64
+    ensures { Bits bytes.now 0 (length bytes.now) result }
 {
     let mut one = 0u64;
     let mut two = 0u64;
-    let mut k = start;
-    while 1 < end - k {
-        one = with_bit(one, wide(bytes[k] % MOST_SETS));
-        two = with_bit(two, wide(bytes[k + 1] % MOST_SETS));
-        k += 2;
+    let (pairs, rest) = bytes.as_chunks::<2>();
+    for [first, second] in pairs {
+        one = with_bit(one, usize::from(*first % MOST_SETS));
+        two = with_bit(two, usize::from(*second % MOST_SETS));
     }
-    if k < end {
-        one = with_bit(one, wide(bytes[k] % MOST_SETS));
+    for byte in rest {
+        one = with_bit(one, usize::from(*byte % MOST_SETS));
     }
     one | two
 }
@@ -80,12 +75,10 @@ fn rows_have_each(n: usize, m: usize, bytes: &[u8]) -> bool
     ensures { result ≡ rows_have_each n m bytes.now }
 {
     let mut each = true;
-    let mut i = 0;
-    while i < n {
+    for i in 0..n {
         let start = i * m;
-        let met = bits(bytes, start, start + m);
-        each = each & (m <= lowest_free(met));
-        i += 1;
+        let met = bits(&bytes[start..start + m]);
+        each &= m <= lowest_free(met);
     }
     each
 }
@@ -94,27 +87,31 @@ fn are_places(list: &[u16]) -> bool
     ensures { result ≡ all (λ number. ltb number 4096) list.now }
 {
     let mut small = true;
-    let mut k = 0;
-    while k < list.len() {
-        small = small & (entry(list[k]) < PLACES);
-        k += 1;
+    for number in list {
+        small &= usize::from(*number) < PLACES;
     }
     small
 }
 
-// Number 3 or 4 of the table of refusals, or 0; then the table has the sets by destination.
-pub fn sets_refusal(n: usize, m: usize, list: &[u16], sets: &[u8], table: &mut [u8]) -> u32
+// Refuses as number 3 or 4. Else the table has the sets by destination.
+pub fn sets_refusal(
+    n: usize,
+    m: usize,
+    list: &[u16],
+    sets: &[u8],
+    table: &mut [u8],
+) -> Result<(), Refusal>
     requires le_m { (1 ≤ m) × (n ≤ 64) × (m ≤ 64) }
     requires list_len { (length list.now ≡ n * m) × (length sets.now ≡ n * m) × (length table.old ≡ 4096) }
-    ensures value { result ≡ cond (is_one_to_one (n * m) list.now) (cond (is_split n m list.now sets.now) 0 4) 3 }
-    ensures by_destination { result ≡ 0 → ByDestination list.now sets.now table.new }
+    ensures value { number_in result ≡ cond (is_one_to_one (n * m) list.now) (cond (is_split n m list.now sets.now) 0 4) 3 }
+    ensures by_destination { number_in result ≡ 0 → ByDestination list.now sets.now table.new }
 {
     let each = sets_by_destination(n, m, list, sets, table);
-    if !(are_places(list) & are_below(&table[0..n * m], NO_BYTE)) {
-        return 3;
+    if !(are_places(list) & are_below(&table[..n * m], NO_BYTE)) {
+        return Err(Refusal::BadList);
     }
     if !(each & are_below(sets, MOST_SETS) & rows_have_each(n, m, table)) {
-        return 4;
+        return Err(Refusal::BadSplit);
     }
-    0
+    Ok(())
 }

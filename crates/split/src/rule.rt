@@ -3,56 +3,36 @@
 ghost use Rattle.std.specs.Prelude.{◌≡◌, ◌+◌, ◌*◌, ◌<◌, length};
 ghost use Rattle.split.specs.Rule.{split_by_rule};
 ghost use Rattle.split.specs.inner.Rows.{Accepted};
-ghost use Rattle.flash.specs.inner.Reciprocal.{reciprocal_of};
 ghost use Rattle.split.specs.inner.Work.{Working};
 
 use crate::inverse::invert_rows;
 use crate::mask::{flip, has, lowest_free};
-use crate::path::{block_of, exchange_along_path, target};
-use crate::tables::{BLOCKS, CELLS, note};
-use flash::quotient::reciprocal;
+use crate::path::{block_of, target};
+use crate::tables::{BLOCKS, CELLS, Tables, note};
+use flash::quotient::Divisor;
 
-// Gives page k its set.
-fn give(
-    list: &[u16],
-    m: u16,
-    reciprocal: usize,
-    k: u16,
-    numbers: &mut [u8],
-    targets: &mut [u8; CELLS],
-    homes: &mut [u8; CELLS],
-    destinations: &mut [u64; BLOCKS],
-)
-    requires working { Working m list.now k numbers.old targets.old homes.old destinations.old }
-    requires reciprocal_value { (reciprocal ≡ reciprocal_of m) × (k < length list.now) }
-    ensures { Working m list.now (k + 1) numbers.new targets.new homes.new
-        destinations.new }
-{
-    let home = block_of(k, m, reciprocal);
-    let block = target(list, m, reciprocal, k);
-    let a = k - home * m;
-    let used = destinations[block as usize];
-    numbers[k as usize] = a as u8;
-    note(targets, a, home, block);
-    if has(used, a) {
-        let b = lowest_free(used) as u16;
-        note(homes, b, block, home);
-        flip(destinations, block, b);
-        exchange_along_path(
-            list,
-            m,
-            reciprocal,
-            k,
-            a,
-            b,
-            numbers,
-            targets,
-            homes,
-            destinations,
-        );
-    } else {
-        note(homes, a, block, home);
-        flip(destinations, block, a);
+impl Tables {
+    // Gives page k its set.
+    fn give(&mut self, list: &[u16], divisor: Divisor, k: u16, numbers: &mut [u8])
+        requires working { Working divisor.by list.now k numbers.old self.old.targets self.old.homes self.old.destinations }
+        requires inside { k < length list.now }
+        ensures { Working divisor.by list.now (k + 1) numbers.new self.new.targets self.new.homes self.new.destinations }
+    {
+        let home = block_of(k, divisor);
+        let block = target(list, divisor, k);
+        let a = k - home * divisor.by as u16;
+        let used = self.destinations[block as usize];
+        numbers[k as usize] = a as u8;
+        note(&mut self.targets, a, home, block);
+        if has(used, a) {
+            let b = lowest_free(used) as u16;
+            note(&mut self.homes, b, block, home);
+            flip(&mut self.destinations, block, b);
+            self.exchange_along_path(list, divisor, k, a, b, numbers);
+        } else {
+            note(&mut self.homes, a, block, home);
+            flip(&mut self.destinations, block, a);
+        }
     }
 }
 
@@ -62,25 +42,15 @@ pub fn fill(n: usize, m: usize, list: &[u16], sets: &mut [u8])
     requires { Accepted n m list.now × (length sets.old ≡ n * m) }
     ensures { sets.new ≡ split_by_rule n m list.now }
 {
-    let reciprocal = reciprocal(m);
-    let pages = m as u16;
+    let divisor = Divisor::new(m);
     let count = list.len() as u16;
-    let mut targets = [0u8; CELLS];
-    let mut homes = [0u8; CELLS];
-    let mut destinations = [0u64; BLOCKS];
-    let mut k = 0u16;
-    while k < count {
-        give(
-            list,
-            pages,
-            reciprocal,
-            k,
-            sets,
-            &mut targets,
-            &mut homes,
-            &mut destinations,
-        );
-        k += 1;
+    let mut tables = Tables {
+        targets: [0; CELLS],
+        destinations: [0; BLOCKS],
+        homes: [0; CELLS],
+    };
+    for k in 0..count {
+        tables.give(list, divisor, k, sets);
     }
     invert_rows(n, m, sets);
 }

@@ -10,7 +10,8 @@ use Rattle.listing.specs.Area.{Written}
 use Rattle.listing.specs.Numbers.{numbers_in, Taken, taken}
 use Rattle.listing.specs.Input.{Input, unreadable, refused, request, is_allowed, sizes_from, numbers_due, exactly, requested, after_sizes, input_of, within_limit}
 use Rattle.listing.specs.ReaderAnswers.{request_in, asked_as}
-use Rattle.listing.specs.declared.input.InputRead.{InputRead}
+use Rattle.std.specs.Prelude.{Result}
+use Rattle.listing.specs.declared.input.InputError.{InputError}
 use Rattle.listing.proofs.AreaLaws.{over-room}
 use Rattle.listing.proofs.InputLaws.{bounded, few-originals}
 use Rattle.steplist.specs.Output.{answered, output, Counts}
@@ -119,7 +120,7 @@ asked-list Z text list bytes e =
     (and_left (is_allowed Z) fit (and_left (is_allowed Z && fit) size sound), eqb-true (length list) (original_count Z) (and_right (is_allowed Z && fit) size sound))
 
 -- what the reader told, and the output
-pub answers : (named : Bool) (input numbers before after : List ℕ) (count : ℕ) (told known : InputRead) → asked_as numbers told ≡ input_of (within_limit input) → told ≡ known
+pub answers : (named : Bool) (input numbers before after : List ℕ) (count : ℕ) (told known : Result Sizes InputError) → asked_as numbers told ≡ input_of (within_limit input) → told ≡ known
     → Written (answered named (asked_as numbers known)) before after count → Written (output named input) before after count × Counts count after
 unfolding output
 answers named input numbers before after count told known e q w =

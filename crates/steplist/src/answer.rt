@@ -12,9 +12,9 @@ use crate::by_originals::put_method;
 use crate::listed::put_listing;
 use crate::rest::{put_marks, put_store};
 use crate::unpinned::{MOST_ORIGINALS, split_unpinned};
-use flash::sizes::{Sizes, original_count, slot_count, store_length};
-use listing::fit::{fit, put_entries};
-use listing::input::{InputRead, MOST_NUMBERS, limit, numbers_due, read};
+use flash::sizes::Sizes;
+use listing::fit::{fit, put};
+use listing::input::{InputError, MOST_NUMBERS, limit, numbers_due, read};
 use listing::lines::{put_refused, put_unreadable};
 use split::drops::has_drop;
 
@@ -39,8 +39,8 @@ fn put_accepted(out: &mut [u8], sizes: Sizes, list: &[u16], sets: &[u8], origina
     let mut store = [0u8; MOST_STORE];
     let mut marks = [0u8; MOST_SLOTS];
     let mut work = [0u8; MOST_PAGE];
-    let size = store_length(sizes);
-    let slots = slot_count(sizes);
+    let size = sizes.store_length();
+    let slots = sizes.slot_count();
     let m = sizes.m;
     let p = sizes.p;
     let s = sizes.s;
@@ -98,8 +98,8 @@ fn put_judged(
     if !fit(entries, MOST_ENTRY) {
         return put_refused(out, 0, 3);
     }
-    put_entries(entries, list);
-    if split_unpinned(sizes, list, sets) != 0 {
+    put(entries, list);
+    if let Err(_) = split_unpinned(sizes, list, sets) {
         return put_refused(out, 0, 3);
     }
     put_form(out, named, sizes, list, sets, originals)
@@ -113,7 +113,7 @@ fn put_move(out: &mut [u8], named: bool, sizes: Sizes, numbers: &[u32; MOST_NUMB
     let area: &[u32] = numbers;
     let mut list = [0u16; MOST_ORIGINALS];
     let mut sets = [0u8; MOST_ORIGINALS];
-    let count = original_count(sizes);
+    let count = sizes.original_count();
     let due = numbers_due(count, sizes.p);
     put_judged(
         out,
@@ -136,8 +136,8 @@ pub fn answer(named: bool, input: &mut [u8], out: &mut [u8; MOST_OUTPUT]) -> usi
     let mut numbers = [0u32; MOST_NUMBERS];
     let end = limit(input);
     match read(&input[..end], &mut numbers) {
-        InputRead::Unreadable => put_unreadable(out, 0),
-        InputRead::Refused => put_refused(out, 0, 1),
-        InputRead::Move { sizes } => put_move(out, named, sizes, &numbers),
+        Err(InputError::Unreadable) => put_unreadable(out, 0),
+        Err(InputError::Refused) => put_refused(out, 0, 1),
+        Ok(sizes) => put_move(out, named, sizes, &numbers),
     }
 }

@@ -1,7 +1,8 @@
 // The listing of the method's steps by originals.
 ghost use Rattle.std.specs.Prelude.{◌+◌, ◌≤◌, ◌<◌, [], ◌∷◌, length};
 ghost use Rattle.flash.specs.Lists.{concat_map};
-ghost use Rattle.method.specs.Move.{move_of, AcceptedMove};
+ghost use Rattle.method.specs.Move.{AcceptedMove};
+ghost use Rattle.method.specs.inner.MoveIn.{move_in};
 ghost use Rattle.method.specs.Place.{operation_at, last_place};
 ghost use Rattle.listing.specs.Digits.{decimal};
 ghost use Rattle.listing.specs.Lines.{Printed, originals_line};
@@ -14,6 +15,7 @@ use crate::originals::{Originals, originals_of};
 use flash::sizes::Sizes;
 use listing::digits::{put_field, put_text};
 use listing::lines::{put_end, put_erase, put_head};
+use method::accepted::Accepted;
 use places::place::{Op, Place, last_place};
 
 // Each original as a field.
@@ -47,19 +49,12 @@ fn put_originals(
 }
 
 // Prints the line of the step at a place. Answers the next position.
-fn put_step_line(
-    out: &mut [u8],
-    at: usize,
-    sizes: Sizes,
-    list: &[u16],
-    sets: &[u8],
-    place: usize,
-) -> usize
-    requires { AcceptedMove (move_of sizes list.now sets.now) × (sizes.n ≤ 8) × (sizes.m ≤ 8) × (place < last_place sizes)
-        × (at + most_line ≤ length out.old) }
-    ensures { Printed (step_text (move_of sizes list.now sets.now) place (operation_at sizes place))
+fn put_step_line(out: &mut [u8], at: usize, moved: Accepted, place: usize) -> usize
+    requires { (moved.sizes.n ≤ 8) × (moved.sizes.m ≤ 8) × (place < last_place moved.sizes) × (at + most_line ≤ length out.old) }
+    ensures { Printed (step_text (move_in moved.entry) place (operation_at moved.entry.sizes place))
         out.old at out.new result × (result ≤ at + most_line) }
 {
+    let sizes = moved.sizes;
     let here = Place::new(sizes, place);
     match here.operation(sizes) {
         Op::Write {
@@ -68,7 +63,7 @@ fn put_step_line(
             page,
             mark: _,
         } => {
-            let originals = originals_of(sizes, list, sets, backward, block, page);
+            let originals = originals_of(moved, backward, block, page);
             put_originals(out, at, place, block, page, originals)
         }
         Op::Erase { block } => put_erase(out, at, place, block),
@@ -82,12 +77,10 @@ pub fn put_method(out: &mut [u8], n: usize, m: usize, list: &[u16], sets: &[u8])
     ensures { Written (method_text n m list.now sets.now) out.old out.new result }
 {
     let sizes = Sizes { n, m, p: 1, s: 0 };
-    let last = last_place(sizes);
+    let moved = Accepted { sizes, list, sets };
     let mut at = 0;
-    let mut place = 0;
-    while place < last {
-        at = put_step_line(out, at, sizes, list, sets, place);
-        place += 1;
+    for place in 0..last_place(sizes) {
+        at = put_step_line(out, at, moved, place);
     }
     put_end(out, at, 2 * n * m, 2 * n)
 }

@@ -10,7 +10,6 @@ ghost use Rattle.steplist.specs.inner.Listing.{Listable, moved, most_line, most_
 
 use crate::line::put_line;
 use crate::unpinned::run_unpinned;
-use flash::casts::word;
 use flash::sizes::Sizes;
 use listing::lines::put_end;
 use places::place::last_place;
@@ -43,10 +42,18 @@ fn put_step(
 {
     let ran = run_unpinned(sizes, list, sets, store, marks, work, place, 1);
     let next = put_line(out, at, sizes, place, work);
-    Shown {
-        at: next,
-        writes: word(ran.tally.writes),
-        erases: word(ran.tally.erases),
+    match ran.outcome {
+        Ok(taken) => Shown {
+            at: next,
+            writes: taken.tally.writes as usize,
+            erases: taken.tally.erases as usize,
+        },
+        // A step of an accepted move is not refused; a run that is counts nothing.
+        Err(_) => Shown {
+            at: next,
+            writes: 0,
+            erases: 0,
+        },
     }
 }
 
@@ -68,17 +75,14 @@ pub fn put_listing(
         ≡ moved (plan (unpinned sizes list.now sets.now))
         (running_of store.old marks.old work.old) }
 {
-    let last = last_place(sizes);
     let mut at = 0;
     let mut writes = 0;
     let mut erases = 0;
-    let mut place = 0;
-    while place < last {
+    for place in 0..last_place(sizes) {
         let step = put_step(out, at, sizes, list, sets, store, marks, work, place);
         at = step.at;
         writes += step.writes;
         erases += step.erases;
-        place += 1;
     }
     put_end(out, at, writes, erases)
 }

@@ -1,15 +1,14 @@
 // The originals that the page of a write is the sum of.
 ghost use Rattle.std.specs.Prelude.{◌≡◌, true, false, [], ◌∷◌, ℕ, ◌+◌, ◌*◌, ◌≤◌, ◌<◌, eqb, length, get_or};
 ghost use Rattle.flash.specs.Lists.{range, first};
-ghost use Rattle.method.specs.Move.{move_of, AcceptedMove};
+ghost use Rattle.method.specs.inner.MoveIn.{move_in};
 ghost use Rattle.method.specs.Cycle.{coded};
 ghost use Rattle.method.specs.Step.{originals_of};
 ghost use Rattle.places.specs.inner.Place.{pass_of};
 ghost use Rattle.checker.specs.Method.{ascending};
 ghost use Rattle.steplist.specs.inner.Originals.{originals_as, Within};
 
-use flash::casts::{entry, wide};
-use flash::sizes::Sizes;
+use method::accepted::Accepted;
 use walk::rows::{ROW, set_rows};
 use walk::walk::top_of;
 
@@ -38,55 +37,43 @@ fn in_order(one: usize, other: usize) -> Originals
 }
 
 // Those of c(i): D(i), and D(pred(i)) where i is not the top.
-fn coded_originals(sizes: Sizes, list: &[u16], sets: &[u8], set: usize, i: usize) -> Originals
-    requires { AcceptedMove (move_of sizes list.now sets.now) × (set < sizes.m) × (1 ≤ i) × (i ≤ sizes.n) }
-    ensures { (originals_as result ≡ ascending (coded (move_of sizes list.now sets.now) set i))
-        × Within (sizes.n * sizes.m) result }
+fn coded_originals(moved: Accepted, set: usize, i: usize) -> Originals
+    requires { (set < moved.sizes.m) × (1 ≤ i) × (i ≤ moved.sizes.n) }
+    ensures { (originals_as result ≡ ascending (coded (move_in moved.entry) set i))
+        × Within (moved.entry.sizes.n * moved.entry.sizes.m) result }
 {
-    let m = sizes.m;
+    let m = moved.sizes.m;
     let mut pages = [0u8; ROW];
     let mut sources = [0u8; ROW];
-    set_rows(sizes, list, sets, set, &mut pages, &mut sources);
-    let own = (i - 1) * m + wide(pages[i - 1]);
-    if top_of(sizes.n, &sources, i) == i {
+    set_rows(moved, set, &mut pages, &mut sources);
+    let own = (i - 1) * m + usize::from(pages[i - 1]);
+    if top_of(moved.sizes.n, &sources, i) == i {
         return Originals::One { original: own };
     }
-    let u = wide(sources[i - 1]);
-    in_order(own, (u - 1) * m + wide(pages[u - 1]))
+    let u = usize::from(sources[i - 1]);
+    in_order(own, (u - 1) * m + usize::from(pages[u - 1]))
 }
 
 // The original that the list sends to a page number.
 fn sent_to(list: &[u16], number: usize) -> usize
     ensures { result ≡ first (λ k. eqb (get_or list.now k 0) number) (range 0 (length list.now)) 0 }
 {
-    let mut k = 0;
-    while k < list.len() {
-        if entry(list[k]) == number {
-            return k;
-        }
-        k += 1;
-    }
-    0
+    list.iter()
+        .position(|entry| usize::from(*entry) == number)
+        .unwrap_or(0)
 }
 
 // The originals of a write to a page of a block.
-pub fn originals_of(
-    sizes: Sizes,
-    list: &[u16],
-    sets: &[u8],
-    backward: bool,
-    block: usize,
-    page: usize,
-) -> Originals
-    requires { AcceptedMove (move_of sizes list.now sets.now) × (page < sizes.m) × (block ≤ sizes.n)
-        × (backward ≡ true → 1 ≤ block) × (backward ≡ false → block + 1 ≤ sizes.n) }
-    ensures { (originals_as result ≡ ascending (originals_of (move_of sizes list.now sets.now) (pass_of backward) block page))
-        × Within (sizes.n * sizes.m) result }
+pub fn originals_of(moved: Accepted, backward: bool, block: usize, page: usize) -> Originals
+    requires { (page < moved.sizes.m) × (block ≤ moved.sizes.n) × (backward ≡ true → 1 ≤ block)
+        × (backward ≡ false → block + 1 ≤ moved.sizes.n) }
+    ensures { (originals_as result ≡ ascending (originals_of (move_in moved.entry) (pass_of backward) block page))
+        × Within (moved.entry.sizes.n * moved.entry.sizes.m) result }
 {
     if backward {
         return Originals::One {
-            original: sent_to(list, (block - 1) * sizes.m + page),
+            original: sent_to(moved.list, (block - 1) * moved.sizes.m + page),
         };
     }
-    coded_originals(sizes, list, sets, page, block + 1)
+    coded_originals(moved, page, block + 1)
 }

@@ -3,8 +3,7 @@ ghost use Rattle.std.specs.Prelude.{true, ◌≡◌, ◌++◌, ◌+◌, ◌-◌,
 ghost use Rattle.flash.specs.Lists.{all};
 
 use flash::ERASED;
-use flash::bytes::fill;
-use listing::fit::put_bytes;
+use listing::fit::put;
 
 // The pages of the spare become blank, and the originals' bytes follow.
 pub fn put_store(originals: &[u32], spare: usize, store: &mut [u8])
@@ -12,8 +11,8 @@ pub fn put_store(originals: &[u32], spare: usize, store: &mut [u8])
     requires originals_value { all (λ number. leb number 255) originals.now ≡ true }
     ensures { store.new ≡ replicate spare 255 ++ originals.now }
 {
-    put_bytes(originals, &mut store[spare..]);
-    fill(&mut store[..spare], ERASED);
+    put(originals, &mut store[spare..]);
+    store[..spare].fill(ERASED);
 }
 
 // The marks of the spare's pages become 255, those of the others the letter s.
@@ -21,6 +20,6 @@ pub fn put_marks(m: usize, s: u8, marks: &mut [u8])
     requires { m ≤ length marks.old }
     ensures { marks.new ≡ replicate m 255 ++ replicate (length marks.old - m) s }
 {
-    fill(marks, s);
-    fill(&mut marks[..m], ERASED);
+    marks.fill(s);
+    marks[..m].fill(ERASED);
 }

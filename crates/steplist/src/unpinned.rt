@@ -1,14 +1,17 @@
 // The calls for the step program, whose input pins no page and has no counters of erases.
+// They complete the list that they are lent, so they get a copy of it.
 ghost use Rattle.std.specs.Prelude.{◌≡◌, ◌≤◌, length};
 ghost use Rattle.flash.specs.Geometry.{original_count};
+ghost use Rattle.flash.specs.Refusals.{number_in};
 ghost use Rattle.flash.specs.Wear.{counter_end, unworn};
 ghost use Rattle.split.specs.Request.{unpinned};
 ghost use Rattle.split.specs.Answer.{split_answer};
 ghost use Rattle.method.specs.Answers.{run_answer};
 ghost use Rattle.mover.specs.Answers.{ran_as};
 
-use flash::sizes::{Sizes, original_count};
-use flash::wear::unworn;
+use flash::refusal::Refusal;
+use flash::sizes::Sizes;
+use flash::wear::Wear;
 use mover::run::{RunResult, run};
 use split::call::split;
 
@@ -16,29 +19,17 @@ use split::call::split;
 pub const MOST_ORIGINALS: usize = 64;
 
 // A limit that no block of a new module comes to.
-const NO_LIMIT: u32 = 4294967295;
+const NO_LIMIT: u32 = u32::MAX;
 
-// The calls complete the list that they are lent, so they get a copy of it.
-fn copy_list(target: &mut [u16], source: &[u16])
-    requires { length source.now ≡ length target.old }
-    ensures { target.new ≡ source.now }
-{
-    let mut k = 0;
-    while k < target.len() {
-        target[k] = source[k];
-        k += 1;
-    }
-}
-
-pub fn split_unpinned(sizes: Sizes, list: &[u16], sets: &mut [u8]) -> u32
+pub fn split_unpinned(sizes: Sizes, list: &[u16], sets: &mut [u8]) -> Result<(), Refusal>
     requires { (sizes.n ≤ 8) × (sizes.m ≤ 8) × (length list.now ≡ original_count sizes) }
-    ensures { record { number = result; sets = sets.new }
+    ensures { record { number = number_in result; sets = sets.new }
         ≡ split_answer (unpinned sizes list.now sets.old) }
 {
     let pins = [0u8; MOST_ORIGINALS];
     let mut own = [0u16; MOST_ORIGINALS];
-    let count = original_count(sizes);
-    copy_list(&mut own[..count], list);
+    let count = sizes.original_count();
+    own[..count].copy_from_slice(list);
     split(sizes, &mut own[..count], &pins[..count], sets)
 }
 
@@ -59,8 +50,8 @@ pub fn run_unpinned(
 {
     let pins = [0u8; MOST_ORIGINALS];
     let mut own = [0u16; MOST_ORIGINALS];
-    let count = original_count(sizes);
-    copy_list(&mut own[..count], list);
+    let count = sizes.original_count();
+    own[..count].copy_from_slice(list);
     run(
         sizes,
         &mut own[..count],
@@ -69,7 +60,7 @@ pub fn run_unpinned(
         store,
         marks,
         work,
-        unworn(),
+        Wear::unworn(),
         place,
         budget,
         NO_LIMIT,

@@ -31,6 +31,7 @@ fn read_full<R: Input>(rt: &R, input: &mut [u8]) -> io::Result<usize>
 {
     let mut reader = rt.reader();
     let mut got = 0;
+    // Each turn goes on by as many bytes as the input had to give.
     while got < input.len() {
         let more = reader.read(&mut input[got..])?;
         if more == 0 {

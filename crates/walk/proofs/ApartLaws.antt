@@ -1,25 +1,21 @@
 -- Lists of slots, one slot more at a time.
-use Rattle.flash.proofs.Kit.{◌≡◌, refl, sym, ap, ◌∙◌, ⊎_elim, ◌≢◌, Bool, true, false, cond, List, [], ◌∷◌, ◌++◌, append_assoc, append-nil, ℕ, zero, suc, ◌+◌, ◌≤◌, ◌<◌, add-one, arith, eqb}
-use Rattle.flash.proofs.Kit.{not-suc-le-zero, length, get_or, set, take, take-suc-set, length-take-le, get_or-take, eq-eqb, ne_eqb}
+use Rattle.flash.proofs.Kit.{◌≡◌, refl, sym, ap, ◌∙◌, ⊎_elim, Bool, true, false, cond, List, [], ◌∷◌, ◌++◌, append_assoc, append-nil, ℕ, zero, suc, ◌+◌, ◌<◌, add-one, arith, eqb}
+use Rattle.flash.proofs.Kit.{not-suc-le-zero, length, get_or, set, take, take-suc-set, eqb-false, eqb-true, ne_eqb}
+use Rattle.std.specs.List.{list_any}
 use Rattle.flash.specs.Lists.{any, filter}
-use Rattle.flash.proofs.Bools.{bool_cases, or-false-left, or-false-right}
-use Rattle.flash.proofs.Searches.{any_of}
+use Rattle.flash.proofs.Bools.{bool_cases}
 
--- whether a slot is among the first
-pub none_more : (t : ℕ) (ts : List ℕ) (i : ℕ) → i < length ts → any (eqb t) (take i ts) ≡ false → t ≢ get_or ts i 0 → any (eqb t) (take (suc i) ts) ≡ false
+-- a slot is looked for from either side
+eqb-swap : (x y : ℕ) → eqb x y ≡ eqb y x
+eqb-swap x y = ⊎_elim
+    (λ (e : eqb x y ≡ true). let same : x ≡ y = eqb-true x y e in rw same refl)
+    (λ (e : eqb x y ≡ false). e ∙ sym (ne_eqb y x (λ q. eqb-false x y e (sym q))))
+    (bool_cases (eqb x y))
+
+pub any-is : (t : ℕ) (ts : List ℕ) → list_any (λ x. eqb x t) ts ≡ any (eqb t) ts
 unfolding any
-none_more t [] i h e ne = absurd (not-suc-le-zero h)
-none_more t (x ∷ xs) zero h e ne = rw (ne_eqb t x ne)
-none_more t (x ∷ xs) (suc i) h e ne =
-    rw (or-false-left (eqb t x) (any (eqb t) (take i xs)) e) (none_more t xs i (omega arith) (or-false-right (eqb t x) (any (eqb t) (take i xs)) e) ne)
-
-pub none-of-none : (t : ℕ) (ts : List ℕ) → any (eqb t) (take 0 ts) ≡ false
-unfolding any
-none-of-none t ts = refl
-
-pub found_at : (t : ℕ) (ts : List ℕ) (count i : ℕ) → i < count → count ≤ length ts → t ≡ get_or ts i 0 → true ≡ any (eqb t) (take count ts)
-found_at t ts count i h l e =
-    sym (any_of (eqb t) (take count ts) i 0 (rw (length-take-le count ts l) h) (rw (get_or-take count ts i 0 h) (eq-eqb t (get_or ts i 0) e)))
+any-is t [] = refl
+any-is t (x ∷ xs) = rw (any-is t xs, eqb-swap x t) refl
 
 -- those that pass a test
 filter_more : (test : ℕ → Bool) (ts : List ℕ) (i : ℕ) → i < length ts

@@ -30,6 +30,9 @@ module _ {before all after : List ℕ} {count : ℕ} {left : List ℕ} (G : Gath
     room = G.room;
   }
 
+  pub gather-end : {spare end : ℕ} → end ≡ count → left ≡ [] → end + spare ≤ slots_length → StartsWith before spare all after end
+  gather-end at e few = rw at (gather-all e (rw at at few))
+
 -- a slot in place of the first
 put_first : (slots : List ℕ) (own count : ℕ) → 1 ≤ count → count ≤ length slots
     → (let rest = drop 1 (take count slots) in (take 1 (set slots 0 own) ≡ own ∷ []) × (take count (set slots 0 own) ≡ own ∷ rest) × (get_or (set slots 0 own) (count - 1) 0 ≡ get_or (own ∷ rest) (length rest) 0))

@@ -7,6 +7,7 @@ pub mod MomentLaws
 pub mod ReadLaws
 pub mod RoundLaws
 pub mod RowLaws
+pub mod SetLaws
 pub mod TableLaws
 pub mod TermLaws
 pub mod LeftLaws

@@ -1,5 +1,5 @@
 -- Rows and tables that are filled entry by entry tell the pages and the sources of each set.
-use Rattle.flash.proofs.Kit.{◌≡◌, refl, sym, ap, ◌∙◌, ⊎_elim, List, ℕ, zero, suc, ◌+◌, ◌-◌, ◌*◌, ◌/◌, ◌%◌, ◌≤◌, ◌<◌, not-suc-le-zero, suc-mul}
+use Rattle.flash.proofs.Kit.{◌≡◌, refl, sym, ap, ◌∙◌, ⊎_elim, List, ℕ, zero, suc, ◌+◌, ◌-◌, ◌*◌, ◌/◌, ◌%◌, ◌≤◌, ◌<◌, not-suc-le-zero}
 use Rattle.flash.proofs.Kit.{div-add-mod', div-lt_iff_lt-mul, mod-lt, add-one, arith, length, get_or, set, take, drop, length-set, length-take}
 use Rattle.flash.proofs.Kit.{length-drop, get_or-take, get_or-drop, get_or-set_same, get_or-set_other}
 use Rattle.flash.specs.Lists.{part}
@@ -47,27 +47,6 @@ module _ (at value : ℕ → ℕ) where
 -- the block of a page number
 pub block-lt : (n m t : ℕ) → 1 ≤ m → t < n * m → t / m < n
 block-lt n m t h l = (div-lt_iff_lt-mul h).1 l
-
--- the block and the page of original k, counted along
-pub record Counts (m k block page : ℕ) : Type 0 where
-  pub is : k ≡ block * m + page
-  pub page-lt : page < m
-
-module _ {m k block page : ℕ} (C : Counts m k block page) where
-  pub counts-more : (page + 1 ≡ m → ⊥) → Counts m (k + 1) block (page + 1)
-  counts-more h = record { is = omega (arith, C.is); page-lt = omega (arith, C.page-lt) }
-
-  pub counts-turn : page + 1 ≡ m → Counts m (k + 1) (block + 1) 0
-  counts-turn h = record { is = omega (arith, C.is, suc-mul block m, add-one block); page-lt = omega arith }
-
-  pub block-is : block ≡ k / m
-  block-is = sym (ap (λ (x : ℕ). x / m) C.is ∙ slot-div m block page C.page-lt)
-
-  pub page-is : page ≡ k % m
-  page-is = sym (ap (λ (x : ℕ). x % m) C.is ∙ slot-mod m block page C.page-lt)
-
-  pub counts-in : (n : ℕ) → k < n * m → n ≤ 64 → m ≤ 64 → (block < 64) × (page < 64)
-  counts-in n h n-high m-high = (omega (arith, block-is, block-lt n m k (omega (arith, C.page-lt)) h), omega (arith, C.page-lt))
 
 -- The page of block b + 1 that is the set's, and the block where it goes, counted from 0.
 abbrev pub page_from : Move → (set b : ℕ) → ℕ

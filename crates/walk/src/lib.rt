@@ -6,6 +6,7 @@
 pub mod apart;
 pub mod moment;
 pub mod rows;
+pub mod set;
 pub mod terms;
 pub mod walk;
 pub mod zero;

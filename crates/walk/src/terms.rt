@@ -2,7 +2,6 @@
 // last can still hold an original of its own, which counts as 255s where it is dropped.
 ghost use Rattle.std.specs.Prelude.{◌≡◌, ◌≢◌, cond, List, ℕ, ◌+◌, ◌-◌, ◌*◌, ◌≤◌, ◌<◌, length, get_or};
 ghost use Rattle.flash.specs.Geometry.{number_at, slot_count};
-ghost use Rattle.flash.specs.inner.Reciprocal.{reciprocal_of};
 ghost use Rattle.split.specs.Split.{set_of};
 ghost use Rattle.split.specs.inner.Mask.{is_marked};
 ghost use Rattle.method.specs.Move.{move_of, AcceptedMove};
@@ -18,8 +17,9 @@ ghost use Rattle.walk.specs.inner.Terms.{plan_by, AddsUp, only_filler, drops_pla
 
 use crate::moment::Moment;
 use crate::walk::{SLOTS, backward_slots, forward_slots, read_slots};
-use flash::casts::wide;
+use flash::quotient::Divisor;
 use flash::sizes::Sizes;
+use method::accepted::Accepted;
 use split::drops::is_marked;
 
 // The pages of the first `count` slots of an array, and a page of 255s where `filler` says so. Two of these cancel.
@@ -123,26 +123,24 @@ fn first_left(
 
 // The terms of original k at a moment. There are marks that have the moment.
 pub fn read_terms(
-    sizes: Sizes,
-    list: &[u16],
-    sets: &[u8],
+    moved: Accepted,
     drops: &[u64],
     moment: Moment,
     k: usize,
     slots: &mut [usize; SLOTS],
 ) -> Addends
-    requires { AcceptedMove (move_of sizes list.now sets.now) × (k < sizes.n * sizes.m) × (length drops.now ≡ 64)
-        × (length slots.old ≡ slots_length) × ((marks : List ℕ) × HasMoment sizes marks moment) }
+    requires { (k < moved.sizes.n * moved.sizes.m) × (length drops.now ≡ 64) × (length slots.old ≡ slots_length)
+        × ((marks : List ℕ) × HasMoment moved.sizes marks moment) }
     ensures count_le_slots_length { (result.count ≤ slots_length) × (length slots.new ≡ slots_length)
-        × ((j : ℕ) → j < result.count → get_or slots.new j 0 < slot_count sizes) }
-    ensures by_index { (marks : List ℕ) → HasMoment sizes marks moment
-        → AddsUp sizes (read_terms (plan_by sizes list.now sets.now drops.now) marks k) slots.new result }
+        × ((j : ℕ) → j < result.count → get_or slots.new j 0 < slot_count moved.entry.sizes) }
+    ensures by_index { let M = moved.entry in (marks : List ℕ) → HasMoment M.sizes marks moment
+        → AddsUp M.sizes (read_terms (plan_by M.sizes M.list.now M.sets.now drops.now) marks k) slots.new result }
 {
     if is_marked(drops, k) {
         return only_filler();
     }
-    let count = read_slots(sizes, list, sets, moment, k, slots);
-    last_left(sizes.m, moment.plain, drops, slots, count)
+    let count = read_slots(moved, moment, k, slots);
+    last_left(moved.sizes.m, moment.plain, drops, slots, count)
 }
 
 // The terms of a write in the forward pass to a block, of c(i) for the block i above it: D(i), and D(pred(i)) where i is not the top.
@@ -166,8 +164,8 @@ pub fn forward_terms(
     let m = sizes.m;
     let i = block + 1;
     let count = forward_slots(sizes, set, pages, sources, i, slots);
-    let u = wide(sources[block]) - 1;
-    let left = rest_left(m, i, drops, u * m + wide(pages[u]), slots, count);
+    let u = usize::from(sources[block]) - 1;
+    let left = rest_left(m, i, drops, u * m + usize::from(pages[u]), slots, count);
     first_left(m, i, drops, slots, left)
 }
 
@@ -175,7 +173,7 @@ pub fn forward_terms(
 // page that goes there is not dropped.
 pub fn backward_terms(
     sizes: Sizes,
-    reciprocal: usize,
+    divisor: Divisor,
     list: &[u16],
     set: usize,
     pages: &[u8],
@@ -185,7 +183,7 @@ pub fn backward_terms(
     slots: &mut [usize; SLOTS],
 ) -> Addends
     requires pages_in { PagesIn sizes.n sizes.m pages.now × ListIn sizes.n sizes.m list.now × (1 ≤ block) × (block ≤ sizes.n)
-        × (page < sizes.m) × (reciprocal ≡ reciprocal_of sizes.m) × (length places.now ≡ 64) }
+        × (page < sizes.m) × (divisor.by ≡ sizes.m) × (length places.now ≡ 64) }
     requires n_bound { (sizes.n ≤ 64) × (sizes.m ≤ 64) × (set < sizes.m) × (length slots.old ≡ slots_length) }
     ensures count_le_slots_length { (result.count ≤ slots_length) × (length slots.new ≡ slots_length)
         × ((j : ℕ) → j < result.count → (get_or slots.new j 0 < slot_count sizes) × (get_or slots.new j 0 ≢ block * sizes.m + page)) }
@@ -199,7 +197,7 @@ pub fn backward_terms(
     if is_marked(places, number) {
         return only_filler();
     }
-    let count = backward_slots(sizes, reciprocal, list, set, pages, block, slots);
+    let count = backward_slots(sizes, divisor, list, set, pages, block, slots);
     Addends {
         count,
         filler: false,

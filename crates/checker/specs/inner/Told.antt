@@ -1,12 +1,12 @@
 -- What the code tells of a number and of a line, at a position of the text.
-use Rattle.std.specs.Prelude.{◌≡◌, Bool, true, false, cond, ◌&&◌, ◌||◌, List, ℕ, ◌+◌, ◌≤◌, ◌<◌, min, eqb, leb, ltb, length, get_or, drop}
+use Rattle.std.specs.Prelude.{◌≡◌, Bool, true, false, cond, Option, Some, None, ◌&&◌, ◌||◌, List, ℕ, ◌+◌, ◌≤◌, ◌<◌, min, eqb, leb, ltb, length, get_or, drop}
 use Rattle.std.specs.Int.Bits.{bit_xor}
 use Rattle.flash.specs.Lists.{all}
 use Rattle.listing.specs.Numbers.{spelled}
 use Rattle.checker.specs.declared.number.Number.{Number}
 use Rattle.checker.specs.declared.line.Originals.{Originals}
 use Rattle.checker.specs.declared.line.Told.{Told}
-use Rattle.checker.specs.declared.line.Told.TheVariants.{Write, Erase, End, Other}
+use Rattle.checker.specs.declared.line.Told.TheVariants.{Write, Erase, End}
 use Rattle.checker.specs.Lines.{leading, is_number, fields, behind_fields, is_rising, Line, write, erase, end, other, Read}
 use Rattle.checker.specs.Pages.{mask_of}
 
@@ -14,17 +14,15 @@ use Rattle.checker.specs.Pages.{mask_of}
 abbrev pub cap : ℕ
 cap = 18446744073709551610
 
--- the number at a position, and the position behind it
-abbrev pub number_at : (text : List ℕ) → (at : ℕ) → Number
-number_at text at = record {
-  good = is_number (leading (drop at text));
-  value = min (spelled 0 (leading (drop at text))) cap;
-  next = at + length (leading (drop at text));
-}
+-- the number at a position, if one stands there, and the position behind it
+abbrev pub number_at : (text : List ℕ) → (at : ℕ) → Option Number
+number_at text at =
+    let digits = leading (drop at text) in
+    cond (is_number digits) (Some (record { value = min (spelled 0 digits) cap; next = at + length digits })) None
 
 -- the field at a position
-unfoldable pub field_at : (text : List ℕ) → (at : ℕ) → Number
-field_at text at = cond (eqb (get_or text at 0) 32) (number_at text (at + 1)) (record { good = false; value = 0; next = at })
+unfoldable pub field_at : (text : List ℕ) → (at : ℕ) → Option Number
+field_at text at = cond (eqb (get_or text at 0) 32) (number_at text (at + 1)) None
 
 -- what is gathered of originals once `mask` and `least` are known of those before
 pub record Gathering : Type 0 where
@@ -41,12 +39,17 @@ gathering count left least mask text =
       rest = behind_fields left text;
     }
 
-pub record Gathered (text : List ℕ) (at count : ℕ) (r : Originals) : Type 0 where
-  pub good-is : r.good ≡ (gathering count count 0 0 (drop at text)).good
-  pub mask_is : r.good ≡ true → r.mask ≡ (gathering count count 0 0 (drop at text)).mask
-  pub rest-is : r.good ≡ true → drop r.next text ≡ (gathering count count 0 0 (drop at text)).rest
+-- originals that are good
+pub record Whole (text : List ℕ) (at count : ℕ) (r : Originals) : Type 0 where
+  pub good-is : (gathering count count 0 0 (drop at text)).good ≡ true
+  pub mask_is : r.mask ≡ (gathering count count 0 0 (drop at text)).mask
+  pub rest-is : drop r.next text ≡ (gathering count count 0 0 (drop at text)).rest
   pub low : at ≤ r.next
   pub high : r.next ≤ length text
+
+abbrev pub Gathered : (text : List ℕ) → (at count : ℕ) → Option Originals → Type 0
+Gathered text at count (Some r) = Whole text at count r
+Gathered text at count None = (gathering count count 0 0 (drop at text)).good ≡ false
 
 -- a line with the mask of its originals, and with counts up to the cap
 pub data Said : Type 0 where
@@ -65,15 +68,15 @@ abbrev pub said_of : Read → Said
 said_of read = said read.line read.rest
 
 -- the same as the code tells it
-abbrev pub told_as : (text : List ℕ) → Told → Said
-told_as text (Write block page mask next) = wrote block page mask (drop next text)
-told_as text (Erase block next) = erased block (drop next text)
-told_as text (End writes erases next) = ended writes erases (drop next text)
-told_as text Other = unread
+abbrev pub told_as : (text : List ℕ) → Option Told → Said
+told_as text (Some (Write block page mask next)) = wrote block page mask (drop next text)
+told_as text (Some (Erase block next)) = erased block (drop next text)
+told_as text (Some (End writes erases next)) = ended writes erases (drop next text)
+told_as text None = unread
 
 -- the position behind a line lies within the text, and what the line names within the sizes
-abbrev pub Ahead : (n m at size : ℕ) → Told → Type 0
-Ahead n m at size (Write block page mask next) = (at < next) × (next ≤ size) × (block ≤ n) × (page < m)
-Ahead n m at size (Erase block next) = (at < next) × (next ≤ size) × (block ≤ n)
-Ahead n m at size (End writes erases next) = (at < next) × (next ≤ size)
-Ahead n m at size Other = Unit {0}
+abbrev pub Ahead : (n m at size : ℕ) → Option Told → Type 0
+Ahead n m at size (Some (Write block page mask next)) = (at < next) × (next ≤ size) × (block ≤ n) × (page < m)
+Ahead n m at size (Some (Erase block next)) = (at < next) × (next ≤ size) × (block ≤ n)
+Ahead n m at size (Some (End writes erases next)) = (at < next) × (next ≤ size)
+Ahead n m at size None = Unit {0}

@@ -11,9 +11,9 @@ unfoldable pub weight_from : (text : List ℕ) → (from count : ℕ) → ℕ
 weight_from text from zero = 0
 weight_from text from (suc i) = weight_from text from i + (weight_of (get_or text (from + 2 * i) 0) * 16 + weight_of (get_or text (from + 2 * i + 1) 0))
 
-pub record Weights (weights : List ℕ) : Type 0 where
-  pub length-is : length weights ≡ 256
-  pub weigh : (code : ℕ) → code < 256 → get_or weights code 0 ≡ weight_of code
+-- a table has the weight of each code
+abbrev pub Weigh : (table : List ℕ) → Type 0
+Weigh table = (code : ℕ) → code < 256 → get_or table code 0 ≡ weight_of code
 
 abbrev pub AreDigits : (text : List ℕ) → (from count : ℕ) → Type 0
 AreDigits text from count = (i : ℕ) → i < count → is_digit (get_or text (from + i) 0) ≡ true

@@ -1,11 +1,13 @@
 -- What the passes over a text find: the contracts of the functions inside the reader.
-use Rattle.std.specs.Prelude.{◌≡◌, Bool, true, false, cond, ◌&&◌, List, [], ◌∷◌, ◌++◌, map, ◌⊎◌, ℕ, ◌+◌, ◌*◌, ◌≤◌, ◌<◌, eqb, length, get_or, take, drop}
+use Rattle.std.specs.Prelude.{◌≡◌, Bool, true, false, cond, ◌&&◌, List, [], ◌∷◌, ◌++◌, map, ℕ, ◌+◌, ◌*◌, ◌≤◌, ◌<◌, eqb, length, take, drop, IsSome}
 use Rattle.std.proofs.Math.Option.{Option, none, some}
 use Rattle.flash.specs.Lists.{any}
+use Rattle.flash.specs.Refusals.{number_in}
 use Rattle.intel_hex.specs.Records.{Record}
 use Rattle.intel_hex.specs.Reading.{records_in, State, Outcome, going, fault, is_given, is_outside, is_repeated}
 use Rattle.intel_hex.specs.Reading.{give, with_upper, at_end, start, number_of, byte_of, bytes_of}
 use Rattle.intel_hex.specs.inner.Lines.{kind_at, size_at, address_at, word_from, stop_at, next_from, bytes_at, Good}
+use Rattle.intel_hex.specs.inner.Tops.{Tops, top_of}
 use Rattle.intel_hex.specs.declared.survey.Found.{Found}
 
 -- ---- a judge who looks for repeated bytes in some spans of 64 KiB only: those whose upper half is `looked` at
@@ -79,44 +81,28 @@ pub record Goes (text : List ℕ) (at upper size half offset count next : ℕ) :
   pub span-start : 1 ≤ count → half * 65536 ≤ offset
   pub span-end : 1 ≤ count → offset + count ≤ half * 65536 + 65536
 
--- the record at a position decides the number, or the pass goes on behind it
-abbrev pub goes_on : ℕ
-goes_on = 255
-
+-- the pass goes on behind the record
 pub record Steps (text : List ℕ) (at upper size : ℕ) : Type 0 where
   pub good : Good text at
   pub goes : Goes text at upper size (half_at text at upper) (offset_at text at upper) (count_at text at) (next_at text at)
 
-pub record JudgeIs (text : List ℕ) (at upper size number : ℕ) : Type 0 where
-  pub stops : (number ≡ goes_on → ⊥) → Stops text at upper size number
-  pub steps : number ≡ goes_on → Steps text at upper size
-
 -- ---- whole passes
 -- A walk from a position to the end of a survey: each record before it was judged.
 pub data Walk (text : List ℕ) (found : Found) : (at upper : ℕ) → Type 0 where
-  arrived : {at upper : ℕ} → at ≡ found.end → Stops text at upper found.size found.number → Walk text found at upper
+  arrived : {at upper : ℕ} → at ≡ found.end → Stops text at upper found.size (number_in found.verdict) → Walk text found at upper
   walks : {at upper : ℕ} → Steps text at upper found.size → Walk text found (next_at text at) (half_at text at upper) → Walk text found at upper
 
--- A span's records rise: `top` is where what is given ends. A top of 4294967295 says that they do not.
-abbrev pub fell : ℕ
-fell = 4294967295
-
-pub record NoteIs (tops : List ℕ) (half offset count : ℕ) (after : List ℕ) : Type 0 where
-  pub none : count ≡ 0 → after ≡ tops
-  pub here : 1 ≤ count → (get_or after half 0 ≡ fell) ⊎ ((get_or tops half 0 ≤ offset) × (get_or after half 0 ≡ offset + count))
-  pub other : (w : ℕ) → (w ≡ half → ⊥) → get_or after w 0 ≡ get_or tops w 0
-
 -- The number without repeated bytes. Where a span's records rise, its judge meets none.
-pub record SurveyIs (text : List ℕ) (size : ℕ) (found : Found) (tops : List ℕ) : Type 0 where
+pub record SurveyIs (text : List ℕ) (size : ℕ) (found : Found) (tops : Tops) : Type 0 where
   pub size_is : found.size ≡ size
   pub walk : Walk text found 0 0
-  pub number_is : found.number ≡ number_of (judged_by nowhere size text)
-  pub rising : (w : ℕ) → w < 257 → get_or tops w 0 < fell → number_of (judged_by (only_in w) size text) ≡ found.number
+  pub number_is : number_in found.verdict ≡ number_of (judged_by nowhere size text)
+  pub rising : (w : ℕ) → w < 257 → IsSome (top_of tops w) → number_of (judged_by (only_in w) size text) ≡ number_in found.verdict
 
 -- whether the judge of one span meets a repeated byte
 pub record SpanIs (text : List ℕ) (found : Found) (w : ℕ) (r : Bool) : Type 0 where
   pub repeated : r ≡ true → number_of (judged_by (only_in w) found.size text) ≡ 10
-  pub none : r ≡ false → number_of (judged_by (only_in w) found.size text) ≡ found.number
+  pub none : r ≡ false → number_of (judged_by (only_in w) found.size text) ≡ number_in found.verdict
 
 pub record RepeatsIs (text : List ℕ) (size : ℕ) (r : Bool) : Type 0 where
   pub found : r ≡ true → number_of (judged_by everywhere size text) ≡ 10

@@ -1,19 +1,17 @@
 -- What a step is lent: the tables of its pass, and the dropped pages as bits.
-use Rattle.std.specs.Prelude.{◌≡◌, Bool, true, false, ◌||◌, List, ℕ, ◌-◌, ◌<◌, min, length, get_or}
+use Rattle.std.specs.Prelude.{◌≡◌, Bool, true, false, List, ℕ, ◌-◌, ◌<◌, min, get_or}
 use Rattle.flash.specs.declared.sizes.Sizes.{Sizes}
 use Rattle.flash.specs.Geometry.{slot, number_at, original_count}
 use Rattle.split.specs.Split.{set_of}
 use Rattle.split.specs.inner.Rows.{ByDestination}
 use Rattle.split.specs.inner.Mask.{is_marked}
-use Rattle.method.specs.Move.{Move, AcceptedMove}
+use Rattle.method.specs.Move.{Move}
 use Rattle.method.specs.Cycle.{sent_to}
 use Rattle.method.specs.Place.{filling, filled}
-use Rattle.walk.specs.inner.Rows.{table_length, PagesTable, SourcesTable, PagesRow, SourcesRow}
+use Rattle.walk.specs.inner.Rows.{SourcesTable, PagesRow, SourcesRow}
 
--- The bits of the places where dropped pages go are those of the pages. There are as many as pages in the largest move.
+-- the bits of the places where dropped pages go are those of the pages
 pub record DropsIn (M : Move) (drops places : List ℕ) : Type 0 where
-  pub drops-length : length drops ≡ 64
-  pub places-length : length places ≡ 64
   pub places-tell : (k : ℕ) → k < original_count M.sizes → is_marked places (get_or M.list k 0) ≡ is_marked drops k
 
 -- the table that a pass needs besides that of the pages: the sources, or the sets by destination
@@ -21,24 +19,14 @@ pub record OtherTable (M : Move) (is_backward : Bool) (other : List ℕ) : Type 
   pub sources-tell : is_backward ≡ false → SourcesTable M other
   pub sets-tell : is_backward ≡ true → ByDestination M.list M.sets other
 
--- What the steps of a pass are given: the tables of the move; or, where few steps are taken, the sets by destination alone, and the rows of a set
--- are filled when a page is written.
-pub record PassTables (M : Move) (few is_backward : Bool) (pages other drops places : List ℕ) : Type 0 where
-  pub accepted : AcceptedMove M
-  pub drops-in : DropsIn M drops places
-  pub pages-tell : few ≡ false → PagesTable M pages
-  pub other-tells : OtherTable M (is_backward || few) other
-  pub room : length other ≡ table_length
-
 -- the set of a page that is written: its number, or the set of the original that the list sends there
 abbrev pub SetWritten : (M : Move) (is_backward : Bool) (block page set : ℕ) → Type 0
 SetWritten M is_backward block page set =
     (is_backward ≡ false → set ≡ page) × (is_backward ≡ true → set ≡ set_of M.sets (sent_to M (number_at M.sizes.m block page)))
 
 -- the rows of that set
-pub record SetRows (M : Move) (is_backward : Bool) (block page set : ℕ) (pages sources drops places : List ℕ) : Type 0 where
-  pub accepted : AcceptedMove M
-  pub drops-in : DropsIn M drops places
+pub record SetRows (M : Move) (is_backward : Bool) (block page set : ℕ) (pages sources : List ℕ) : Type 0 where
+  pub set_in : set < M.sizes.m
   pub written : SetWritten M is_backward block page set
   pub pages-tell : PagesRow M set pages
   pub sources-tell : is_backward ≡ false → SourcesRow M set sources

@@ -2,7 +2,7 @@
 use Rattle.std.specs.Prelude.{◌≡◌, ◌≢◌, false, cond, ◌&&◌, not, List, ℕ, ◌+◌, ◌-◌, ◌*◌, ◌≤◌, ◌<◌, leb, length, get_or}
 use Rattle.split.specs.Drops.{is_dropped}
 use Rattle.split.specs.Split.{source_block, dest_block}
-use Rattle.orders.specs.declared.survey.Found.{Found}
+use Rattle.orders.specs.declared.survey.Least.{Least}
 
 -- entry b is the place of block b, from 1 on, or 0 where the first `count` of the order do not name it
 pub record Placed (order : List ℕ) (count : ℕ) (places : List ℕ) : Type 0 where
@@ -24,7 +24,7 @@ back_to m list places k =
     cond (not (is_dropped list k) && leb (target + 2) (get_or places (source_block m k) 0)) target 0
 
 -- of the first `count` pages: the highest such place, and the first page that goes back to it
-pub record Surveyed (m : ℕ) (list places : List ℕ) (count : ℕ) (found : Found) : Type 0 where
+pub record Surveyed (m : ℕ) (list places : List ℕ) (count : ℕ) (found : Least) : Type 0 where
   pub most : (k : ℕ) → k < count → back_to m list places k ≤ found.y
   pub met : found.y ≢ 0 → (found.page < count) × (back_to m list places found.page ≡ found.y)
   pub first : (k : ℕ) → k < found.page → back_to m list places k < found.y

@@ -1,6 +1,5 @@
 -- `mover_best_order` meets its contract: it hands on what the call returned for the entries decoded.
 use Rattle.flash.proofs.Kit.{sym, arith, length-take-le}
-use Rattle.orders.specs.inner.Calls.{best_as}
 use Rattle.c_api.proofs.BytesLaws.{count_fits, front-is}
 use Rattle.c_api.proofs.OrderCallLaws.{best-exported, found-small}
 use Rattle.c_api.proofs.order_call.mover_best_order.Goals as goal
@@ -14,13 +13,18 @@ slice_bounds-best_order-end c =
     sym (length-take-le _ d.new.list (omega (arith, count_fits _ _ _ d.ensures.0, d.auto.list)))
 
 -- what is told fits into 32 bits
-pub overflow_cast-best : goal.overflow_cast-best
-overflow_cast-best c = let small = found-small _ _ _ _ (best_as c.best_order-told.result _) c.best_order-told.ensures in omega arith
+pub overflow_cast-y : goal.overflow_cast-y
+overflow_cast-y c = let small = found-small _ _ _ _ _ c.in-Ok.ensures in omega arith
 
-pub overflow_cast-lowest : goal.overflow_cast-lowest
-overflow_cast-lowest c = let small = found-small _ _ _ _ (best_as c.best_order-told.result _) c.best_order-told.ensures in omega arith
+pub overflow_cast-page : goal.overflow_cast-page
+overflow_cast-page c = let small = found-small _ _ _ _ _ c.in-Ok.ensures in omega arith
 
-pub returns : goal.returns
-returns c =
+pub returns-in-Ok : goal.returns-in-Ok
+returns-in-Ok c =
     let d = c.decode-count.ensures in
-    best-exported _ _ _ _ _ (front-is _ _ _ _ d.0 d.1) (best_as c.best_order-told.result _) c.best_order-told.ensures
+    best-exported _ _ _ _ _ (front-is _ _ _ _ d.0 d.1) _ c.in-Ok.ensures
+
+pub returns-in-Err : goal.returns-in-Err
+returns-in-Err c =
+    let d = c.decode-count.ensures in
+    rw c.number.ensures (best-exported _ _ _ _ _ (front-is _ _ _ _ d.0 d.1) _ c.in-Err.ensures)

@@ -12,7 +12,14 @@ slice_bounds-read-end c =
     let d = c.decode-length in
     sym (length-take-le _ d.new.list (omega (arith, count_fits _ _ _ d.ensures.0, d.auto.list)))
 
-pub returns : goal.returns
-returns c =
+pub returns-in-Ok : goal.returns-in-Ok
+returns-in-Ok c =
     let d = c.decode-length.ensures in
-    rw c.sizes_of.ensures at (read-exported _ _ _ _ _ (front-is _ _ _ _ d.0 d.1) _ _ _ _ c.read-rebuilt.ensures.work_after)
+    let told = rw c.in-Ok.is at c.read-answer.ensures.work_after in
+    rw c.sizes_of.ensures at (read-exported _ _ _ _ _ (front-is _ _ _ _ d.0 d.1) _ _ _ _ told)
+
+pub returns-in-Err : goal.returns-in-Err
+returns-in-Err c =
+    let d = c.decode-length.ensures in
+    let told = rw c.in-Err.is at c.read-answer.ensures.work_after in
+    rw c.number.ensures (rw c.sizes_of.ensures at (read-exported _ _ _ _ _ (front-is _ _ _ _ d.0 d.1) _ _ _ _ told))

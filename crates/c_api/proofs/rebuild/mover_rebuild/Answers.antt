@@ -15,4 +15,4 @@ slice_bounds-rebuild-end c =
 pub returns : goal.returns
 returns c =
     let d = c.decode-length.ensures in
-    rw c.sizes_of.ensures at (rebuild-exported _ _ _ _ _ (front-is _ _ _ _ d.0 d.1) _ _ _ _ _ c.rebuild.ensures)
+    rw c.number.ensures (rw c.sizes_of.ensures at (rebuild-exported _ _ _ _ _ (front-is _ _ _ _ d.0 d.1) _ _ _ _ _ c.rebuild.ensures))

@@ -5,7 +5,7 @@ use Rattle.c_api.proofs.ExportLaws.{refresh-other-length, refresh-done}
 use Rattle.c_api.proofs.refresh.mover_wear_refresh.Goals as goal
 
 pub returns-then-wear-ne-WEAR : goal.returns-then-wear-ne-WEAR
-returns-then-wear-ne-WEAR c = refresh-other-length _ c.if-wear-ne-WEAR.true
+returns-then-wear-ne-WEAR c = rw c.number.ensures (refresh-other-length _ c.if-wear-ne-WEAR.true)
 
 pub returns : goal.returns
 returns c =

@@ -15,4 +15,4 @@ slice_bounds-split-end c =
 pub returns : goal.returns
 returns c =
     let d = c.decode-count.ensures in
-    rw c.sizes_of.ensures at (split-exported _ _ _ _ _ (front-is _ _ _ _ d.0 d.1) _ c.split.ensures.sets_after)
+    rw c.number.ensures (rw c.sizes_of.ensures at (split-exported _ _ _ _ _ (front-is _ _ _ _ d.0 d.1) _ c.split.ensures.sets_after))

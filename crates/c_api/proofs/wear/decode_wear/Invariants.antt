@@ -1,11 +1,7 @@
 -- `decode_wear` reads a counter a turn, and then the pair.
-use Rattle.flash.proofs.Kit.{◌≡◌, ◌++◌, ◌-◌, ◌≤◌, length, take, drop}
+use Rattle.flash.proofs.Kit.{◌≡◌, ◌++◌, take, drop}
 use Rattle.c_api.specs.Wear.{wear_of}
 use Rattle.c_api.proofs.wear.decode_wear.Given as goal
 
 abbrev pub invariant-loop-b : goal.invariant-loop-b
-invariant-loop-b l =
-    (l.counters ≡ take l.b (wear_of l.bytes).counters ++ drop l.b l.initial.counters) × (l.b ≤ 65) × (length l.initial.counters ≡ 65)
-
-abbrev pub decreases-loop-b : goal.decreases-loop-b
-decreases-loop-b l = 65 - l.b
+invariant-loop-b l = l.counter-items ≡ take l.b (wear_of l.bytes).counters ++ drop l.b l.initial.counter-items

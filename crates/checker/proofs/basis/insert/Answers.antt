@@ -1,31 +1,16 @@
 -- `insert` goes from lowest bit to lowest bit, until a row is empty or nothing is left.
-use Rattle.flash.proofs.Kit.{refl, sym, ap, ◌∙◌, subst, ℕ, ◌+◌, ◌<◌, arith}
+use Rattle.flash.proofs.Kit.{sym, ap, ◌∙◌, subst, ℕ, ◌+◌, arith}
 use Rattle.checker.specs.inner.Elimination.{Echelon, filled_rows, inserted}
 use Rattle.checker.proofs.FilledLaws.{filled-few}
-use Rattle.checker.proofs.RowTurns.{inserted-none, bit-inside, turn-put, turn-add}
+use Rattle.checker.proofs.RowTurns.{inserted-none, turn-put, turn-add}
 use Rattle.checker.proofs.basis.insert.Goals as goal
 use Rattle.checker.proofs.basis.insert.Lts as lts
 use Rattle.checker.proofs.basis.insert.Reads as reads
 use Rattle.checker.proofs.basis.insert.Tie as tie
 
-pub loop-rest-init : goal.loop-rest-init
-loop-rest-init c = (refl, omega arith, refl)
-
 echelon : (c : lts.After-lowest_bit tie.the-claims reads.Pre reads.Post goal.the-invariant-loop-rest goal.the-decreases-loop-rest tie.handed_clauses)
     → Echelon c.loop-rest.basis
 echelon c = subst Echelon (sym c.loop-rest.invariant.0) c.requires.0
-
-within : (c : lts.After-lowest_bit tie.the-claims reads.Pre reads.Post goal.the-invariant-loop-rest goal.the-decreases-loop-rest tie.handed_clauses)
-    → c.lowest_bit-i.result < 64
-within c =
-    let l = c.loop-rest in
-    bit-inside l.basis (echelon c) l.rest c.loop-rest-test.true l.invariant.1 c.lowest_bit-i.result c.lowest_bit-i.ensures
-
-pub offset_bounds-basis-i : goal.offset_bounds-basis-i
-offset_bounds-basis-i c = record { fits = omega (arith, within c) }
-
-pub offset_bounds-basis-i-then-row-eq0 : goal.offset_bounds-basis-i-then-row-eq0
-offset_bounds-basis-i-then-row-eq0 c = record { fits = omega (arith, within c.before.before.before) }
 
 pub overflow_add-result : goal.overflow_add-result
 overflow_add-result c =
@@ -58,9 +43,3 @@ returns c =
       value = c.requires.1 ∙ ap filled_rows (sym l.invariant.0);
       basis_after = sym (l.invariant.2 ∙ ap (inserted 0 l.basis) c.loop-rest-test.false ∙ inserted-none 0 l.basis);
     }
-
-pub bounds-basis-i : goal.bounds-basis-i
-bounds-basis-i c = within c.before.before
-
-pub bounds-basis-i-then-row-eq0 : goal.bounds-basis-i-then-row-eq0
-bounds-basis-i-then-row-eq0 c = within c.before.before.before

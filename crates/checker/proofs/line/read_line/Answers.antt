@@ -3,11 +3,6 @@ use Rattle.flash.proofs.Kit.{◌+◌, sym, ◌∙◌, arith, length}
 use Rattle.checker.proofs.StepLaws.{end-within, ahead-from, line-end, line_step}
 use Rattle.checker.proofs.line.read_line.Goals as goal
 
-pub overflow_add-at : goal.overflow_add-at
-overflow_add-at c =
-    let a = c.args in
-    omega (arith, end-within a.text.now a.at (sym c.is_end.ensures ∙ c.if-is_end.true))
-
 pub read_end-requires : goal.read_end-requires
 read_end-requires c =
     let a = c.args in

@@ -1,10 +1,7 @@
 -- `is_requested` asks for both halves.
-use Rattle.flash.proofs.Kit.{sym, ◌∙◌, arith}
+use Rattle.flash.proofs.Kit.{sym, ◌∙◌}
 use Rattle.checker.specs.Pages.{is_requested}
 use Rattle.checker.proofs.pages.is_requested.Goals as goal
-
-pub are_placed-requires : goal.are_placed-requires
-are_placed-requires c = record { le_m = (omega arith, omega arith); by_index = c.requires.by_index }
 
 pub returns-then-are_placed : goal.returns-then-are_placed
 unfolding is_requested
@@ -12,4 +9,4 @@ returns-then-are_placed c = rw (sym c.are_placed.ensures ∙ c.if-are_placed.tru
 
 pub returns-else-are_placed : goal.returns-else-are_placed
 unfolding is_requested
-returns-else-are_placed c = rw (sym c.are_placed.ensures ∙ c.if-are_placed.false)
+returns-else-are_placed c = rw (sym c.are_placed.ensures ∙ c.if-are_placed.false) c.if-are_placed.false

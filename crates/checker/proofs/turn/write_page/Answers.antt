@@ -3,11 +3,6 @@ use Rattle.flash.proofs.Kit.{sym, ◌∙◌}
 use Rattle.checker.specs.Pages.{page_written}
 use Rattle.checker.proofs.turn.write_page.Goals as goal
 
-pub returns-then-is_bad_write : goal.returns-then-is_bad_write
-returns-then-is_bad_write c =
-    let bad = sym c.is_bad_write.ensures ∙ c.if-is_bad_write.true in
-    record { value = rw (c.fault.ensures, bad); pages_after = rw bad }
-
 pub returns : goal.returns
 unfolding page_written
 returns c = let good = sym c.is_bad_write.ensures ∙ c.if-is_bad_write.false in record { value = rw good; pages_after = rw good }

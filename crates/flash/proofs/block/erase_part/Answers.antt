@@ -8,4 +8,4 @@ pub returns : goal.returns
 returns c =
     let a = c.args in
     let part = c.fill in
-    filled-back a.size a.block erased a.bytes.now part.new.part (omega arith) part.ensures
+    filled-back a.size a.block erased a.bytes.now part.new.self (omega arith) (part.ensures.after (λ y e. e))

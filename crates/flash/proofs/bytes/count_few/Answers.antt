@@ -6,25 +6,19 @@ use Rattle.flash.proofs.Bools.{one-or-0, one_at_most}
 use Rattle.flash.proofs.Written.{written-more, written-most}
 use Rattle.flash.proofs.bytes.count_few.Goals as goal
 
-pub loop-i-init : goal.loop-i-init
+pub loop-byte-init : goal.loop-byte-init
 unfolding written_bytes count
-loop-i-init c = (omega arith, refl, omega arith)
+loop-byte-init c = (refl, omega arith)
 
 pub overflow_add-count : goal.overflow_add-count
 overflow_add-count c =
-    let byte = get_or c.args.bytes.now c.loop-i.i 0 in
+    let byte = get_or c.args.bytes.now c.loop-byte.byte-index 0 in
     record { fits = omega (arith, one_at_most (not (eqb byte 255))) }
 
-pub loop-i-preserved : goal.loop-i-preserved
-loop-i-preserved c =
+pub loop-byte-preserved : goal.loop-byte-preserved
+loop-byte-preserved c =
     let a = c.args in
-    let l = c.loop-i in
-    let more = written-more a.bytes.now l.i (omega arith) in
-    let same = one-or-0 (not (eqb (get_or a.bytes.now l.i 0) 255)) in
-    (omega arith, rw (same, l.invariant.1) (sym more), omega (arith, more, same, l.invariant.1, written-most (take (l.i + 1) a.bytes.now), length-take-le (l.i + 1) a.bytes.now (omega arith)))
-
-pub returns : goal.returns
-returns c =
-    let l = c.loop-i in
-    let end : l.i ≡ length c.args.bytes.now = omega arith in
-    l.invariant.1 ∙ rw (end, take-length)
+    let l = c.loop-byte in
+    let more = written-more a.bytes.now l.byte-index (omega arith) in
+    let same = one-or-0 (not (eqb (get_or a.bytes.now l.byte-index 0) 255)) in
+    (rw (same, l.invariant.0) (sym more), omega (arith, more, same, l.invariant.0, written-most (take (l.byte-index + 1) a.bytes.now), length-take-le (l.byte-index + 1) a.bytes.now (omega arith)))

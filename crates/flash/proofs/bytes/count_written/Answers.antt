@@ -13,7 +13,7 @@ pub loop-i-preserved : goal.loop-i-preserved
 loop-i-preserved c =
     let a = c.args in
     let l = c.loop-i in
-    let here = c.wide-count.ensures ∙ c.count_few.ensures in
+    let here = c.from-count.ensures ∙ c.count_few.ensures in
     let more = written-part a.page.now l.i (l.i + 128) (omega arith) in
     let next = rw (← l.invariant.1, ← here) at more in
     (omega arith, next, omega (arith, next, written-most (take (l.i + 128) a.page.now), length-take-le (l.i + 128) a.page.now (omega arith)))
@@ -22,5 +22,5 @@ pub returns : goal.returns
 returns c =
     let a = c.args in
     let l = c.loop-i in
-    let here = c.wide.ensures ∙ c.count_few-2.ensures in
+    let here = c.from.ensures ∙ c.count_few-2.ensures in
     rw (l.invariant.1, here) (written-part a.page.now l.i (length a.page.now) (omega arith) ∙ rw take-length)

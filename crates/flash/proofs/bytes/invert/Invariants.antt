@@ -8,8 +8,5 @@ use Rattle.flash.proofs.bytes.invert.Given as goal
 abbrev pub inverted : List ℕ → List ℕ
 inverted page = replicate (length page) 255 ⊕ page
 
-abbrev pub invariant-loop-i : goal.invariant-loop-i
-invariant-loop-i l = (l.page ≡ take l.i (inverted l.initial.page) ++ drop l.i l.initial.page) × (l.i ≤ length l.initial.page) × (length l.page ≡ length l.initial.page)
-
-abbrev pub decreases-loop-i : goal.decreases-loop-i
-decreases-loop-i l = length l.initial.page - l.i
+abbrev pub invariant-loop-byte : goal.invariant-loop-byte
+invariant-loop-byte l = l.page ≡ take l.byte-index (inverted l.initial.page) ++ drop l.byte-index l.initial.page

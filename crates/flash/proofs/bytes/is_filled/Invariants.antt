@@ -4,9 +4,6 @@ use Rattle.flash.specs.Lists.{all}
 use Rattle.flash.proofs.bytes.is_filled.Given as goal
 
 -- no bit differs while each byte before i is the value
-abbrev pub invariant-loop-i : goal.invariant-loop-i
-invariant-loop-i l =
-    (l.i ≤ length l.bytes) × (eqb l.different 0 ≡ all (λ byte. eqb byte l.value) (take l.i l.bytes))
-
-abbrev pub decreases-loop-i : goal.decreases-loop-i
-decreases-loop-i l = length l.bytes - l.i
+abbrev pub invariant-loop-byte : goal.invariant-loop-byte
+invariant-loop-byte l =
+    (eqb l.different 0 ≡ all (λ byte. eqb byte l.value) (take l.byte-index l.bytes))

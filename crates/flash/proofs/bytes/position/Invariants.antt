@@ -4,7 +4,4 @@ use Rattle.flash.proofs.Loops.{Placed}
 use Rattle.flash.proofs.bytes.position.Given as goal
 
 abbrev pub invariant-loop-i : goal.invariant-loop-i
-invariant-loop-i l = (l.i ≤ length l.bytes) × Placed l.bytes l.value l.found l.i
-
-abbrev pub decreases-loop-i : goal.decreases-loop-i
-decreases-loop-i l = length l.bytes - l.i
+invariant-loop-i l = Placed l.bytes l.value l.found l.i

@@ -24,8 +24,8 @@ loop-i-preserved c =
     let n-is : l.i + 128 - l.i ≡ 128 = omega arith in
     let fits : l.i + 128 ≤ length a.page.now = omega (arith, c.requires.1, c.loop-i-test.true) in
     let m = made a.add a.page.now sum l.page _ l.i 128 (whole ∙ sym c.requires.1) fits l.invariant.0 (rw n-is at mk.ensures.0) in
-    let counted = rw (← l.invariant.1, ← mk.ensures.1, ← c.wide-written.ensures) at m.counted in (
-      rw (n-is, c.copy.ensures) m.put,
+    let counted = rw (← l.invariant.1, ← mk.ensures.1, ← c.from-written.ensures) at m.counted in (
+      rw (n-is, c.copy_from_slice.ensures.after) m.put,
       counted,
       omega (arith, counted, written-most (take (l.i + 128) new), length-take (l.i + 128) new),
       omega arith,
@@ -54,5 +54,5 @@ returns c =
     let m = made a.add a.page.now (sum_of a.store.now a.p a.terms) l.page _ l.i n (whole ∙ sym c.requires.1) (omega arith)
     l.invariant.0 (rw rest at sp.ensures) in
     let page-is = m.put ∙ front-all new a.page.now (l.i + n) size (omega arith) in
-    let counted = c.wide.ensures ∙ c.count_few.ensures in
+    let counted = c.from.ensures ∙ c.count_few.ensures in
     (page-is, rest-counted new _ l.i a.p _ _ page-is (omega arith) (omega arith) l.invariant.1 counted ∙ ap written_bytes (sym page-is))

@@ -30,8 +30,8 @@ loop-i-preserved c =
     let fits : l.i + 128 ≤ a.p = omega (arith, c.loop-i-test.true) in
     let m = slot-piece a.p a.to a.store.now l.store a.terms a.add l.i c.requires.2 c.requires.1 l.invariant.3 l.invariant.0
     128 _ fits (rw n-is at mk.ensures.0) in
-    let counted = rw (← l.invariant.1, ← mk.ensures.1, ← c.wide-written.ensures) at m.counted in (
-      rw (n-is, c.copy.ensures)
+    let counted = rw (← l.invariant.1, ← mk.ensures.1, ← c.from-written.ensures) at m.counted in (
+      rw (n-is, c.copy_from_slice.ensures.after)
           (slot-put a.p a.to a.store.now l.store a.terms a.add l.i c.requires.2 c.requires.1 l.invariant.3 l.invariant.0 128 _ fits m),
       counted,
       omega (arith, counted, written-most (take (l.i + 128) new), length-take (l.i + 128) new),
@@ -70,5 +70,5 @@ returns c =
     let page-is = ap (part a.p a.to) Store-is ∙ part-set_part a.p a.to a.store.now new c.requires.2 (size ∙ whole) in
     let n-is : a.to * a.p + a.p - (a.to * a.p + l.i) ≡ a.p - l.i = omega arith in
     let lent = lent-piece a.p a.to l.i (a.p - l.i) sw.new.store (omega arith) in
-    let rest = rw (n-is, lent) at (c.wide.ensures ∙ c.count_few.ensures) in
+    let rest = rw (n-is, lent) at (c.from.ensures ∙ c.count_few.ensures) in
     (Store-is, rest-counted new (part a.p a.to sw.new.store) l.i a.p _ _ page-is (omega arith) l.invariant.3 l.invariant.1 rest)

@@ -20,7 +20,7 @@ module _ (store : List ℕ) (p : ℕ) (terms : Terms) (at size : ℕ) (inside : 
       ∙ sum_of-at store p terms (at + j) (omega arith)
 
 pub loop-j-init : goal.loop-j-init
-loop-j-init c = (refl, omega arith, refl)
+loop-j-init c = refl
 
 pub loop-j-preserved : goal.loop-j-preserved
 loop-j-preserved c =
@@ -33,10 +33,10 @@ loop-j-preserved c =
     let new = cond a.add piece [] ⊕ sum in
     let length-new = length-summed a.add piece sum whole in
     let inside : l.j < length piece = omega arith in
-    let old = ap (λ (s : List ℕ). get_or s l.j 0) l.invariant.0 ∙ front_at new piece l.j length-new inside in
-    let read = c.sum_at-sum.ensures ∙ sym (due-at a.store.now a.p a.terms a.at size c.requires.1 l.j inside) in
+    let old = ap (λ (s : List ℕ). get_or s l.j 0) l.invariant ∙ front_at new piece l.j length-new inside in
+    let read = c.sum_at.ensures ∙ sym (due-at a.store.now a.p a.terms a.at size c.requires.1 l.j inside) in
     let byte = passed-at a.add piece sum l.j _ _ _ old read c.added.ensures in
-    (rw (l.invariant.0, byte) (front-more new piece l.j length-new inside), omega arith, simp length-set (omega arith))
+    rw (l.invariant, byte) (front-more new piece l.j length-new inside)
 
 pub returns : goal.returns
 returns c =
@@ -45,4 +45,4 @@ returns c =
     let size = length a.piece.now in
     let sum = due a.store.now a.p a.terms a.at size in
     let length-new = length-summed a.add a.piece.now sum (length-due a.store.now a.p a.terms a.at size c.requires.1) in
-    l.invariant.0 ∙ front-all (cond a.add a.piece.now [] ⊕ sum) a.piece.now l.j length-new (omega arith)
+    l.invariant ∙ front-all (cond a.add a.piece.now [] ⊕ sum) a.piece.now l.j length-new (omega arith)

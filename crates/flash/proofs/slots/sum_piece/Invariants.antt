@@ -12,8 +12,4 @@ due store p terms at size = take size (drop at (sum_of store p terms))
 -- the bytes before j are those of the sum, and those from j on are as they were
 abbrev pub invariant-loop-j : goal.invariant-loop-j
 invariant-loop-j l =
-    (l.piece ≡ take l.j (cond l.add l.initial.piece [] ⊕ due l.store l.p l.terms l.at (length l.initial.piece)) ++ drop l.j l.initial.piece) × (l.j ≤ length l.initial.piece)
-    × (length l.piece ≡ length l.initial.piece)
-
-abbrev pub decreases-loop-j : goal.decreases-loop-j
-decreases-loop-j l = length l.initial.piece - l.j
+    l.piece ≡ take l.j (cond l.add l.initial.piece [] ⊕ due l.store l.p l.terms l.at (length l.initial.piece)) ++ drop l.j l.initial.piece

@@ -14,7 +14,7 @@ pub sum_piece-requires : goal.sum_piece-requires
 sum_piece-requires c =
     let l = c.loop-i in
     let a = c.args in (
-      pass-terms a.p a.slots.now a.count l.i _ c.requires.le_count.1 l.invariant.1 c.terms_of-terms.ensures
+      pass-terms a.p a.slots.now l.i _ l.invariant.1 c.terms_of-terms.ensures
           (λ t. t * a.p + a.p ≤ length a.store.now) c.requires.by_index,
       omega arith,
     )
@@ -27,7 +27,7 @@ loop-i-preserved c =
     let t = c.terms_of-terms in
     let whole = length-sum_of a.store.now a.p t.result in
     let all = take_all (length l.page) (sum_of a.store.now a.p t.result) (omega (arith, whole)) in
-    let more = pass-more a.p a.slots.now a.count l.i t.result c.requires.le_count.1 l.invariant.1 t.ensures a.store.now c.requires.by_index in
+    let more = pass-more a.p a.slots.now l.i t.result l.invariant.1 t.ensures a.store.now c.requires.by_index in
     let turn = c.loop-i-test.true in
     (rw (lt-ltb 0 (l.i + 4) (omega arith), sp.ensures, all, l.invariant.0) more, omega (arith, turn), omega (arith, sp.auto.piece))
 
@@ -35,7 +35,7 @@ pub last_to_page-requires : goal.last_to_page-requires
 last_to_page-requires c =
     let l = c.loop-i in
     let a = c.args in (
-      pass-terms a.p a.slots.now a.count l.i _ c.requires.le_count.1 l.invariant.1 c.terms_of-terms-2.ensures
+      pass-terms a.p a.slots.now l.i _ l.invariant.1 c.terms_of-terms-2.ensures
           (λ t. t * a.p + a.p ≤ length a.store.now) c.requires.by_index,
       l.invariant.2,
     )
@@ -46,9 +46,9 @@ returns c =
     let t = c.terms_of-terms-2 in
     let l = c.loop-i in
     let a = c.args in
-    let more = pass-more a.p a.slots.now a.count l.i t.result c.requires.le_count.1 l.invariant.1 t.ensures a.store.now c.requires.by_index in
+    let more = pass-more a.p a.slots.now l.i t.result l.invariant.1 t.ensures a.store.now c.requires.by_index in
     let left = c.loop-i-test.false in
-    let all = take_all (l.i + 4) (take a.count a.slots.now) (omega (arith, left, length-take-le a.count a.slots.now c.requires.le_count.1)) in (
+    let all = take_all (l.i + 4) a.slots.now (omega (arith, left)) in (
       last.ensures.0 ∙ rw l.invariant.0 (more ∙ rw all),
       last.ensures.1,
       omega (arith, last.ensures.1, last.auto.page, written-most last.new.page),

@@ -19,7 +19,7 @@ sum_within-requires c =
     let t = c.terms_of-terms in
     let l = c.loop-i in
     let a = c.args in
-    let terms = pass-terms a.p a.slots.now a.count l.i t.result c.requires.le_count.1 l.invariant.2 t.ensures in
+    let terms = pass-terms a.p a.slots.now l.i t.result l.invariant.2 t.ensures in
     let fit = terms (λ t. t * a.p + a.p ≤ length a.store.now) c.requires.by_index in
     record { each_term = (rw l.invariant.3 fit, terms (λ t. t ≢ a.to) c.requires.by_index_2); p_in_bounds = (omega arith, omega arith) }
 
@@ -30,12 +30,12 @@ loop-i-preserved c =
     let l = c.loop-i in
     let a = c.args in
     let add = ltb 0 l.i in
-    let apart = pass-terms a.p a.slots.now a.count l.i t.result c.requires.le_count.1 l.invariant.2 t.ensures (λ t. t ≢ a.to) c.requires.by_index_2 in
-    let more = pass-more a.p a.slots.now a.count l.i t.result c.requires.le_count.1 l.invariant.2 t.ensures a.store.now c.requires.by_index in
-    let summed = slot-passed a.p a.to a.store.now l.store t.result add c.requires.le_count.3 l.invariant.3 apart l.invariant.1 in
-    let over = slot-over a.p a.to a.store.now l.store t.result add c.requires.le_count.3 l.invariant.3 apart l.invariant.1 in
+    let apart = pass-terms a.p a.slots.now l.i t.result l.invariant.2 t.ensures (λ t. t ≢ a.to) c.requires.by_index_2 in
+    let more = pass-more a.p a.slots.now l.i t.result l.invariant.2 t.ensures a.store.now c.requires.by_index in
+    let summed = slot-passed a.p a.to a.store.now l.store t.result add c.requires.le_slots.2 l.invariant.3 apart l.invariant.1 in
+    let over = slot-over a.p a.to a.store.now l.store t.result add c.requires.le_slots.2 l.invariant.3 apart l.invariant.1 in
     let put = ap (part a.p a.to) sw.ensures
-    ∙ slot-part a.p a.to a.store.now l.store t.result add c.requires.le_count.3 l.invariant.3 apart l.invariant.1 in (
+    ∙ slot-part a.p a.to a.store.now l.store t.result add c.requires.le_slots.2 l.invariant.3 apart l.invariant.1 in (
       rw (lt-ltb 0 (l.i + 4) (omega arith), put, summed, l.invariant.0) more,
       rw put (sw.ensures ∙ over),
       omega (arith, c.loop-i-test.true),
@@ -47,7 +47,7 @@ last_to_slot-requires c =
     let t = c.terms_of-terms-2 in
     let l = c.loop-i in
     let a = c.args in
-    let terms = pass-terms a.p a.slots.now a.count l.i t.result c.requires.le_count.1 l.invariant.2 t.ensures in
+    let terms = pass-terms a.p a.slots.now l.i t.result l.invariant.2 t.ensures in
     (rw l.invariant.3 (terms (λ t. t * a.p + a.p ≤ length a.store.now) c.requires.by_index), terms (λ t. t ≢ a.to) c.requires.by_index_2, omega arith)
 
 pub returns : goal.returns
@@ -57,15 +57,14 @@ returns c =
     let l = c.loop-i in
     let a = c.args in
     let add = ltb 0 l.i in
-    let apart = pass-terms a.p a.slots.now a.count l.i t.result c.requires.le_count.1 l.invariant.2 t.ensures (λ t. t ≢ a.to) c.requires.by_index_2 in
-    let more = pass-more a.p a.slots.now a.count l.i t.result c.requires.le_count.1 l.invariant.2 t.ensures a.store.now c.requires.by_index in
-    let all = take_all (l.i + 4) (take a.count a.slots.now)
-    (omega (arith, c.loop-i-test.false, length-take-le a.count a.slots.now c.requires.le_count.1)) in
-    let summed = slot-passed a.p a.to a.store.now l.store t.result add c.requires.le_count.3 l.invariant.3 apart l.invariant.1
+    let apart = pass-terms a.p a.slots.now l.i t.result l.invariant.2 t.ensures (λ t. t ≢ a.to) c.requires.by_index_2 in
+    let more = pass-more a.p a.slots.now l.i t.result l.invariant.2 t.ensures a.store.now c.requires.by_index in
+    let all = take_all (l.i + 4) a.slots.now (omega (arith, c.loop-i-test.false)) in
+    let summed = slot-passed a.p a.to a.store.now l.store t.result add c.requires.le_slots.2 l.invariant.3 apart l.invariant.1
     ∙ ap (λ (s : List ℕ). s ⊕ sum_of a.store.now a.p t.result) l.invariant.0
     ∙ more
     ∙ ap (sum (λ t. part a.p t a.store.now)) all in
-    let over = slot-over a.p a.to a.store.now l.store t.result add c.requires.le_count.3 l.invariant.3 apart l.invariant.1 in
+    let over = slot-over a.p a.to a.store.now l.store t.result add c.requires.le_slots.2 l.invariant.3 apart l.invariant.1 in
     let whole = length_part a.p a.to l.store (omega arith) in
     let size = length-passed l.store a.p t.result add (part a.p a.to l.store) whole in (
       last.ensures.0 ∙ over ∙ ap (set_part a.p a.to a.store.now) summed,

@@ -35,11 +35,11 @@ loop-i-init c =
     let whole = length_part a.p a.to a.store.now c.requires.p_in_bounds.0 in
     let new = passed a.store.now a.p a.terms a.add page in
     let begun = joined-begun a.from page new (length-passed a.store.now a.p a.terms a.add page whole) (omega arith) in
-    (sym (ap (set_part a.p a.to a.store.now) begun ∙ set_part-self _ _ _), omega arith, omega arith, refl)
+    (sym (ap (set_part a.p a.to a.store.now) begun ∙ set_part-self _ _ _), refl)
 
 pub sum_at-sum-requires : goal.sum_at-sum-requires
 sum_at-sum-requires c =
-    (rw c.loop-i.invariant.3 c.requires.each_term.0, omega arith)
+    (rw c.loop-i.invariant.1 c.requires.each_term.0, omega arith)
 
 pub loop-i-preserved : goal.loop-i-preserved
 loop-i-preserved c =
@@ -64,8 +64,6 @@ loop-i-preserved c =
     ∙ sym (joined_at a.from page new length-new (omega arith) l.i (omega arith)) in (
       set-set_part a.p a.to a.store.now mid l.store fits size l.invariant.0 l.i c.added.result (omega arith)
           ∙ ap (set_part a.p a.to a.store.now) (rw byte (front-more to-be page l.i length-to-be (omega arith))),
-      omega arith,
-      omega arith,
       simp length-set (omega arith),
     )
 

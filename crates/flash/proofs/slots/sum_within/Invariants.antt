@@ -11,8 +11,4 @@ joined from page new = take from page ++ drop from new
 -- the bytes of the slot before i are as they are to be, and all others are as they were
 abbrev pub invariant-loop-i : goal.invariant-loop-i
 invariant-loop-i l =
-    (l.store ≡ set_part l.p l.to l.initial.store (take l.i (joined l.from (part l.p l.to l.initial.store) (passed l.initial.store l.p l.terms l.add (part l.p l.to l.initial.store))) ++ drop l.i (part l.p l.to l.initial.store)))
-    × (l.from ≤ l.i) × (l.i ≤ l.p) × (length l.store ≡ length l.initial.store)
-
-abbrev pub decreases-loop-i : goal.decreases-loop-i
-decreases-loop-i l = l.p - l.i
+    (l.store ≡ set_part l.p l.to l.initial.store (take l.i (joined l.from (part l.p l.to l.initial.store) (passed l.initial.store l.p l.terms l.add (part l.p l.to l.initial.store))) ++ drop l.i (part l.p l.to l.initial.store))) × (length l.store ≡ length l.initial.store)

@@ -5,7 +5,4 @@ use Rattle.flash.specs.inner.Unpaired.{unpaired}
 use Rattle.flash.proofs.wear.lowest_with.Given as goal
 
 abbrev pub invariant-loop-block : goal.invariant-loop-block
-invariant-loop-block l = (l.block ≤ (refreshed (unpaired l.counters)).block) × (l.block < 65)
-
-abbrev pub decreases-loop-block : goal.decreases-loop-block
-decreases-loop-block l = 65 - l.block
+invariant-loop-block l = l.block ≤ (refreshed (unpaired l.counters)).block

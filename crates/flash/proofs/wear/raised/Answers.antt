@@ -1,12 +1,14 @@
 -- `raised` adds one to a counter that is not at its end.
-use Rattle.flash.proofs.Kit.{lt-ltb, le-ltb}
+use Rattle.flash.proofs.Kit.{⊎_elim, ◌+◌, ◌≤◌, ◌<◌, arith, lt-ltb, le-ltb}
 use Rattle.flash.specs.Wear.{raised}
+use Rattle.flash.proofs.Comparisons.{lt-cases}
 use Rattle.flash.proofs.wear.raised.Goals as goal
 
-pub returns-then-counter-lt-END : goal.returns-then-counter-lt-END
+pub returns : goal.returns
 unfolding raised
-returns-then-counter-lt-END c = rw (lt-ltb c.args.counter 4294967295 c.if-counter-lt-END.true)
-
-pub returns-else-counter-lt-END : goal.returns-else-counter-lt-END
-unfolding raised
-returns-else-counter-lt-END c = rw (le-ltb c.args.counter 4294967295 c.if-counter-lt-END.false)
+returns c =
+    let n = c.args.counter in
+    ⊎_elim
+    (λ (h : n < 4294967295). rw (lt-ltb n 4294967295 h) (omega (arith, c.saturating_add.ensures)))
+    (λ (h : 4294967295 ≤ n). rw (le-ltb n 4294967295 h) (omega (arith, c.saturating_add.ensures, c.ranges.counter.fits)))
+    (lt-cases n 4294967295)

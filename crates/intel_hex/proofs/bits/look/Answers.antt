@@ -13,13 +13,6 @@ returns-then-count-eq0 c =
     let a = c.args in
     look_none a.words.now a.w a.half a.offset a.count c.requires.fact.0 c.requires.fact.1 c.if-count-eq0.true
 
-pub overflow_sub-offset : goal.overflow_sub-offset
-overflow_sub-offset c = omega (arith, c.requires.fact.0 (omega (arith, c.if-count-eq0.false)), c.if-half-w.false)
-
-pub mark-requires : goal.mark-requires
-mark-requires c =
-    omega (arith, c.requires.fact.0 (omega (arith, c.if-count-eq0.false)), c.requires.fact.1 (omega (arith, c.if-count-eq0.false)), c.if-half-w.false)
-
 pub returns : goal.returns
 returns c =
     let a = c.args in

@@ -1,11 +1,6 @@
 -- `mark` sets bits, and stops at one that was set.
-use Rattle.flash.proofs.Kit.{◌≡◌, ◌+◌, ◌-◌, ◌≤◌, length}
 use Rattle.intel_hex.proofs.BitLaws.{Marking}
 use Rattle.intel_hex.proofs.bits.mark.Given as goal
 
 abbrev pub invariant-loop-i : goal.invariant-loop-i
-invariant-loop-i l =
-    Marking l.initial.words l.from l.i l.words × (l.from ≤ l.i) × (l.i ≤ l.from + l.count) × (length l.words ≡ length l.initial.words)
-
-abbrev pub decreases-loop-i : goal.decreases-loop-i
-decreases-loop-i l = l.end - l.i
+invariant-loop-i l = Marking l.initial.words l.from l.i l.words

@@ -6,4 +6,4 @@ use Rattle.intel_hex.proofs.bits.set.Goals as goal
 pub returns : goal.returns
 returns c =
     let a = c.args in
-    rw (shl_exact {a = 1} 1 (a.b % 64) 64 (omega arith) (omega arith), one-mul) (word_set a.words.now a.b c.requires.0 c.requires.1)
+    rw (shl_exact {a = 1} 1 (a.b % 64) 64 (omega arith) (omega arith), one-mul) (word_set a.words.now a.b (omega arith) c.requires)

@@ -1,14 +1,8 @@
 -- `digit_of` gives the character of a digit in capitals.
-use Rattle.flash.proofs.Kit.{arith, lt-ltb, le-ltb}
+use Rattle.flash.proofs.Kit.{lt-ltb, le-ltb}
 use Rattle.listing.specs.Digits.{digit_of}
 use Rattle.intel_hex.proofs.print.digit_of.Goals as goal
 use Rattle.intel_hex.proofs.print.digit_of.Goals.{else-d-lt10, then-d-lt10}
-
-pub overflow_add-result : goal.overflow_add-result
-overflow_add-result c = elim c.if-d-lt10.branch [
-  | then-d-lt10 w ↦ omega (arith, w.zero-is)
-  | else-d-lt10 w ↦ omega (arith, w.zero-is)
-]
 
 pub returns : goal.returns
 unfolding digit_of

@@ -1,14 +1,8 @@
 -- `put_rest` puts bytes at an offset of the image.
-use Rattle.flash.proofs.Kit.{refl, ◌∙◌, ap, arith}
+use Rattle.flash.proofs.Kit.{refl, ◌∙◌, ap}
 use Rattle.intel_hex.specs.inner.Lines.{bytes_from}
 use Rattle.intel_hex.proofs.PutLaws.{put_back, lent_length}
 use Rattle.intel_hex.proofs.put.put_rest.Goals as goal
-
-pub put_bytes-requires : goal.put_bytes-requires
-put_bytes-requires c =
-    let a = c.args in
-    let n = lent_length a.image.now a.offset a.count c.requires.2 in
-    (omega (arith, n, c.requires.0), λ i h. c.requires.1 i (omega (arith, n)))
 
 pub returns : goal.returns
 returns c =

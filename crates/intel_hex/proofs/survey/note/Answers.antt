@@ -8,26 +8,6 @@ returns-then-count-eq0 c =
     let a = c.args in
     note-none a.tops.now a.half a.offset a.count c.if-count-eq0.true
 
-pub offset_bounds-tops-half : goal.offset_bounds-tops-half
-offset_bounds-tops-half c =
-    let h = c.requires.half_bound (omega (arith, c.if-count-eq0.false)) in
-    omega arith
-
-pub bounds-tops-half : goal.bounds-tops-half
-bounds-tops-half c =
-    let h = c.requires.half_bound (omega (arith, c.if-count-eq0.false)) in
-    omega arith
-
-pub offset_bounds-tops-half-2 : goal.offset_bounds-tops-half-2
-offset_bounds-tops-half-2 c =
-    let h = c.requires.half_bound (omega (arith, c.if-count-eq0.false)) in
-    omega arith
-
-pub bounds-tops-half-2 : goal.bounds-tops-half-2
-bounds-tops-half-2 c =
-    let h = c.requires.half_bound (omega (arith, c.if-count-eq0.false)) in
-    omega arith
-
 pub returns : goal.returns
 returns c =
     let a = c.args in

@@ -1,13 +1,7 @@
 -- `put_data` prints all data records.
-use Rattle.flash.proofs.Kit.{◌≡◌, ◌-◌, ◌/◌, ◌≤◌, length}
 use Rattle.listing.specs.Lines.{Printed}
 use Rattle.intel_hex.specs.Writing.{records_from, text_of}
 use Rattle.intel_hex.proofs.write.put_data.Given as goal
 
 abbrev pub invariant-loop-i : goal.invariant-loop-i
-invariant-loop-i l =
-    Printed (text_of (records_from l.image 0 l.i)) l.initial.text 0 l.text l.next × (l.i ≤ length l.image / 16)
-    × (length l.text ≡ length l.initial.text)
-
-abbrev pub decreases-loop-i : goal.decreases-loop-i
-decreases-loop-i l = length l.image / 16 - l.i
+invariant-loop-i l = Printed (text_of (records_from l.image 0 l.i)) l.initial.text 0 l.text l.next

@@ -1,6 +1,5 @@
 -- `put_digits` prints so many digits of a number, lowest first from the right, and leaves the rest of the area.
-use Rattle.flash.proofs.Kit.{◌++◌, length, take, drop, ◌≡◌}
-use Rattle.flash.proofs.Kit.{◌-◌, ◌≤◌}
+use Rattle.flash.proofs.Kit.{◌++◌, take, drop, ◌≡◌, ◌-◌, ◌≤◌}
 use Rattle.listing.specs.Digits.{small, digits}
 use Rattle.listing.proofs.digits.put_digits.Given as goal
 
@@ -9,9 +8,4 @@ invariant-loop-i l =
     (take l.at l.out ≡ take l.at l.initial.out)
     × (digits small l.base (l.i - l.at) l.rest ++ drop l.i (take l.end l.out) ≡ digits small l.base l.count l.n)
     × (l.at ≤ l.i)
-    × (l.i ≤ l.end)
-    × (length l.out ≡ length l.initial.out)
     × (drop l.end l.out ≡ drop l.end l.initial.out)
-
-abbrev pub decreases-loop-i : goal.decreases-loop-i
-decreases-loop-i l = l.i - l.at

@@ -12,24 +12,18 @@ use Rattle.listing.proofs.input.read.Tie as tie
 -- the four numbers that were read are judged as the sizes that they are
 judged : (c : lts.After-is_allowed tie.the-claims reads.Pre reads.Post tie.handed_clauses)
     → c.is_allowed.result ≡ is_allowed (sizes_from c.fill.new.area)
-judged c = rw (c.word-4.ensures, c.word-3.ensures, c.word-2.ensures, c.word.ensures) at c.is_allowed.ensures
+judged c = c.is_allowed.ensures
 
 told : (c : lts.After-read_numbers tie.the-claims reads.Pre reads.Post tie.handed_clauses) (right : Bool) → c.read_numbers.result ≡ right
-    → (let a = c.args in let exit = c.read_numbers.new.numbers in
-    (cond right (request_in exit (record { n = c.word.result; m = c.word-2.result; p = c.word-3.result; s = c.word-4.result })) unreadable
-    ≡ input_of a.text.now)
+    → (let a = c.args in let exit = c.read_numbers.new.numbers in (cond right (request_in exit (sizes_from c.fill.new.area)) unreadable ≡ input_of a.text.now)
     × (exit ≡ over (numbers_put a.text.now) a.numbers.now))
 told c right e =
     let a = c.args in
     let r = c.read_numbers in
     let count = c.original_count.ensures in
-    let n = c.word.ensures in
-    let m = c.word-2.ensures in
-    let p = c.word-3.ensures in
     let allowed = sym (judged c.before.before.before.before) ∙ c.if-not-is_allowed.false in
-    rw (n, m, p, c.word-4.ensures)
-    (as-asked a.text.now _ a.numbers.now c.in-Full.next c.in-Full.ensures.result_after right _ allowed
-    (rw (e, count, n, m, p) at r.ensures.none_after) (rw (count, n, m, p) at r.ensures.numbers_after))
+    as-asked a.text.now _ a.numbers.now c.in-Some.next c.in-Some.ensures.result_after right _ allowed
+    (rw (e, count) at r.ensures.none_after) (rw count at r.ensures.numbers_after)
 
 pub returns-in_default : goal.returns-in_default
 returns-in_default c =
@@ -39,7 +33,7 @@ returns-in_default c =
 pub returns-then-not-is_allowed : goal.returns-then-not-is_allowed
 returns-then-not-is_allowed c =
     let judged-so = sym (judged c.before.before) ∙ c.if-not-is_allowed.true in
-    let told = not-allowed c.args.text.now _ c.args.numbers.now c.in-Full.next c.in-Full.ensures.result_after judged-so in
+    let told = not-allowed c.args.text.now _ c.args.numbers.now c.in-Some.next c.in-Some.ensures.result_after judged-so in
     record { result_after = told.0; numbers_after = told.1 }
 
 pub original_count-requires : goal.original_count-requires

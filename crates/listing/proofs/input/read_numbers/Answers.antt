@@ -46,7 +46,7 @@ returns-then-fit c =
     f.ensures.result_after f.auto.area (omega arith) in
     record {
       none_after = all_found a.count due.result (a.count + a.count * a.p) a.numbers.now area words found due.ensures.0 (omega arith)
-          f.ensures.result_after f.auto.area (omega arith) _ (ap (filled_as a.text.now area) c.in-Full.is) c.is_end.result
+          f.ensures.result_after f.auto.area (omega arith) _ (ap (filled_as a.text.now area) c.in-Some.is) c.is_end.result
           (ap (all (λ byte. leb byte 255)) (sym bytes) ∙ sym c.fit.ensures ∙ c.if-fit.true) c.is_end.ensures;
       numbers_after = put c.before.before.before.before.before.before.before.before;
     }
@@ -62,8 +62,8 @@ returns-else-fit c =
     let bytes = bytes-are a.count due.result (a.count + a.count * a.p) a.numbers.now area words found due.ensures.0 (omega arith)
     f.ensures.result_after f.auto.area (omega arith) in
     record {
-      none_after = too_large a.count due.result (a.count + a.count * a.p) a.numbers.now area words found due.ensures.0 (omega arith)
-          f.ensures.result_after f.auto.area (omega arith) _ (ap (filled_as a.text.now area) c.in-Full.is)
-          (ap (all (λ byte. leb byte 255)) (sym bytes) ∙ sym c.fit.ensures ∙ c.if-fit.false);
+      none_after = rw c.if-fit.false (too_large a.count due.result (a.count + a.count * a.p) a.numbers.now area words found due.ensures.0 (omega arith)
+          f.ensures.result_after f.auto.area (omega arith) _ (ap (filled_as a.text.now area) c.in-Some.is)
+          (ap (all (λ byte. leb byte 255)) (sym bytes) ∙ sym c.fit.ensures ∙ c.if-fit.false));
       numbers_after = put c.before.before.before.before.before.before.before;
     }

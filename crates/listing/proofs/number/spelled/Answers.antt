@@ -1,5 +1,5 @@
 -- `spelled` reads the word at a position as a number of at most five digits.
-use Rattle.flash.proofs.Kit.{arith, ◌≡◌, sym, ◌∙◌, true, false, ⊎_elim, ◌≤◌, ◌<◌, ltb, get_or, ltb-true, ltb-false}
+use Rattle.flash.proofs.Kit.{arith, ◌≡◌, sym, ◌∙◌, true, false, ⊎_elim, ◌≤◌, ltb, length, get_or, ltb-true, ltb-false}
 use Rattle.flash.proofs.Bools.{bool_cases, never_both}
 use Rattle.listing.proofs.NumberLaws.{begun, few, digit_low, digit-high, more, at-end, at-separator, sixth, other_byte, no_text}
 use Rattle.listing.proofs.number.spelled.Goals as goal
@@ -61,15 +61,14 @@ loop-at-preserved c =
     let one_more = more a.text.now a.start l.at l.value l.invariant.0 c.loop-at-test.true inside digit in
     (rw c.digit_value.ensures one_more, omega (arith, c.if-at-start-eq-MOST_DIGITS.false))
 
-pub returns-then-at-start : goal.returns-then-at-start
-returns-then-at-start c =
-    let l = c.loop-at in
+pub returns-then-text-start : goal.returns-then-text-start
+returns-then-text-start c =
     let a = c.args in
-    sym (no_text a.text.now a.start (omega (arith, c.if-at-start.true)))
+    sym (no_text a.text.now a.start c.if-text-start.true)
 
-pub returns-else-at-start : goal.returns-else-at-start
-returns-else-at-start c =
+pub returns-else-text-start : goal.returns-else-text-start
+returns-else-text-start c =
     let l = c.loop-at in
     let a = c.args in
-    let some-digit : a.start < l.at = omega (arith, c.if-at-start.false, l.invariant.0.begins) in
-    sym (at-end a.text.now a.start l.at l.value l.invariant.0 some-digit l.invariant.1 c.loop-at-test.false)
+    let end : l.at ≡ length a.text.now = omega arith in
+    rw (← end) (sym (at-end a.text.now a.start l.at l.value l.invariant.0 (omega arith) l.invariant.1 (omega arith)))

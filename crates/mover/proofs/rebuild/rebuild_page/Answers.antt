@@ -1,100 +1,112 @@
 -- Read's own sum where it goes without the slot; else the other one, or none where a block is torn.
-use Rattle.flash.proofs.Kit.{◌≡◌, sym, ap, ◌∙◌, List, ℕ, ◌≤◌, arith, eqb, length, take, length-replicate}
+use Rattle.flash.proofs.Kit.{◌≡◌, sym, ap, ◌∙◌, Bool, List, ℕ, ◌≤◌, ◌<◌, arith, eqb, length, take, length-replicate, length-take-le}
 use Rattle.flash.specs.Lists.{any, part}
 use Rattle.flash.specs.PageSum.{sum}
 use Rattle.flash.specs.Chip.{Chip}
-use Rattle.method.specs.Move.{Move, move_of}
+use Rattle.method.specs.Move.{Move, AcceptedMove}
+use Rattle.method.specs.inner.MoveIn.{move_in}
 use Rattle.method.specs.Read.{read_slots}
 use Rattle.method.specs.Mend.{Reading}
-use Rattle.mover.specs.inner.Rebuild.{Sees}
+use Rattle.flash.specs.Geometry.{original_count}
+use Rattle.walk.specs.inner.Moments.{Tells}
+use Rattle.walk.specs.inner.Slots.{StartsWith}
+use Rattle.mover.specs.declared.rebuild.Told.{Told}
+use Rattle.mover.specs.inner.Rebuild.{Sees, Seen}
 use Rattle.mover.proofs.RebuiltLaws.{sums-to, gives_up, in-store, at-moment, own-fits, from-own, from-torn}
-use contract.Lifetimes.{Lfts}
 use Rattle.mover.proofs.rebuild.rebuild_page.Goals as goal
-use Rattle.mover.proofs.rebuild.rebuild_page.Lts as lts
-use Rattle.mover.proofs.rebuild.rebuild_page.Reads as reads
-use Rattle.mover.proofs.rebuild.rebuild_page.Tie as tie
 
-abbrev moves : {κs : Lfts 6} → lts.Args tie.the-claims reads.Pre reads.Post tie.handed_clauses κs → Move
-moves a = move_of a.sizes a.list.now a.sets.now
+abbrev chip : (store marks : List ℕ) → Chip
+chip store marks = record { store = store; marks = marks }
 
-abbrev chip : {κs : Lfts 6} → lts.Args tie.the-claims reads.Pre reads.Post tie.handed_clauses κs → List ℕ → Chip
-chip a marks = record { store = a.store.now; marks = marks }
+-- ---- the slots of read's sum, as they were filled in
+module _ (M : Move) (A : AcceptedMove M) (told : Told) (slot k : ℕ) (k-in : k < original_count M.sizes) (old new : List ℕ) (count : ℕ)
+    (G : (marks : List ℕ) → Tells M marks told.moment → StartsWith old 1 (read_slots M marks k) new count) where
+  own_is : (marks : List ℕ) (found : Reading) → Sees M marks found told → take count new ≡ read_slots M marks k
+  own_is marks found S = (G marks (at-moment M A marks found told S slot k k-in)).slots-are
 
-abbrev after : lts.After-row_slots tie.the-claims reads.Pre reads.Post tie.handed_clauses → List ℕ
-after c = c.row_slots-count.new.slots
+  module _ (E : Seen M told) (size : length old ≡ 65) where
+    few : count ≤ 64
+    few = let g = G E.0 (at-moment M A E.0 E.1 told E.2 slot k k-in) in omega (arith, g.few, size)
+
+    room : length new ≡ 65
+    room = (G E.0 (at-moment M A E.0 E.1 told E.2 slot k k-in)).room
+
+    cut : length (take count new) ≡ count
+    cut = length-take-le count new (omega (arith, few, room))
+
+  -- what is asked of them holds of the definition's
+  asked : (marks : List ℕ) (found : Reading) → Sees M marks found told → {has : Bool} → has ≡ any (eqb slot) (take count new)
+      → any (eqb slot) (read_slots M marks k) ≡ has
+  asked marks found S e = ap (any (eqb slot)) (sym (own_is marks found S)) ∙ sym e
 
 pub row_slots-count-requires : goal.row_slots-count-requires
-row_slots-count-requires c = ((c.requires.0, c.requires.1, length-replicate {A = ℕ} 65 0, c.requires.5.0, c.requires.5.1))
+row_slots-count-requires c = (c.requires.0, length-replicate {A = ℕ} 65 0, c.requires.1)
 
-own_is : (c : lts.After-row_slots tie.the-claims reads.Pre reads.Post tie.handed_clauses) (marks : List ℕ) (found : Reading)
-    → (Sees (moves c.args) marks found c.args.told
-    → take c.row_slots-count.result (after c) ≡ read_slots (moves c.args) marks c.args.k)
-own_is c marks found S =
-    (c.row_slots-count.ensures marks (at-moment (moves c.args) c.requires.0 marks found c.args.told S c.args.slot c.args.k c.requires.1)).slots-are
+pub slice_bounds-slots-end : goal.slice_bounds-slots-end
+slice_bounds-slots-end c =
+    let a = c.args in
+    let G = c.row_slots-count.ensures in
+    let f = few (move_in a.rows.moved) a.rows.moved.accepted a.told a.slot a.k c.requires.0 _ _ _ G c.requires.4 (length-replicate {A = ℕ} 65 0) in
+    let r = room (move_in a.rows.moved) a.rows.moved.accepted a.told a.slot a.k c.requires.0 _ _ _ G c.requires.4 (length-replicate {A = ℕ} 65 0) in
+    omega (arith, f, r)
 
-room : (c : lts.After-row_slots tie.the-claims reads.Pre reads.Post tie.handed_clauses) → (c.row_slots-count.result ≤ 64) × (length (after c) ≡ 65)
-room c =
-    let E = c.requires.4 in
-    let G = c.row_slots-count.ensures E.0 (at-moment (moves c.args) c.requires.0 E.0 E.1 c.args.told E.2 c.args.slot c.args.k c.requires.1) in
-    (omega (arith, G.few), G.room)
+pub slice_bounds-own-end : goal.slice_bounds-own-end
+slice_bounds-own-end c =
+    let a = c.args in
+    sym (cut (move_in a.rows.moved) a.rows.moved.accepted a.told a.slot a.k c.requires.0 _ _ _ c.row_slots-count.ensures c.requires.4 (length-replicate {A = ℕ} 65 0))
 
-pub slice_bounds-has_slot-end : goal.slice_bounds-has_slot-end
-slice_bounds-has_slot-end c = sym (room c.before.before).1
-
-pub has_slot-requires : goal.has_slot-requires
-has_slot-requires c = (let r = room c.before.before in omega (arith, r.0, r.1))
-
--- what was asked of read's slots holds of the definition's
-asked : (c : lts.After-has_slot tie.the-claims reads.Pre reads.Post tie.handed_clauses) (marks : List ℕ) (found : Reading)
-    → (Sees (moves c.args) marks found c.args.told
-    → any (eqb c.args.slot) (read_slots (moves c.args) marks c.args.k) ≡ c.has_slot.result)
-asked c marks found S =
-    ap (any (eqb c.args.slot)) (sym (own_is c.before.before marks found S)) ∙ sym c.has_slot.ensures
-
-pub returns-then-told : goal.returns-then-told
-returns-then-told c marks found S =
+pub returns-in_default : goal.returns-in_default
+returns-in_default c marks found S =
+    let a = c.args in
     let L = c.lose.ensures in
-    gives_up c.args.sizes.p (chip c.args marks) _ _ _ _
-    (from-torn (moves c.args) c.requires.0 marks found c.args.told S c.args.slot c.args.k c.requires.1
-    (asked c.before.before.before.before.before.before.before marks found S ∙ c.if-has_slot.true) c.if-told.true)
+    gives_up a.rows.moved.sizes.p (chip a.store.now marks) _ _ _ _
+    (from-torn (move_in a.rows.moved) a.rows.moved.accepted marks found a.told S a.slot a.k c.requires.0
+    (asked (move_in a.rows.moved) a.rows.moved.accepted a.told a.slot a.k c.requires.0 _ _ _ c.row_slots-count.ensures marks found S c.has_slot.ensures ∙ c.if-has_slot.true) c.in_default.is)
     L.0 L.1 c.requires.3
-
-pub slice_bounds-rebuild_other-end : goal.slice_bounds-rebuild_other-end
-slice_bounds-rebuild_other-end c = sym (room c.before.before.before.before.before.before).1
 
 pub rebuild_other-requires : goal.rebuild_other-requires
 rebuild_other-requires c =
-    let R = room c.before.before.before.before.before.before.before in (
+    let a = c.args in
+    let G = c.row_slots-count.ensures in
+    let E = c.requires.4 in
+    let f = few (move_in a.rows.moved) a.rows.moved.accepted a.told a.slot a.k c.requires.0 _ _ _ G E (length-replicate {A = ℕ} 65 0) in
+    let n = cut (move_in a.rows.moved) a.rows.moved.accepted a.told a.slot a.k c.requires.0 _ _ _ G E (length-replicate {A = ℕ} 65 0) in (
       c.requires.0,
       c.requires.1,
       c.requires.2,
       c.requires.3,
-      omega (arith, R.0),
-      omega (arith, R.0, R.1),
+      omega (arith, f, n),
       record {
-        whole = c.if-told.false;
         has-bad = sym c.has_slot.ensures ∙ c.if-has_slot.true;
-        is = own_is c.before.before.before.before.before.before.before;
-        some-marks = c.requires.4;
+        marks = E.0;
+        found = E.1;
+        coded_at = E.2.full _ c.in-Some.is;
+        is = own_is (move_in a.rows.moved) a.rows.moved.accepted a.told a.slot a.k c.requires.0 _ _ _ G E.0 E.1 E.2;
       },
-      c.requires.5,
     )
 
-pub slice_bounds-sum_to_page-end : goal.slice_bounds-sum_to_page-end
-slice_bounds-sum_to_page-end c = sym (room c.before.before.before.before.before).1
+pub returns-then-has_slot : goal.returns-then-has_slot
+returns-then-has_slot c marks found S =
+    let a = c.args in
+    c.rebuild_other.ensures marks found (S.full _ c.in-Some.is)
+    (own_is (move_in a.rows.moved) a.rows.moved.accepted a.told a.slot a.k c.requires.0 _ _ _ c.row_slots-count.ensures marks found S)
 
 pub sum_to_page-requires : goal.sum_to_page-requires
 sum_to_page-requires c =
-    let R = room c.before.before.before.before.before.before in
+    let a = c.args in
+    let G = c.row_slots-count.ensures in
     let E = c.requires.4 in
-    let fits = own-fits (moves c.args) c.requires.0 E.0 E.1 c.args.told E.2 c.args.slot c.args.k c.requires.1 in
-    let few : c.row_slots-count.result ≤ length (after c.before.before.before.before.before.before) = omega (arith, R.0, R.1) in
-    let within = in-store c.args.sizes _ _ c.args.store.now c.row_slots-count.result
-    (own_is c.before.before.before.before.before.before E.0 E.1 E.2) few c.requires.2 fits in
-    record { le_count = (within.0, few, omega (arith, R.0), c.requires.3); by_index = within.1 }
+    let f = few (move_in a.rows.moved) a.rows.moved.accepted a.told a.slot a.k c.requires.0 _ _ _ G E (length-replicate {A = ℕ} 65 0) in
+    let n = cut (move_in a.rows.moved) a.rows.moved.accepted a.told a.slot a.k c.requires.0 _ _ _ G E (length-replicate {A = ℕ} 65 0) in
+    let fits = own-fits (move_in a.rows.moved) a.rows.moved.accepted E.0 E.1 a.told E.2 a.slot a.k c.requires.0 in
+    let within = in-store a.rows.moved.sizes _ _ a.store.now (own_is (move_in a.rows.moved) a.rows.moved.accepted a.told a.slot a.k c.requires.0 _ _ _ G E.0 E.1 E.2) c.requires.2 fits in
+    record { le_slots = (within.0, omega (arith, f, n), c.requires.3); by_index = within.1 }
 
 pub returns : goal.returns
 returns c marks found S =
-    sums-to c.args.sizes.p (chip c.args marks) _ _ _
-    (from-own (moves c.args) c.requires.0 marks found c.args.told S c.args.slot c.args.k c.requires.1 (asked c.before.before.before.before.before.before.before marks found S ∙ c.if-has_slot.false))
-    (c.sum_to_page.ensures.0 ∙ ap (sum (λ t. part c.args.sizes.p t c.args.store.now)) (own_is c.before.before.before.before.before.before.before.before.before marks found S))
+    let a = c.args in
+    let G = c.row_slots-count.ensures in
+    sums-to a.rows.moved.sizes.p (chip a.store.now marks) _ _ _
+    (from-own (move_in a.rows.moved) a.rows.moved.accepted marks found a.told S a.slot a.k c.requires.0
+    (asked (move_in a.rows.moved) a.rows.moved.accepted a.told a.slot a.k c.requires.0 _ _ _ G marks found S c.has_slot.ensures ∙ c.if-has_slot.false))
+    (c.sum_to_page.ensures.0 ∙ ap (sum (λ t. part a.rows.moved.sizes.p t a.store.now)) (own_is (move_in a.rows.moved) a.rows.moved.accepted a.told a.slot a.k c.requires.0 _ _ _ G marks found S))

@@ -1,6 +1,7 @@
 -- Each turn makes the page and the flag of one original more.
-use Rattle.flash.proofs.Kit.{◌≡◌, List, ℕ, ◌-◌, ◌≤◌, length}
-use Rattle.method.specs.Move.{Move, move_of}
+use Rattle.flash.proofs.Kit.{List, ℕ}
+use Rattle.method.specs.Move.{Move}
+use Rattle.method.specs.inner.MoveIn.{move_in}
 use Rattle.method.specs.Mend.{Reading, seen}
 use Rattle.method.specs.Rebuild.{rebuilt_from, rebuilt_page, rebuilt_flag}
 use Rattle.mover.specs.inner.Rebuild.{Sees}
@@ -16,8 +17,4 @@ MadeOf M store told slot area flags k = (marks : List ℕ) (found : Reading) →
 
 abbrev pub invariant-loop-k : goal.invariant-loop-k
 invariant-loop-k l =
-    MadeOf (move_of l.sizes l.list l.sets) l.store l.told l.slot l.area l.flags l.k × (l.k ≤ length l.initial.flags)
-    × (length l.area ≡ length l.initial.area) × (length l.flags ≡ length l.initial.flags)
-
-abbrev pub decreases-loop-k : goal.decreases-loop-k
-decreases-loop-k l = length l.initial.flags - l.k
+    MadeOf (move_in l.moved) l.store l.told l.slot l.area l.flags l.k

@@ -1,18 +1,23 @@
 -- `move_refusal` gives the first number of rows 1, 2, 3, 11 and 4 that fits; past 11 it leaves the list completed, and where none fits the sets by destination.
-use Rattle.flash.proofs.Kit.{[], ◌≡◌, refl, sym, ap, ◌∙◌, subst, ◌≢◌, true, false, cond, ◌&&◌, not, ℕ, ◌*◌, ◌≤◌, arith, eqb, length}
+use Rattle.std.proofs.lemmas.Result.{err_from_is_err_and}
+use Rattle.flash.proofs.Kit.{[], ◌≡◌, refl, sym, ap, ◌∙◌, ◌≢◌, Bool, true, false, cond, List, ℕ, ◌*◌, ◌≤◌, arith, eqb, length}
 use Rattle.split.specs.OneToOne.{bad_list}
 use Rattle.split.specs.Drops.{completed, list_left}
 use Rattle.split.specs.Pins.{moves_pinned}
 use Rattle.split.specs.Split.{is_split}
 use Rattle.split.specs.Request.{Request, request_of}
 use Rattle.split.proofs.DropLaws.{completed-length, completed-accepted, undropped-completed}
+use Rattle.split.proofs.Refused.{some-number}
 use Rattle.flash.specs.Lists.{any}
 use Rattle.flash.specs.Tables.{refusal}
+use Rattle.flash.specs.Refusals.{number_of, number_in}
 use Rattle.flash.specs.Geometry.{Bounds, in_range}
 use Rattle.flash.specs.Chip.{Chip}
+use Rattle.flash.specs.declared.sizes.Sizes.{Sizes}
 use Rattle.flash.proofs.Bounds.{in-range, product_le}
 use Rattle.method.specs.Answers.{bad_parts, move_rows}
 use Rattle.method.proofs.basics.AcceptedCalls.{parts-ok}
+use Rattle.mover.specs.inner.Refusals.{kept_number}
 use Rattle.mover.proofs.PlanLaws.{left-judged, left_split, left-undropped, none_told}
 use Rattle.mover.proofs.RefusalLaws.{move-number, by-list, by-drops, past-drops}
 use contract.Lifetimes.{Lfts}
@@ -37,87 +42,90 @@ returns-then-not-in_range c =
     }
 
 -- ---- the sizes are in their ranges
-ranged : (c : lts.Else1 tie.the-claims reads.Pre reads.Post tie.handed_clauses) → in_range c.args.sizes ≡ true
-ranged c = rw (← c.in_range.ensures) c.if-not-in_range.false
-
-ranges : (c : lts.Else1 tie.the-claims reads.Pre reads.Post tie.handed_clauses) → Bounds c.args.sizes
-ranges c = in-range c.args.sizes (ranged c)
+ranged : (Z : Sizes) {t : Bool} → t ≡ in_range Z → t ≡ true → in_range Z ≡ true
+ranged Z e t = sym e ∙ t
 
 pub bad_parts-requires : goal.bad_parts-requires
-bad_parts-requires c = let B = ranges c.before in (B.n-high, B.m-high, B.p-high)
+bad_parts-requires c = let B = in-range _ (ranged c.args.sizes c.in_range.ensures c.if-not-in_range.false) in (B.n-high, B.m-high, B.p-high)
 
 pub returns-then-bad_parts : goal.returns-then-bad_parts
 unfolding list_left any
 returns-then-bad_parts c =
+    let r = ranged c.args.sizes c.in_range.ensures c.if-not-in_range.false in
     record {
-      value = sym
-          (move-number (asked c.args) (chip c.args) c.args.work.now ∙ rw (ranged c.before.before.before, ← c.bad_parts.ensures, c.if-bad_parts.true));
+      value = sym (move-number (asked c.args) (chip c.args) c.args.work.now ∙ rw (r, ← c.bad_parts.ensures, c.if-bad_parts.true));
       list_after = refl;
       by_destination = λ z. absurd (omega arith);
     }
 
 -- ---- past rows 1 and 2
-in-sizes : (c : lts.Else2 tie.the-claims reads.Pre reads.Post tie.handed_clauses) → in_range c.args.sizes ≡ true
-in-sizes c = ranged c.before.before
+record Lengths (R : Request) : Type 0 where
+  list : length R.list ≡ R.sizes.n * R.sizes.m
+  pins : length R.pins ≡ R.sizes.n * R.sizes.m
+  sets : length R.sets ≡ R.sizes.n * R.sizes.m
+  few : R.sizes.n * R.sizes.m ≤ 4096
+  bounds : Bounds R.sizes
 
-parts : (c : lts.Else2 tie.the-claims reads.Pre reads.Post tie.handed_clauses) → bad_parts (asked c.args) (chip c.args) c.args.work.now ≡ false
-parts c = sym c.bad_parts.ensures ∙ c.if-bad_parts.false
-
-lengths : (c : lts.Else2 tie.the-claims reads.Pre reads.Post tie.handed_clauses) → (let a = c.args in let count = a.sizes.n * a.sizes.m in
-    (length a.list.now ≡ count) × (length a.pins.now ≡ count) × (length a.sets.now ≡ count) × (count ≤ 4096))
-lengths c =
-    let l = parts-ok (asked c.args) (chip c.args) c.args.work.now (parts c) in
-    let B = ranges c.before.before in
-    (l.0, l.1, l.2, product_le c.args.sizes.n c.args.sizes.m B.n-high B.m-high)
+lengths : (R : Request) (chip : Chip) (work : List ℕ) → in_range R.sizes ≡ true → bad_parts R chip work ≡ false → Lengths R
+lengths R chip work r p =
+    let l = parts-ok R chip work p in
+    let B = in-range R.sizes r in
+    record { list = l.0; pins = l.1; sets = l.2; few = product_le R.sizes.n R.sizes.m B.n-high B.m-high; bounds = B }
 
 -- ---- with drops: the list and its pins are judged
 pub original_count-requires : goal.original_count-requires
-original_count-requires c = let B = ranges c.before.before.before.before.before in (B.n-high, B.m-high)
+original_count-requires c = let B = in-range _ (ranged c.args.sizes c.in_range.ensures c.if-not-in_range.false) in (B.n-high, B.m-high)
 
-pub list_refusal-number-requires : goal.list_refusal-number-requires
-list_refusal-number-requires c =
-    let l = lengths c.before.before.before.before.before in
-    (l.1 ∙ sym l.0, omega (arith, l.0, l.3), omega (arith, c.original_count.ensures, l.3), c.requires.1)
+pub list_refusal-requires : goal.list_refusal-requires
+list_refusal-requires c =
+    let r = ranged c.args.sizes c.in_range.ensures c.if-not-in_range.false in
+    let l = lengths (asked c.args) (chip c.args) c.args.work.now r (sym c.bad_parts.ensures ∙ c.if-bad_parts.false) in
+    (l.pins ∙ sym l.list, omega (arith, l.list, l.few), omega (arith, c.original_count.ensures, l.few), c.requires.1)
 
 -- what was found
-judged : (c : lts.After-list_refusal tie.the-claims reads.Pre reads.Post tie.handed_clauses)
-    → (c.list_refusal-number.result ≡ cond (bad_list (c.args.sizes.n * c.args.sizes.m) c.args.list.now) 3
-    (cond (moves_pinned c.args.pins.now c.args.list.now) 11 0))
-judged c = rw (← c.original_count.ensures) c.list_refusal-number.ensures.value
+abbrev judged : Request → ℕ
+judged R = cond (bad_list (R.sizes.n * R.sizes.m) R.list) 3 (cond (moves_pinned R.pins R.list) 11 0)
 
-pub returns-then-number-ne0 : goal.returns-then-number-ne0
-returns-then-number-ne0 c =
+pub returns-in_err-list_refusal : goal.returns-in_err-list_refusal
+returns-in_err-list_refusal c =
+    let R = asked c.args in
     let list = c.args.list.now in
-    let ne = subst (λ (x : ℕ). x ≢ 0) (judged c.before.before) c.if-number-ne0.true in record {
-      value = judged c.before.before
-          ∙ sym (by-drops (asked c.args) (chip c.args) c.args.work.now (in-sizes c.before.before.before.before.before.before.before) (parts c.before.before.before.before.before.before.before) ne);
-      list_after = rw (judged c.before.before)
-          (left-judged (bad_list (c.args.sizes.n * c.args.sizes.m) list) (moves_pinned c.args.pins.now list) list ne);
-      by_destination = λ z. absurd (c.if-number-ne0.true z);
-    }
+    let r = ranged c.args.sizes c.in_range.ensures c.if-not-in_range.false in
+    let e = err_from_is_err_and c.from_residual.result c.from_residual.ensures.1 in
+    let found : number_of c.in_err-list_refusal.field-0.0 ≡ judged R = rw c.original_count.ensures at c.in_err-list_refusal.ensures.value in
+    let ne : judged R ≢ 0 = λ z. absurd (omega (arith, some-number c.in_err-list_refusal.field-0.0, found ∙ z)) in
+    rw (e.1, e.2) (record {
+      value = found ∙ sym (by-drops R (chip c.args) c.args.work.now r (sym c.bad_parts.ensures ∙ c.if-bad_parts.false) ne);
+      list_after = rw found (left-judged (bad_list (c.args.sizes.n * c.args.sizes.m) list) (moves_pinned c.args.pins.now list) list ne);
+      by_destination = λ z. absurd (ne (sym found ∙ z));
+    })
 
 -- ---- and it is completed
-past : (c : lts.Else4 tie.the-claims reads.Pre reads.Post tie.handed_clauses) → (let Z = c.args.sizes in
-    (bad_list (Z.n * Z.m) c.args.list.now ≡ false)
-    × (refusal (move_rows (asked c.args) (chip c.args) c.args.work.now []) ≡ cond (is_split Z.n Z.m (completed c.args.list.now) c.args.sets.now) 0 4))
-past c =
-    past-drops (asked c.args) (chip c.args) c.args.work.now (in-sizes c.before.before.before.before.before.before)
-    (parts c.before.before.before.before.before.before) (sym (judged c.before) ∙ c.if-number-ne0.false)
+past : (R : Request) (chip : Chip) (work : List ℕ) {originals : ℕ} → in_range R.sizes ≡ true → bad_parts R chip work ≡ false → originals ≡ R.sizes.n * R.sizes.m
+    → ◌≡◌ {A = ℕ} 0 (cond (bad_list originals R.list) 3 (cond (moves_pinned R.pins R.list) 11 0))
+    → (bad_list (R.sizes.n * R.sizes.m) R.list ≡ false)
+    × (refusal (move_rows R chip work []) ≡ cond (is_split R.sizes.n R.sizes.m (completed R.list) R.sets) 0 4)
+past R chip work r p o e = past-drops R chip work r p (sym (rw o at e))
 
 pub complete-requires : goal.complete-requires
 complete-requires c =
-    let l = lengths c.before.before.before.before.before.before.before.before.before.before in
+    let R = asked c.args in
+    let r = ranged c.args.sizes c.in_range.ensures c.if-not-in_range.false in
+    let p = sym c.bad_parts.ensures ∙ c.if-bad_parts.false in
+    let l = lengths R (chip c.args) c.args.work.now r p in
+    let good = past R (chip c.args) c.args.work.now r p c.original_count.ensures c.in_ok-list_refusal.ensures.value in
     record {
-      list_len_bound = (omega arith, rw l.0 (past c.before.before.before.before).0);
-      pages_value = (c.requires.0, c.list_refusal-number.ensures.kept_marked c.if-number-ne0.false);
+      list_len_bound = (omega (arith, l.list, l.few), rw l.list good.0);
+      pages_value = (c.requires.0, c.in_ok-list_refusal.ensures.kept_marked refl);
     }
 
 pub sets_refusal-requires : goal.sets_refusal-requires
 sets_refusal-requires c =
-    let l = lengths c.before.before.before.before.before.before.before.before.before.before.before.before.before.before in
-    let B = ranges c.before.before.before.before.before.before.before.before.before.before.before.before.before.before.before.before in
-    let size = ap length c.complete.ensures.list_after ∙ completed-length c.args.list.now ∙ l.0 in
-    record { le_m = (B.m-low, B.n-high, B.m-high); list_len = (size, l.2, omega arith) }
+    let r = ranged c.args.sizes c.in_range.ensures c.if-not-in_range.false in
+    let l = lengths (asked c.args) (chip c.args) c.args.work.now r (sym c.bad_parts.ensures ∙ c.if-bad_parts.false) in
+    let B = l.bounds in
+    let size = ap length c.complete.ensures.list_after ∙ completed-length c.args.list.now ∙ l.list in
+    record { le_m = (B.m-low, B.n-high, B.m-high); list_len = (size, l.sets, omega arith) }
 
 pub shape_of-list-then-has_drop : goal.shape_of-list-then-has_drop
 shape_of-list-then-has_drop c =
@@ -125,48 +133,38 @@ shape_of-list-then-has_drop c =
 
 pub returns-then-has_drop : goal.returns-then-has_drop
 returns-then-has_drop c =
+    let R = asked c.args in
     let Z = c.args.sizes in
     let list = c.args.list.now in
+    let r = ranged Z c.in_range.ensures c.if-not-in_range.false in
+    let p = sym c.bad_parts.ensures ∙ c.if-bad_parts.false in
+    let l = lengths R (chip c.args) c.args.work.now r p in
+    let good = past R (chip c.args) c.args.work.now r p c.original_count.ensures c.in_ok-list_refusal.ensures.value in
     let done = c.complete.ensures.list_after in
     let split = is_split Z.n Z.m (completed list) c.args.sets.now in
-    let found : c.sets_refusal.result ≡ cond split 0 4 =
-    c.sets_refusal.ensures.value ∙ rw (done, completed-accepted (Z.n * Z.m) list (lengths c.before.before.before.before.before.before.before.before.before.before.before.before.before.before.before).0 (past c.before.before.before.before.before.before.before.before.before).0) in record {
-      value = found ∙ sym (past c.before.before.before.before.before.before.before.before.before).1;
+    let found : number_in c.sets_refusal.result ≡ cond split 0 4 =
+    c.sets_refusal.ensures.value ∙ rw (done, completed-accepted (Z.n * Z.m) list l.list good.0) in record {
+      value = found ∙ sym good.1;
       list_after = done ∙ rw found (left_split split list);
       by_destination = λ z. (c.sets_refusal.ensures.by_destination z, c.complete.ensures.drops_told);
     }
 
 -- ---- without drops
-pub sets_refusal-number-requires : goal.sets_refusal-number-requires
-sets_refusal-number-requires c =
-    let l = lengths c.before.before.before.before in
-    let B = ranges c.before.before.before.before.before.before in
-    record { le_m = (B.m-low, B.n-high, B.m-high); list_len = (l.0, l.2, omega arith) }
-
-pub moves_pinned-requires : goal.moves_pinned-requires
-moves_pinned-requires c = let l = lengths c.before.before.before.before.before in (l.1 ∙ sym l.0, omega arith)
-
-none : (c : lts.Else3 tie.the-claims reads.Pre reads.Post tie.handed_clauses) → any (eqb 65535) c.args.list.now ≡ false
-none c = sym c.has_drop.ensures ∙ c.if-has_drop.false
-
--- the list decides, then the pins, and then the split
-decided : (c : lts.After-moves_pinned tie.the-claims reads.Pre reads.Post tie.handed_clauses) → (let found = c.sets_refusal-number.result in
-    refusal (move_rows (asked c.args) (chip c.args) c.args.work.now []) ≡ cond (not (eqb found 3) && c.moves_pinned.result) 11 found)
-decided c =
-    let found = c.sets_refusal-number.ensures.value in
-    by-list (asked c.args) (chip c.args) c.args.work.now (in-sizes c.before.before.before.before.before)
-    (parts c.before.before.before.before.before) (none c.before.before.before) ∙ rw (← found, ← c.moves_pinned.ensures)
-
-pub returns-then-number-moves_pinned : goal.returns-then-number-moves_pinned
-unfolding list_left any
-returns-then-number-moves_pinned c =
-    record { value = sym (decided c.before.before ∙ rw c.if-number-moves_pinned.true); list_after = refl; by_destination = λ z. absurd (omega arith) }
+pub kept_refusal-requires : goal.kept_refusal-requires
+kept_refusal-requires c =
+    let r = ranged c.args.sizes c.in_range.ensures c.if-not-in_range.false in
+    let l = lengths (asked c.args) (chip c.args) c.args.work.now r (sym c.bad_parts.ensures ∙ c.if-bad_parts.false) in
+    let B = l.bounds in
+    (B.m-low, B.n-high, B.m-high, l.list, l.pins, l.sets)
 
 pub returns : goal.returns
+unfolding kept_number
 returns c =
-    let list = c.args.list.now in record {
-      value = sym (decided c.before.before ∙ rw c.if-number-moves_pinned.false);
-      list_after = left-undropped _ list (undropped-completed list (none c.before.before.before.before.before));
-      by_destination = λ z.
-          (c.sets_refusal-number.ensures.by_destination z, none_told list _ _ (none c.before.before.before.before.before) c.requires.0 c.requires.1);
+    let R = asked c.args in
+    let list = c.args.list.now in
+    let r = ranged c.args.sizes c.in_range.ensures c.if-not-in_range.false in
+    let none : any (eqb 65535) list ≡ false = sym c.has_drop.ensures ∙ c.if-has_drop.false in record {
+      value = c.kept_refusal.ensures.value ∙ sym (by-list R (chip c.args) c.args.work.now r (sym c.bad_parts.ensures ∙ c.if-bad_parts.false) none);
+      list_after = left-undropped _ list (undropped-completed list none);
+      by_destination = λ z. (c.kept_refusal.ensures.by_destination z, none_told list _ _ none c.requires.0 c.requires.1);
     }

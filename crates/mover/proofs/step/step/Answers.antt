@@ -1,132 +1,114 @@
 -- A step does the operation of its place, and counts it.
-use Rattle.flash.proofs.Kit.{refl, sym, ◌∙◌, subst, Bool, ◌+◌, ◌*◌, ◌≤◌, ◌<◌, arith}
-use Rattle.flash.proofs.Bounds.{slot-in-marks, slot-in-store, block-in-marks, block-in-store, product_le}
-use Rattle.method.specs.Move.{Move, move_of, Plan}
+use Rattle.flash.proofs.Kit.{refl, sym, ◌∙◌, ◌≢◌, subst, length, length-take-le, Bool, ◌||◌, ◌+◌, ◌*◌, ◌≤◌, arith}
+use Rattle.std.specs.Prelude.{is_none}
+use Rattle.flash.proofs.Bounds.{slot-in-store, block-in-marks, block-in-store}
 use Rattle.method.specs.Place.{write, erase, done, operation_at}
 use Rattle.method.specs.Step.{perform, tallied}
+use Rattle.method.specs.inner.MoveIn.{move_in}
 use Rattle.places.specs.inner.Place.{pass_of}
-use Rattle.places.proofs.StepTold.{IsWrite, is-write, IsErase, is-erase, told-done}
-use Rattle.walk.specs.inner.Terms.{plan_by}
-use Rattle.mover.specs.inner.Steps.{PassTables}
-use Rattle.mover.proofs.StepLaws.{wrote, wrote-bytes, wrote-reads, stepped, WriteKnown, write_known}
-use contract.Lifetimes.{Lfts}
+use Rattle.places.proofs.StepTold.{is-write, is-erase, told-done}
+use Rattle.mover.specs.inner.Prepared.{plan_in}
+use Rattle.mover.specs.inner.Steps.{OtherTable}
+use Rattle.mover.proofs.StepLaws.{of-front, wrote, wrote-bytes, wrote-reads, stepped, write_known, slot-inside}
 use Rattle.mover.proofs.step.step.Goals as goal
-use Rattle.mover.proofs.step.step.Lts as lts
-use Rattle.mover.proofs.step.step.Reads as reads
-use Rattle.mover.proofs.step.step.Tie as tie
 
-abbrev moved : {κs : Lfts 9} → lts.Args tie.the-claims reads.Pre reads.Post tie.handed_clauses κs → Move
-moved a = move_of a.sizes a.list.now a.sets.now
-
-abbrev planned : {κs : Lfts 9} → lts.Args tie.the-claims reads.Pre reads.Post tie.handed_clauses κs → Plan
-planned a = plan_by a.sizes a.list.now a.sets.now a.drops.now
-
--- ---- the step at the place is this write
-writes : (c : lts.Past-After-known_told tie.the-claims reads.Pre reads.Post tie.handed_clauses) → (let a = c.args in let v = c.in-Write in
-    IsWrite a.sizes a.place.at v.backward v.block v.page v.mark)
-writes c = is-write _ _ _ _ _ _ (sym c.in-Write.is ∙ c.operation.ensures)
-
-known : (c : lts.Past-After-known_told tie.the-claims reads.Pre reads.Post tie.handed_clauses) → (let v = c.in-Write in
-    WriteKnown (moved c.args) c.requires.pass_tables.accepted c.args.place c.requires.reciprocal_value.1 c.args.marks.now c.requires.reciprocal_value.2 v.backward v.block)
-known c =
-    let v = c.in-Write in
-    write_known
-    (moved c.args) c.requires.pass_tables.accepted c.args.place c.requires.reciprocal_value.1 c.args.marks.now c.requires.reciprocal_value.2 v.backward v.block v.page (writes c).is
-
--- its slot is one of the store
-inside : (c : lts.Past-After-known_told tie.the-claims reads.Pre reads.Post tie.handed_clauses) → (let Z = c.args.sizes in let v = c.in-Write in
-    (v.block * Z.m + v.page < (Z.n + 1) * Z.m) × ((Z.n + 1) * Z.m ≤ 4160))
-inside c =
-    let Z = c.args.sizes in
-    let v = c.in-Write in
-    let R = c.requires.pass_tables.accepted.ranges in
-    let W = writes c in
-    (slot-in-marks Z v.block v.page W.block_in W.page-in, product_le (Z.n + 1) Z.m {c = 65} {d = 64} (omega (arith, R.n-high)) R.m-high)
-
+-- ---- a write: its page, and its slot, which is one of the store
 pub write_terms-terms-requires : goal.write_terms-terms-requires
 write_terms-terms-requires c =
-    let W = writes c.before.before in
-    let tables = subst (λ (t : Bool). PassTables (moved c.args) c.args.few t c.args.pages.now c.args.other.now c.args.drops.now c.args.places.now)
-    (known c.before.before).pass-is c.requires.pass_tables in
+    let P = c.args.prepared in
+    let M = move_in P.moved in
+    let R = c.requires.place_is in
+    let W = is-write _ _ _ _ _ _ (sym c.in-Write.is ∙ c.operation.ensures) in
+    let K = write_known M P.moved.accepted c.args.place R.0 c.args.marks.now R.1 c.in-Write.backward c.in-Write.block c.in-Write.page W.is in
     record {
-      pass_tables = tables;
-      reciprocal_value = (c.requires.reciprocal_value.0, c.requires.reciprocal_value.3, W.page-in, W.block_in, W.low, W.high);
+      other_tells = subst (λ (t : Bool). OtherTable M (t || is_none P.pages) c.args.other.now) K.pass-is c.requires.other_tells;
+      block_in = (R.2, W.page-in, W.block_in, W.low, W.high);
     }
 
 pub overflow_mul-slot : goal.overflow_mul-slot
-overflow_mul-slot c = omega (arith, inside c.before.before.before.before)
+overflow_mul-slot c =
+    let W = is-write _ _ _ _ _ _ (sym c.in-Write.is ∙ c.operation.ensures) in
+    omega (arith, slot-inside _ c.args.prepared.moved.accepted.ranges _ _ W.block_in W.page-in)
 
 pub overflow_add-slot : goal.overflow_add-slot
-overflow_add-slot c = omega (arith, inside c.before.before.before.before)
+overflow_add-slot c =
+    let W = is-write _ _ _ _ _ _ (sym c.in-Write.is ∙ c.operation.ensures) in
+    omega (arith, slot-inside _ c.args.prepared.moved.accepted.ranges _ _ W.block_in W.page-in)
 
 pub total_to_slot-written-requires : goal.total_to_slot-written-requires
 total_to_slot-written-requires c =
+    let Z = c.args.prepared.moved.sizes in
+    let W = is-write _ _ _ _ _ _ (sym c.in-Write.is ∙ c.operation.ensures) in
     let F = c.write_terms-terms.ensures.count_le_slots_length in
-    let fits = slot-in-store c.args.sizes in record {
-      count_in_bounds =
-          (omega (arith, F.0, F.1), omega (arith, F.0), rw c.requires.reciprocal_value.4 (fits _ (inside c.before.before.before.before.before.before.before).0));
-      by_index = (λ j h. rw c.requires.reciprocal_value.4 (fits _ (F.2 j h).0));
-      by_index_2 = λ j h. (F.2 j h).1;
+    let r = c.write_terms-terms.result in
+    let slots = c.write_terms-terms.new.slots in
+    let cut : r.count ≤ length slots = omega (arith, F.0, F.1) in
+    let fits = slot-in-store Z in record {
+      slots_in_bounds = (
+        omega (arith, F.0, length-take-le r.count slots cut),
+        rw c.requires.place_is.3
+            (fits _ (slot-inside _ c.args.prepared.moved.accepted.ranges _ _ W.block_in W.page-in).0),
+      );
+      by_index = of-front (λ t. t * Z.p + Z.p ≤ length c.args.store.now) slots r.count cut (λ j h. rw c.requires.place_is.3 (fits _ (F.2 j h).0));
+      by_index_2 = of-front (λ t. t ≢ c.in-Write.block * Z.m + c.in-Write.page) slots r.count cut (λ j h. (F.2 j h).1);
     }
 
 pub bounds-marks-slot : goal.bounds-marks-slot
 bounds-marks-slot c =
-    omega (arith, inside c.before.before.before.before.before.before.before.before.before.before, c.requires.reciprocal_value.5)
+    let W = is-write _ _ _ _ _ _ (sym c.in-Write.is ∙ c.operation.ensures) in
+    omega (arith, slot-inside _ c.args.prepared.moved.accepted.ranges _ _ W.block_in W.page-in, c.requires.place_is.4)
 
 pub overflow_add-tally : goal.overflow_add-tally
-overflow_add-tally c = omega (arith, c.requires.reciprocal_value.6)
+overflow_add-tally c = omega (arith, c.requires.tally_small)
 
 pub overflow_add-tally-in-Write : goal.overflow_add-tally-in-Write
-overflow_add-tally-in-Write c = omega (arith, c.requires.reciprocal_value.6)
+overflow_add-tally-in-Write c = omega (arith, c.requires.tally_small)
 
 -- the bytes of its page are few
 pub overflow_cast-tally : goal.overflow_cast-tally
-overflow_cast-tally c =
-    omega (arith, c.total_to_slot-written.ensures.2, c.requires.pass_tables.accepted.ranges.p-high)
+overflow_cast-tally c = omega (arith, c.total_to_slot-written.ensures.2, c.args.prepared.moved.accepted.ranges.p-high)
 
 pub overflow_add-tally-in-Write-2 : goal.overflow_add-tally-in-Write-2
 overflow_add-tally-in-Write-2 c =
-    omega (arith, c.total_to_slot-written.ensures.2, c.requires.pass_tables.accepted.ranges.p-high, c.requires.reciprocal_value.6)
+    omega (arith, c.total_to_slot-written.ensures.2, c.args.prepared.moved.accepted.ranges.p-high, c.requires.tally_small)
 
 -- and so are the slots that were summed
 pub overflow_cast-tally-in-Write : goal.overflow_cast-tally-in-Write
 overflow_cast-tally-in-Write c = (omega (arith, c.write_terms-terms.ensures.count_le_slots_length.0))
 
 pub overflow_add-tally-in-Write-3 : goal.overflow_add-tally-in-Write-3
-overflow_add-tally-in-Write-3 c =
-    omega (arith, c.write_terms-terms.ensures.count_le_slots_length.0, c.requires.reciprocal_value.6)
+overflow_add-tally-in-Write-3 c = omega (arith, c.write_terms-terms.ensures.count_le_slots_length.0, c.requires.tally_small)
 
--- ---- it is this erase
-erases : (c : lts.Past-After-known_told2 tie.the-claims reads.Pre reads.Post tie.handed_clauses)
-    → (let a = c.args in IsErase a.sizes a.place.at c.in-Erase.block)
-erases c = (let a = c.args in is-erase a.sizes a.place.at _ (sym c.in-Erase.is ∙ c.operation.ensures))
-
+-- ---- an erase
 pub erase_block-requires : goal.erase_block-requires
 erase_block-requires c =
-    let block = c.in-Erase.block in
-    let i = (erases c.before.before.before).block_in in
+    let Z = c.args.prepared.moved.sizes in
+    let E = is-erase Z c.args.place.at _ (sym c.in-Erase.is ∙ c.operation.ensures) in
     record {
-      p_in_bounds = rw c.requires.reciprocal_value.4 (block-in-store c.args.sizes block i);
-      m_in_bounds = rw c.requires.reciprocal_value.5 (block-in-marks c.args.sizes block i);
+      p_in_bounds = rw c.requires.place_is.3 (block-in-store Z c.in-Erase.block E.block_in);
+      m_in_bounds = rw c.requires.place_is.4 (block-in-marks Z c.in-Erase.block E.block_in);
     }
 
 -- ---- what is left
 pub returns-in-Write : goal.returns-in-Write
 unfolding tallied
 returns-in-Write c =
-    let summed = c.total_to_slot-written.ensures in
     let a = c.args in
+    let P = a.prepared in
+    let X = plan_in P in
+    let R = c.requires.place_is in
     let v = c.in-Write in
-    let W = writes c.before.before.before.before.before.before.before.before.before.before.before.before.before.before.before in
     let pass = pass_of v.backward in
-    let sums = c.write_terms-terms.ensures.by_index a.marks.now
-    (known c.before.before.before.before.before.before.before.before.before.before.before.before.before.before.before).shape in
+    let W = is-write _ _ _ _ _ _ (sym v.is ∙ c.operation.ensures) in
+    let K = write_known (move_in P.moved) P.moved.accepted a.place R.0 a.marks.now R.1 v.backward v.block v.page W.is in
+    let summed = c.total_to_slot-written.ensures in
+    let sums = c.write_terms-terms.ensures.by_index a.marks.now K.shape in
     let room = c.write_terms-terms.ensures.count_le_slots_length.1 in record {
-      fact = (stepped (planned c.args) a.place.at (write pass v.block v.page) W.is _ _ _ _
-          (wrote (planned c.args) pass v.block v.page a.store.now a.marks.now c.requires.reciprocal_value.4 _ _ sums _ v.mark summed.0 W.mark-is)
+      fact = (stepped X a.place.at (write pass v.block v.page) W.is _ _ _ _
+          (wrote X pass v.block v.page a.store.now a.marks.now R.3 _ _ sums _ v.mark summed.0 W.mark-is)
           (rw (
-            ← wrote-bytes (planned c.args) pass v.block v.page a.store.now a.marks.now c.requires.reciprocal_value.4 _ _ sums _ summed.1,
-            wrote-reads (planned c.args) pass v.block v.page a.store.now a.marks.now c.requires.reciprocal_value.4 _ _ sums,
+            ← wrote-bytes X pass v.block v.page a.store.now a.marks.now R.3 _ _ sums _ summed.1,
+            wrote-reads X pass v.block v.page a.store.now a.marks.now R.3 _ _ sums,
           )) room).0;
       slots_len = room;
     }
@@ -134,16 +116,19 @@ returns-in-Write c =
 pub returns-in-Erase : goal.returns-in-Erase
 unfolding perform tallied
 returns-in-Erase c =
-    let e = erases c.before.before.before.before.before.before.before.before.before.before in
-    let room = c.requires.reciprocal_value.3 in record {
-      fact = (stepped (planned c.args) c.args.place.at (erase c.in-Erase.block) e.is _ _ _ _ c.erase_block.ensures refl room).0;
+    let P = c.args.prepared in
+    let E = is-erase P.moved.sizes c.args.place.at _ (sym c.in-Erase.is ∙ c.operation.ensures) in
+    let room = c.requires.place_is.2 in
+    record {
+      fact = (stepped (plan_in P) c.args.place.at (erase c.in-Erase.block) E.is _ _ _ _ c.erase_block.ensures refl room).0;
       slots_len = room;
     }
 
 pub returns-in-Done : goal.returns-in-Done
 unfolding perform tallied
 returns-in-Done c =
-    let Z = c.args.sizes in
+    let P = c.args.prepared in
+    let Z = P.moved.sizes in
     let op = told-done Z (operation_at Z c.args.place.at) (sym c.in-Done.is ∙ c.operation.ensures) in
-    let room = c.requires.reciprocal_value.3 in
-    record { fact = (stepped (planned c.args) c.args.place.at done op _ _ _ _ refl refl room).0; slots_len = room }
+    let room = c.requires.place_is.2 in
+    record { fact = (stepped (plan_in P) c.args.place.at done op _ _ _ _ refl refl room).0; slots_len = room }

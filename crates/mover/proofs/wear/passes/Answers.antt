@@ -9,10 +9,11 @@ left_less limit counter erases h = bool_eq _ _
     (λ e. lt-ltb limit (counter + erases) (omega (arith, ltb-true (limit - counter) erases e)))
     (λ e. lt-ltb (limit - counter) erases (omega (arith, ltb-true limit (counter + erases) e)))
 
-pub returns-then-limit-counter : goal.returns-then-limit-counter
-returns-then-limit-counter c =
-    let a = c.args in
-    sym (lt-ltb a.limit (a.counter + a.erases) (omega (arith, c.if-limit-counter.true)))
+pub returns-in-Some : goal.returns-in-Some
+returns-in-Some c = let a = c.args in let e = c.in-Some.ensures in rw e.1 (left_less a.limit a.counter a.erases e.0)
 
-pub returns : goal.returns
-returns c = (let a = c.args in left_less a.limit a.counter a.erases c.if-limit-counter.false)
+pub returns-in-None : goal.returns-in-None
+returns-in-None c =
+    let a = c.args in
+    let over : a.counter ≤ a.limit → ⊥ = c.in-None.ensures in
+    sym (lt-ltb a.limit (a.counter + a.erases) (omega arith))

@@ -3,22 +3,11 @@ use Rattle.flash.proofs.Kit.{◌≡◌, subst, ℕ, arith}
 use Rattle.orders.specs.Dictionary.{factorial, order_at}
 use Rattle.orders.specs.inner.Table.{y_by}
 use Rattle.orders.specs.inner.Search.{FirstLeast}
-use Rattle.orders.proofs.DictionaryLaws.{factorial-some, factorial-small, order-length}
+use Rattle.orders.proofs.DictionaryLaws.{factorial-some, order-length}
 use Rattle.orders.proofs.TableLaws.{y-below}
-use Rattle.orders.proofs.BestLaws.{none-searched, searched-better, searched-other, all-searched}
+use Rattle.orders.proofs.BestLaws.{searched-better, searched-other, all-searched}
 use Rattle.orders.proofs.search.best_number.Goals as goal
 use Rattle.orders.proofs.search.best_number.Goals.{else-y-best, then-y-best}
-
-pub loop-k-init : goal.loop-k-init
-loop-k-init c = (none-searched _ _, omega arith)
-
-pub y_of-y-requires : goal.y_of-y-requires
-y_of-y-requires c =
-    (c.requires.0, c.requires.1, omega (arith, c.loop-k-test.true, c.order_count-count.ensures), c.requires.2)
-
-pub overflow_add-k : goal.overflow_add-k
-overflow_add-k c =
-    omega (arith, c.loop-k-test.true, c.order_count-count.ensures, factorial-small c.args.n c.requires.1)
 
 pub loop-k-preserved : goal.loop-k-preserved
 loop-k-preserved c =
@@ -28,16 +17,10 @@ loop-k-preserved c =
     let y = c.y_of-y.ensures in
     let small = y-below c.args.table.now (order_at n l.k) n (order-length n l.k) c.requires.0 in
     elim c.if-y-best.branch [
-      | then-y-best w ↦ (
-        rw (w.best-is, w.at-is, y)
-            (searched-better f n l.k l.at l.best l.invariant.0 (omega (arith, w.if-y-best.true))),
-        omega arith,
-      )
-      | else-y-best w ↦ (
-        rw (w.best-is, w.at-is)
-            (searched-other f n l.k l.at l.best l.invariant.0 (omega (arith, w.if-y-best.false)) small),
-        omega arith,
-      )
+      | then-y-best w ↦
+          rw (w.best-is, w.at-is, y) (searched-better f n l.k l.at l.best l.invariant (omega (arith, w.if-y-best.true)))
+      | else-y-best w ↦
+          rw (w.best-is, w.at-is) (searched-other f n l.k l.at l.best l.invariant (omega (arith, w.if-y-best.false)) small)
     ]
 
 pub returns : goal.returns
@@ -45,4 +28,4 @@ returns c =
     let l = c.loop-k in
     let e : l.k ≡ factorial c.args.n = omega (arith, c.loop-k-test.false, c.order_count-count.ensures) in
     subst (λ count. FirstLeast (λ x. y_by c.args.table.now (order_at c.args.n x)) count l.at) e
-    (all-searched _ _ l.k l.at l.best l.invariant.0 (omega (arith, e, factorial-some c.args.n)))
+    (all-searched _ _ l.k l.at l.best l.invariant (omega (arith, e, factorial-some c.args.n)))

@@ -1,6 +1,6 @@
 -- `y_in` makes the order and asks for its y.
-use Rattle.flash.proofs.Kit.{sym, ap, ◌∙◌, subst, arith, length}
-use Rattle.orders.specs.inner.Table.{Short, y_by}
+use Rattle.flash.proofs.Kit.{sym, ap, subst, arith, length}
+use Rattle.orders.specs.inner.Table.{Short}
 use Rattle.orders.proofs.DictionaryLaws.{order-length}
 use Rattle.orders.proofs.FoundLaws.{short-order}
 use Rattle.orders.proofs.search.y_in.Goals as goal
@@ -13,7 +13,3 @@ y_by-requires c =
       subst Short (sym is) (short-order n c.args.k c.requires.1 c.requires.2),
       omega (arith, ap length is, order-length n c.args.k, c.requires.0),
     )
-
-pub returns : goal.returns
-returns c =
-    c.y_by.ensures ∙ ap (y_by c.args.table.now) c.put_order.ensures

@@ -1,90 +1,52 @@
--- `operation` meets its contract: two refusals, and the three kinds of step.
-use Rattle.flash.proofs.Kit.{◌≡◌, sym, ap, ◌∙◌, true, ℕ, Bool, arith, lt-ltb, le-ltb}
-use Rattle.flash.specs.Geometry.{in_range}
+-- `operation` meets its contract: two refusals, or the step at the place.
+use Rattle.flash.proofs.Kit.{◌≡◌, sym, ap, ◌∙◌, ℕ, arith, lt-ltb, le-ltb}
 use Rattle.flash.proofs.Bounds.{in-range}
 use Rattle.method.specs.Place.{operation_at}
-use Rattle.places.specs.declared.place.Op.TheVariants.{Write, Erase}
-use Rattle.places.specs.inner.Place.{op_of}
-use Rattle.places.specs.Operation.{told_of, operation_answer}
+use Rattle.flash.specs.declared.sizes.Sizes.{Sizes}
+use Rattle.places.specs.declared.place.Op.{Op}
+use Rattle.places.specs.declared.place.Place.{Place}
+use Rattle.places.specs.inner.Place.{place_of, op_of}
+use Rattle.places.specs.Operation.{operation_answer}
 use Rattle.places.proofs.PlaceLaws.{number_is, is-place}
-use Rattle.places.proofs.StepTold.{IsWrite, is-write, IsErase, is-erase, told-done}
+use Rattle.places.proofs.StepTold.{told-step, step-within}
 use Rattle.places.proofs.operation.operation.Goals as goal
-use Rattle.places.proofs.operation.operation.Lts as lts
-use Rattle.places.proofs.operation.operation.Reads as reads
-use Rattle.places.proofs.operation.operation.Tie as tie
 
-pub returns-then-not-in_range : goal.returns-then-not-in_range
+pub returns-then-not-in_range-clause-answer : goal.returns-then-not-in_range-clause-answer
 unfolding operation_answer
-returns-then-not-in_range c = rw (sym c.in_range.ensures ∙ c.if-not-in_range.true)
-
--- the sizes are in range
-in-ranges : (c : lts.Else1 tie.the-claims reads.Pre reads.Post) → in_range c.args.sizes ≡ true
-in-ranges c = sym c.in_range.ensures ∙ c.if-not-in_range.false
+returns-then-not-in_range-clause-answer c = rw (sym c.in_range.ensures ∙ c.if-not-in_range.true)
 
 pub last_place-requires : goal.last_place-requires
-last_place-requires c = let B = in-range _ (in-ranges c) in (B.n-high, B.m-high)
+last_place-requires c =
+    let B = in-range c.args.sizes (sym c.in_range.ensures ∙ c.if-not-in_range.false) in
+    (B.n-high, B.m-high)
 
-pub returns-then-last_place-place : goal.returns-then-last_place-place
+pub returns-then-last_place-place-clause-answer : goal.returns-then-last_place-place-clause-answer
 unfolding operation_answer
-returns-then-last_place-place c = rw (in-ranges c.before.before, lt-ltb _ _ (rw c.last_place.ensures at c.if-last_place-place.true))
+returns-then-last_place-place-clause-answer c =
+    let in_ranges = sym c.in_range.ensures ∙ c.if-not-in_range.false in
+    rw (in_ranges, lt-ltb _ _ (rw c.last_place.ensures at c.if-last_place-place.true))
 
 pub new-requires : goal.new-requires
-new-requires c = (in-range _ (in-ranges c.before.before), omega (arith, c.last_place.ensures, c.if-last_place-place.false))
+new-requires c =
+    (in-range c.args.sizes (sym c.in_range.ensures ∙ c.if-not-in_range.false), omega (arith, c.last_place.ensures, c.if-last_place-place.false))
 
 pub operation-requires : goal.operation-requires
-operation-requires c = (in-range _ (in-ranges c.before.before.before), is-place _ _ _ c.new.ensures)
+operation-requires c = (in-range c.args.sizes (sym c.in_range.ensures ∙ c.if-not-in_range.false), is-place _ _ _ c.new.ensures)
 
--- what the place tells is told of the number
-told_of_lem : (c : lts.After-operation tie.the-claims reads.Pre reads.Post)
-    → (let a = c.args in c.operation.result ≡ op_of a.sizes (operation_at a.sizes a.place))
-told_of_lem c = let a = c.args in c.operation.ensures ∙ ap (λ (p : ℕ). op_of a.sizes (operation_at a.sizes p)) (number_is _ _ _ c.new.ensures)
+-- what is told at the place that was made
+told-at : (Z : Sizes) (place : ℕ) (here : Place) {told : Op} → here ≡ place_of Z place → told ≡ op_of Z (operation_at Z here.at) → told ≡ op_of Z (operation_at Z place)
+told-at Z place here e f = f ∙ ap (λ (p : ℕ). op_of Z (operation_at Z p)) (number_is _ _ _ e)
 
--- no refusal: the answer is the step
-answer : (c : lts.After-operation tie.the-claims reads.Pre reads.Post)
-    → (let a = c.args in
-    operation_answer a.sizes a.place ≡ told_of a.sizes (operation_at a.sizes a.place))
+pub returns-clause-answer : goal.returns-clause-answer
 unfolding operation_answer
-answer c = rw (in-ranges c.before.before.before.before, le-ltb _ _ (rw c.last_place.ensures at c.if-last_place-place.false))
+returns-clause-answer c =
+    let Z = c.args.sizes in
+    let in_ranges = sym c.in_range.ensures ∙ c.if-not-in_range.false in
+    let step = told-at _ _ _ c.new.ensures c.operation.ensures in
+    rw (in_ranges, le-ltb _ _ (rw c.last_place.ensures at c.if-last_place-place.false)) (rw step (told-step Z (operation_at Z c.args.place)))
 
--- the step at the place is this write
-writes : (o : lts.After-operation tie.the-claims reads.Pre reads.Post) (b : Bool) (block page mark : ℕ)
-    → o.operation.result ≡ Write b block page mark
-    → IsWrite o.args.sizes o.args.place b block page mark
-writes o b block page mark e = is-write _ _ _ _ _ _ (sym e ∙ told_of_lem o)
+pub returns-clause-step : goal.returns-clause-step
+returns-clause-step c = told-at _ _ _ c.new.ensures c.operation.ensures
 
-pub overflow_cast-told : goal.overflow_cast-told
-overflow_cast-told c =
-    let W = writes c.before _ _ _ _ c.in-Write.is in
-    record { fits = omega (arith, (in-range _ (in-ranges c.before.before.before.before.before)).n-high) }
-
-pub overflow_cast-told-in-Write : goal.overflow_cast-told-in-Write
-overflow_cast-told-in-Write c =
-    let W = writes c.before _ _ _ _ c.in-Write.is in
-    record { fits = omega (arith, (in-range _ (in-ranges c.before.before.before.before.before)).m-high) }
-
--- the step at the place is this erase
-erases : (o : lts.After-operation tie.the-claims reads.Pre reads.Post) (block : ℕ)
-    → o.operation.result ≡ Erase block
-    → IsErase o.args.sizes o.args.place block
-erases o block e = is-erase _ _ _ (sym e ∙ told_of_lem o)
-
-pub overflow_cast-told-in-Erase : goal.overflow_cast-told-in-Erase
-overflow_cast-told-in-Erase c =
-    let E = erases c.before _ c.in-Erase.is in
-    record { fits = omega (arith, (in-range _ (in-ranges c.before.before.before.before.before)).n-high) }
-
-pub returns-in-Write : goal.returns-in-Write
-unfolding told_of
-returns-in-Write c =
-    let W = writes c.before _ _ _ _ c.in-Write.is in
-    rw W.mark-is (sym (answer c.before ∙ ap (told_of _) W.is))
-
-pub returns-in-Erase : goal.returns-in-Erase
-unfolding told_of
-returns-in-Erase c = sym (answer c.before ∙ ap (told_of _) (erases c.before _ c.in-Erase.is).is)
-
-pub returns-in-Done : goal.returns-in-Done
-unfolding told_of
-returns-in-Done c =
-    let a = c.args in
-    sym (answer c.before ∙ ap (told_of a.sizes) (told-done a.sizes (operation_at a.sizes a.place) (sym c.in-Done.is ∙ told_of_lem c.before)))
+pub returns-clause-within : goal.returns-clause-within
+returns-clause-within c = step-within c.args.sizes c.operation.result _ c.operation.ensures

@@ -15,9 +15,6 @@ use Rattle.places.proofs.place_marks.is_elsewhere.Tie as tie
 pub returns-then-last_place-place : goal.returns-then-last_place-place
 returns-then-last_place-place c = too_far _ _ _ (rw (← c.last_place.ensures) c.if-last_place-place.true)
 
-pub new-here-requires : goal.new-here-requires
-new-here-requires c = (c.requires.0, rw (← c.last_place.ensures) c.if-last_place-place.false)
-
 -- the place that the code holds is the one asked for, and lies in the move
 module _ (c : lts.After-new tie.the-claims reads.Pre reads.Post) where
   abbrev Z : Sizes

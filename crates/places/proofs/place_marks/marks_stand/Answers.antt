@@ -20,15 +20,6 @@ stretch_is-requires c =
     let f = in-slots _ _ c.requires.1 c.requires.0 c.requires.2 in
     (omega arith, omega arith)
 
-pub letter_after-requires-2 : goal.letter_after-requires-2
-letter_after-requires-2 c = (
-  c.requires.0.s-high,
-  elim c.if-place.branch [
-    | then-place w ↦ omega (arith, w.written-is)
-    | else-place w ↦ omega (arith, w.written-is)
-  ],
-)
-
 pub stretch_is-requires-2 : goal.stretch_is-requires-2
 stretch_is-requires-2 c =
     let f = in-slots _ _ c.requires.1 c.requires.0 c.requires.2 in
@@ -38,15 +29,6 @@ pub stretch_is-requires-3 : goal.stretch_is-requires-3
 stretch_is-requires-3 c =
     let f = in-slots _ _ c.requires.1 c.requires.0 c.requires.2 in
     (omega arith, omega arith)
-
-pub letter_after-requires-3 : goal.letter_after-requires-3
-letter_after-requires-3 c = (
-  c.requires.0.s-high,
-  elim c.if-place-2.branch [
-    | then-place-2 w ↦ omega (arith, w.kept-is)
-    | else-place-2 w ↦ omega (arith, w.kept-is)
-  ],
-)
 
 pub stretch_is-requires-4 : goal.stretch_is-requires-4
 stretch_is-requires-4 c =

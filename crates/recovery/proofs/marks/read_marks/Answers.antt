@@ -8,7 +8,7 @@ use Rattle.recovery.specs.MarksRead.{answer_of}
 use Rattle.recovery.specs.inner.Gathered.{Shown}
 use Rattle.flash.proofs.Ranges.{all_in}
 use Rattle.flash.proofs.Bounds.{block-in-marks}
-use Rattle.recovery.proofs.Search.{Upto, torn-in, known_in, block-known}
+use Rattle.recovery.proofs.Search.{Upto, torn-in, block-known}
 use Rattle.recovery.proofs.Search.{page-same, page-opens, page-first, page-second, block-changes, block-astray, block-kept}
 use Rattle.recovery.proofs.Stretches.{upto-passed, upto_rest}
 use Rattle.recovery.proofs.Tells.{tells_none, tells-second, tells}
@@ -32,7 +32,6 @@ search-init c =
     let upper : c.letter_after-upper.result ≡ letter sizes 1 = c.letter_after-upper.ensures in
     let r = c.passed_over-block.result in
     let full = (rw upper at c.passed_over-block.ensures.1) in (
-      omega arith,
       omega arith,
       rw upper (upto-passed sizes (omega arith) marks 0 r (omega arith) full),
     )
@@ -60,10 +59,7 @@ loop-page-init c =
     let a = c.args in
     let sizes = a.sizes in
     let pages : 0 < a.sizes.m = omega arith in
-    let K = c.known_pages-page.ensures in (
-      known_in sizes pages a.marks.now o.block _ _ K,
-      block-known sizes pages a.marks.now o.block _ _ _ _ K,
-    )
+    block-known sizes pages a.marks.now o.block _ _ _ _ c.known_pages-page.ensures
 
 pub overflow_add-mark : goal.overflow_add-mark
 overflow_add-mark c = omega (arith, room c.before.before.before.before.before)
@@ -79,8 +75,8 @@ overflow_add-unfinished c =
     let sizes = a.sizes in
     let pages : 0 < a.sizes.m = omega arith in
     let within = room c.before.before.before.before.before.before.before in
-    let e = page-opens sizes pages a.marks.now o.block l.page _ _ within c.loop-page-test.true l.invariant.1 c.if-whole-mark.true in
-    omega (arith, o.invariant.2.few)
+    let e = page-opens sizes pages a.marks.now o.block l.page _ _ within c.loop-page-test.true l.invariant c.if-whole-mark.true in
+    omega (arith, o.invariant.1.few)
 
 pub loop-page-preserved : goal.loop-page-preserved
 loop-page-preserved c =
@@ -91,16 +87,12 @@ loop-page-preserved c =
     let pages : 0 < a.sizes.m = omega arith in
     let within = room c.before.before.before.before.before.before.before in
     elim c.if-whole-mark.branch [
-      | then-whole-mark+else-unfinished-eq2 w ↦ (
-        omega arith,
-        rw (w.unfinished-is, w.torn-is, w.whole-is) (page-first sizes pages a.marks.now o.block l.page _ _ within c.loop-page-test.true
-            l.invariant.1 o.invariant.2.few w.if-unfinished-eq2.false w.if-whole-mark.true),
-      )
-      | else-whole-mark w ↦ (
-        omega arith,
-        rw (w.unfinished-is, w.torn-is, w.whole-is) (page-same sizes pages a.marks.now o.block l.page _ _ within c.loop-page-test.true
-            l.invariant.1 w.if-whole-mark.false),
-      )
+      | then-whole-mark+else-unfinished-eq2 w ↦
+          rw (w.unfinished-is, w.torn-is, w.whole-is) (page-first sizes pages a.marks.now o.block l.page _ _ within c.loop-page-test.true
+          l.invariant o.invariant.1.few w.if-unfinished-eq2.false w.if-whole-mark.true)
+      | else-whole-mark w ↦
+          rw (w.unfinished-is, w.torn-is, w.whole-is) (page-same sizes pages a.marks.now o.block l.page _ _ within c.loop-page-test.true
+          l.invariant w.if-whole-mark.false)
     ]
 
 pub returns-then-change-blocks : goal.returns-then-change-blocks
@@ -112,7 +104,7 @@ returns-then-change-blocks c =
     let pages : 0 < a.sizes.m = omega arith in
     let none = tells_none sizes pages a.marks.now
     (block-astray sizes pages a.marks.now o.block l.page _ _ _ _ _ (omega arith) c.loop-page-test.false
-    o.invariant.2 l.invariant.1 (omega arith) c.if-whole-letter.true) in
+    o.invariant.1 l.invariant (omega arith) c.if-whole-letter.true) in
     record { result_value = none.0; shown = none.1 }
 
 pub are_full-requires : goal.are_full-requires
@@ -131,19 +123,17 @@ search-preserved c =
     let sizes = a.sizes in
     let pages : 0 < a.sizes.m = omega arith in
     let h : o.block ≤ a.sizes.n = omega arith in
-    let torn = torn-in sizes a.marks.now l.invariant.1 h o.invariant.1 in
+    let torn = torn-in sizes a.marks.now l.invariant h o.invariant.0 in
     elim c.if-whole-letter.branch [
       | then-whole-letter+else-change-blocks+else-are_full w ↦ (
-        omega arith,
         torn,
         rw (w.upper-is, w.change-is) (block-changes sizes pages a.marks.now o.block l.page _ _ _ _ _ h c.loop-page-test.false
-            o.invariant.2 l.invariant.1 (omega arith) w.if-whole-letter.true),
+            o.invariant.1 l.invariant (omega arith) w.if-whole-letter.true),
       )
       | else-whole-letter w ↦ (
-        omega arith,
         torn,
         rw (w.upper-is, w.change-is) (block-kept sizes pages a.marks.now o.block l.page _ _ _ _ _ h c.loop-page-test.false
-            o.invariant.2 l.invariant.1 w.if-whole-letter.false),
+            o.invariant.1 l.invariant w.if-whole-letter.false),
       )
     ]
 
@@ -154,7 +144,7 @@ moment-requires c =
       | else-search-test w ↦ omega arith
       | then-search-test+then-loop-page-test+then-whole-mark+then-unfinished-eq2 w ↦ omega arith
       | then-search-test+else-loop-page-test+then-whole-letter+else-change-blocks+then-are_full w ↦
-          (omega arith, rw w.torn-is (torn-in a.sizes a.marks.now w.loop-page.invariant.1 (omega arith) c.search.invariant.1))
+          (omega arith, rw w.torn-is (torn-in a.sizes a.marks.now w.loop-page.invariant (omega arith) c.search.invariant.0))
     ]
 
 pub returns : goal.returns
@@ -170,18 +160,18 @@ returns c =
     (elim c.search-test.branch [
       | else-search-test w ↦
           let end : o.block ≡ a.sizes.n + 1 = omega arith in
-          let U : Upto sizes marks (a.sizes.n + 1) o.unfinished o.torn o.upper o.change = rw end at o.invariant.2 in
+          let U : Upto sizes marks (a.sizes.n + 1) o.unfinished o.torn o.upper o.change = rw end at o.invariant.1 in
           rw (w.unfinished-is, w.torn-is, w.upper-is, w.change-is, final) (tells sizes pages marks _ _ _ _ U)
       | then-search-test+then-loop-page-test+then-whole-mark+then-unfinished-eq2 w ↦
           let l = w.loop-page in
           rw (w.unfinished-is, w.if-unfinished-eq2.true)
           (tells-second sizes pages marks _ _ _
           (page-second sizes pages marks o.block l.page _ _ (room (record { before = c.before.before.before.before; search-test = w.search-test }))
-          w.loop-page-test.true l.invariant.1 o.invariant.2 (omega arith) w.if-unfinished-eq2.true w.if-whole-mark.true))
+          w.loop-page-test.true l.invariant o.invariant.1 (omega arith) w.if-unfinished-eq2.true w.if-whole-mark.true))
       | then-search-test+else-loop-page-test+then-whole-letter+else-change-blocks+then-are_full w ↦
           let l = w.loop-page in
           let h : o.block ≤ a.sizes.n = omega arith in
-          let U = block-changes sizes pages marks o.block l.page _ _ _ _ _ h w.loop-page-test.false o.invariant.2 l.invariant.1
+          let U = block-changes sizes pages marks o.block l.page _ _ _ _ _ h w.loop-page-test.false o.invariant.1 l.invariant
           (omega arith) w.if-whole-letter.true in
           let all = sym w.are_full.ensures ∙ w.if-are_full.true in
           let rest : (j : ℕ) → o.block + 1 ≤ j → j < a.sizes.n + 1 → is_full a.sizes.m marks j

@@ -10,13 +10,9 @@ use Rattle.split.proofs.drops.next_mark.Lts as lts
 use Rattle.split.proofs.drops.next_mark.Reads as reads
 use Rattle.split.proofs.drops.next_mark.Tie as tie
 
-pub loop-at-init : goal.loop-at-init
-loop-at-init c = (omega arith, omega arith, λ j l h. absurd (omega arith))
-
 -- the mask has 64 bits
-wide : (c : lts.After-shared_slice_known2 tie.the-claims reads.Pre reads.Post goal.the-invariant-loop-at goal.the-decreases-loop-at)
-    → (get_or c.args.masks.now (c.loop-at.at / 64) 0 < 2 ^ 64)
-wide c = omega (arith, c.shared_slice_known-in-loop-at-1.given (c.loop-at.at / 64))
+wide : (c : lts.After-lowest_free tie.the-claims reads.Pre reads.Post goal.the-invariant-loop-at goal.the-decreases-loop-at) → get_or c.args.masks.now (c.loop-at.at / 64) 0 < 2 ^ 64
+wide c = omega arith
 
 -- no mark is among those that are passed over
 passed : (c : lts.After-lowest_free tie.the-claims reads.Pre reads.Post goal.the-invariant-loop-at goal.the-decreases-loop-at) → ((j : ℕ) → c.args.start ≤ j → j < c.loop-at.at + c.lowest_free-skipped.result → j < (c.loop-at.at / 64 + 1) * 64
@@ -28,7 +24,7 @@ passed c j low h end =
     (λ (q : j < at). c.loop-at.invariant.2 j low q)
     (λ (q : at ≤ j).
     let e : j ≡ at + (j - at) = omega arith in
-    rw e (skips masks at (wide c.before) (j - at) (omega (arith, c.lowest_free-skipped.ensures)) (omega arith)))
+    rw e (skips masks at (wide c) (j - at) (omega (arith, c.lowest_free-skipped.ensures)) (omega arith)))
     (lt-cases j at)
 
 pub returns-then-skipped-lt-BITS : goal.returns-then-skipped-lt-BITS
@@ -37,7 +33,7 @@ returns-then-skipped-lt-BITS c =
     let masks = c.args.masks.now in
     let e = c.lowest_free-skipped.ensures in
     let some = rw e at c.if-skipped-lt-BITS.true in
-    let mask = wide c.before.before.before in
+    let mask = wide c.before.before in
     let inside : at + c.lowest_free-skipped.result < (at / 64 + 1) * 64 = omega (arith, e, skipped-lt masks at mask some) in
     sym (first-is _ _ _ 4096 _ (record {
       low = omega (arith, c.loop-at.invariant.0);

@@ -1,10 +1,6 @@
 -- `invert_rows` leaves the inverse of each row.
-use Rattle.flash.proofs.Kit.{◌≡◌, ◌-◌, ◌≤◌, length}
 use Rattle.split.proofs.InverseLaws.{Turned}
 use Rattle.split.proofs.inverse.invert_rows.Given as goal
 
 abbrev pub invariant-loop-i : goal.invariant-loop-i
-invariant-loop-i l = Turned l.m l.initial.bytes l.bytes l.i × (l.i ≤ l.n) × (length l.bytes ≡ length l.initial.bytes)
-
-abbrev pub decreases-loop-i : goal.decreases-loop-i
-decreases-loop-i l = l.n - l.i
+invariant-loop-i l = Turned l.m l.initial.bytes l.bytes l.i

@@ -14,7 +14,7 @@ none-moved pins list h e = sym (none_is _ 0 (length list) (λ j l m.
 
 pub loop-k-init : goal.loop-k-init
 unfolding any range
-loop-k-init c = (omega arith, refl)
+loop-k-init c = refl
 
 pub loop-k-preserved : goal.loop-k-preserved
 unfolding is_pinned
@@ -23,7 +23,7 @@ loop-k-preserved c =
     let l = c.loop-k in
     let test : ℕ → Bool = λ j. is_pinned a.pins.now j && not (eqb (get_or a.list.now j 0) j) in
     let next = rw (zero-add l.k) at (any_next test 0 l.k) in
-    (omega arith, rw l.invariant.1 (sym next ∙ ap (λ (n : ℕ). any test (range 0 n)) (sym (add-one l.k))))
+    rw l.invariant (sym next ∙ ap (λ (n : ℕ). any test (range 0 n)) (sym (add-one l.k)))
 
 pub returns-then-is_filled : goal.returns-then-is_filled
 returns-then-is_filled c = none-moved _ _ c.requires.0 (sym c.is_filled.ensures ∙ c.if-is_filled.true)
@@ -33,4 +33,4 @@ unfolding moves_pinned
 returns c =
     let l = c.loop-k in
     let end : l.k ≡ length c.args.list.now = omega arith in
-    l.invariant.1 ∙ rw end
+    l.invariant ∙ rw end

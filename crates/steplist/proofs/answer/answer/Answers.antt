@@ -43,27 +43,27 @@ put_refused-requires c = omega (arith, refused-short)
 pub put_move-requires : goal.put_move-requires
 put_move-requires c =
     let input = c.args.input.now in
-    (asked _ (within_limit input) c.read.new.numbers (ap (asked_as c.read.new.numbers) (sym c.in-Move.is) ∙ told c.before.before.before), omega arith)
+    (asked _ (within_limit input) c.read.new.numbers (ap (asked_as c.read.new.numbers) (sym c.in-Ok.is) ∙ told c.before.before.before), omega arith)
 
-pub returns-in-Unreadable : goal.returns-in-Unreadable
+pub returns-in-Err-Unreadable : goal.returns-in-Err-Unreadable
 unfolding answered unreadable_line
-returns-in-Unreadable c =
+returns-in-Err-Unreadable c =
     let a = c.args in
-    let done = answers a.named a.input.now c.read.new.numbers a.out.now _ _ c.read.result _ (told c.before.before.before) c.in-Unreadable.is
+    let done = answers a.named a.input.now c.read.new.numbers a.out.now _ _ c.read.result _ (told c.before.before.before) (rw c.in-Err-Unreadable.field-0-is at c.in-Err-Unreadable.is)
     (first-printed c.put_unreadable.ensures) in
     record { written = done.0; counts = done.1; input_after = c.limit-end.ensures.1 }
 
-pub returns-in-Refused : goal.returns-in-Refused
+pub returns-in-Err-Refused : goal.returns-in-Err-Refused
 unfolding answered
-returns-in-Refused c =
+returns-in-Err-Refused c =
     let a = c.args in
-    let done = answers a.named a.input.now c.read.new.numbers a.out.now _ _ c.read.result _ (told c.before.before.before) c.in-Refused.is
+    let done = answers a.named a.input.now c.read.new.numbers a.out.now _ _ c.read.result _ (told c.before.before.before) (rw c.in-Err-Refused.field-0-is at c.in-Err-Refused.is)
     (first-printed c.put_refused.ensures) in
     record { written = done.0; counts = done.1; input_after = c.limit-end.ensures.1 }
 
-pub returns-in-Move : goal.returns-in-Move
-returns-in-Move c =
+pub returns-in-Ok : goal.returns-in-Ok
+returns-in-Ok c =
     let a = c.args in
-    let done = answers a.named a.input.now c.read.new.numbers a.out.now _ _ c.read.result _ (told c.before.before.before.before) c.in-Move.is
+    let done = answers a.named a.input.now c.read.new.numbers a.out.now _ _ c.read.result _ (told c.before.before.before.before) c.in-Ok.is
     c.put_move.ensures in
     record { written = done.0; counts = done.1; input_after = c.limit-end.ensures.1 }

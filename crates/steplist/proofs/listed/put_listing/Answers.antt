@@ -1,5 +1,5 @@
 -- The loop over the places shows every step once and counts them; with the end line that is the listing of the move.
-use Rattle.flash.proofs.Kit.{◌≡◌, refl, ◌+◌, ◌≤◌, arith}
+use Rattle.flash.proofs.Kit.{◌≡◌, ◌+◌, ◌≤◌, arith}
 use Rattle.split.specs.Request.{unpinned}
 use Rattle.method.specs.Move.{plan}
 use Rattle.steplist.proofs.LengthLaws.{few-steps, end_short}
@@ -20,13 +20,13 @@ shown c =
     let a = c.args in
     let l = c.loop-place in
     shows_more (plan (unpinned a.sizes a.list.now a.sets.now)) (running_of a.store.now a.marks.now a.work.now) l.place l.at l.writes l.erases
-    _ _ _ _ _ _ _ _ _ c.put_step-step.result l.invariant.0 c.put_step-step.ensures
+    _ _ _ _ _ _ _ _ _ c.put_step-step.result l.invariant c.put_step-step.ensures
 
 -- and few steps are counted
 counted : (c : lts.After-put_step tie.the-claims reads.Pre reads.Post goal.the-invariant-loop-place goal.the-decreases-loop-place tie.handed_clauses)
     → (let l = c.loop-place in let r = c.put_step-step.result in (l.writes + r.writes ≤ 144) × (l.erases + r.erases ≤ 144))
 counted c =
-    few-counted _ _ _ _ _ _ _ _ _ _ _ c.requires.0.few-blocks c.requires.0.few-pages (omega (arith, c.last_place-last.ensures)) (shown c)
+    few-counted _ _ _ _ _ _ _ _ _ _ _ c.requires.0.few-blocks c.requires.0.few-pages (omega (arith, c.last_place-place-end.ensures)) (shown c)
 
 -- behind the loop all steps are shown
 all-steps : (c : lts.After-loop tie.the-claims reads.Pre reads.Post goal.the-invariant-loop-place goal.the-decreases-loop-place tie.handed_clauses)
@@ -34,22 +34,16 @@ all-steps : (c : lts.After-loop tie.the-claims reads.Pre reads.Post goal.the-inv
     Shows (plan (unpinned a.sizes a.list.now a.sets.now)) (running_of a.store.now a.marks.now a.work.now)
     (last_place a.sizes) l.at l.writes l.erases a.out.now l.out l.store l.marks l.work)
 all-steps c =
-    let all : c.loop-place.place ≡ last_place c.args.sizes = omega (arith, c.last_place-last.ensures) in
-    rw all at c.loop-place.invariant.0
+    let all : c.loop-place.place ≡ last_place c.args.sizes = omega (arith, c.last_place-place-end.ensures) in
+    rw all at c.loop-place.invariant
 
-pub last_place-last-requires : goal.last_place-last-requires
-last_place-last-requires c = (omega (arith, c.requires.0.few-blocks), omega (arith, c.requires.0.few-pages))
+pub last_place-place-end-requires : goal.last_place-place-end-requires
+last_place-place-end-requires c = (omega (arith, c.requires.0.few-blocks), omega (arith, c.requires.0.few-pages))
 
 pub loop-place-init : goal.loop-place-init
 loop-place-init c =
-    let a = c.args in (
-      shows-none (plan (unpinned a.sizes a.list.now a.sets.now)) (running_of a.store.now a.marks.now a.work.now) a.out.now,
-      omega arith,
-      refl,
-      refl,
-      refl,
-      refl,
-    )
+    let a = c.args in
+    shows-none (plan (unpinned a.sizes a.list.now a.sets.now)) (running_of a.store.now a.marks.now a.work.now) a.out.now
 
 pub put_step-step-requires : goal.put_step-step-requires
 put_step-step-requires c =
@@ -58,8 +52,8 @@ put_step-step-requires c =
     let last = few-steps a.sizes c.requires.0.few-blocks c.requires.0.few-pages in
     record {
       listable = listable-at (unpinned a.sizes a.list.now a.sets.now) (running_of a.store.now a.marks.now a.work.now) l.place _ c.requires.0
-          (omega (arith, c.last_place-last.ensures)) l.invariant.0.left;
-      place_bound = (omega (arith, c.last_place-last.ensures), omega (arith, l.invariant.0.at_high));
+          (omega (arith, c.last_place-place-end.ensures)) l.invariant.left;
+      place_bound = (omega (arith, c.last_place-place-end.ensures), omega (arith, l.invariant.at_high));
     }
 
 pub overflow_add-writes : goal.overflow_add-writes
@@ -69,14 +63,7 @@ pub overflow_add-erases : goal.overflow_add-erases
 overflow_add-erases c = omega (arith, counted c.before.before.before.before.before.before.before.before.before.before.before)
 
 pub loop-place-preserved : goal.loop-place-preserved
-loop-place-preserved c = (
-  shown c.before.before.before.before.before.before.before.before.before.before.before,
-  omega arith,
-  omega arith,
-  omega arith,
-  omega arith,
-  omega arith,
-)
+loop-place-preserved c = shown c.before.before.before.before.before.before.before.before.before.before.before
 
 pub put_end-requires : goal.put_end-requires
 put_end-requires c =

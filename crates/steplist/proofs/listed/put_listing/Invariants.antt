@@ -1,5 +1,4 @@
 -- The loop over the places shows every step once and counts them; with the end line that is the listing of the move.
-use Rattle.flash.proofs.Kit.{◌≡◌, ◌-◌, ◌≤◌, length}
 use Rattle.split.specs.Request.{unpinned}
 use Rattle.method.specs.Move.{plan}
 use Rattle.method.specs.Step.{running_of}
@@ -10,8 +9,3 @@ abbrev pub invariant-loop-place : goal.invariant-loop-place
 invariant-loop-place l =
     Shows (plan (unpinned l.sizes l.list l.sets))
     (running_of l.initial.store l.initial.marks l.initial.work) l.place l.at l.writes l.erases l.initial.out l.out l.store l.marks l.work
-    × (l.place ≤ l.last) × (length l.out ≡ length l.initial.out) × (length l.store ≡ length l.initial.store)
-    × (length l.marks ≡ length l.initial.marks) × (length l.work ≡ length l.initial.work)
-
-abbrev pub decreases-loop-place : goal.decreases-loop-place
-decreases-loop-place l = l.last - l.place

@@ -1,5 +1,5 @@
 -- One step is taken as the run takes it, and its line printed.
-use Rattle.flash.proofs.Kit.{◌∙◌, arith}
+use Rattle.flash.proofs.Kit.{arith}
 use Rattle.split.specs.Request.{unpinned}
 use Rattle.method.specs.Move.{plan}
 use Rattle.method.specs.Step.{running_of}
@@ -32,14 +32,30 @@ put_line-next-requires c =
     let given = (run-taken (unpinned a.sizes a.list.now a.sets.now) _ _ _ a.place _ c.requires.listable.taken).accepted.ranges in
     record { bounds = (given, omega arith); work_in_bounds = omega (arith, (told c.before.before.before.before.before.before.before.before).short) }
 
-pub returns : goal.returns
-returns c =
+pub returns-in-Ok : goal.returns-in-Ok
+returns-in-Ok c =
     let a = c.args in
-    let one = told c.before.before.before.before.before.before.before.before.before.before.before.before.before in
+    let one =
+    one-step (unpinned a.sizes a.list.now a.sets.now)
+    (running_of a.store.now a.marks.now a.work.now) a.place c.requires.listable c.requires.place_bound.0 c.run_unpinned-ran.result _ _ _ c.run_unpinned-ran.ensures in
     record {
       left = one.left;
       printed = c.put_line-next.ensures;
       short = one.short;
-      writes-is = c.word.ensures ∙ one.writes-is;
-      erases-is = c.word-2.ensures ∙ one.erases-is;
+      writes-is = rw c.in-Ok.is at one.writes-is;
+      erases-is = rw c.in-Ok.is at one.erases-is;
+    }
+
+pub returns-in-Err : goal.returns-in-Err
+returns-in-Err c =
+    let a = c.args in
+    let one =
+    one-step (unpinned a.sizes a.list.now a.sets.now)
+    (running_of a.store.now a.marks.now a.work.now) a.place c.requires.listable c.requires.place_bound.0 c.run_unpinned-ran.result _ _ _ c.run_unpinned-ran.ensures in
+    record {
+      left = one.left;
+      printed = c.put_line-next.ensures;
+      short = one.short;
+      writes-is = rw c.in-Err.is at one.writes-is;
+      erases-is = rw c.in-Err.is at one.erases-is;
     }

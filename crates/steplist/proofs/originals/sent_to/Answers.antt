@@ -1,30 +1,32 @@
 -- `sent_to` finds the first entry that is the number.
-use Rattle.flash.proofs.Kit.{sym, ◌∙◌, arith, length, get_or, eqb, eq-eqb, ne_eqb, below_more}
-use Rattle.flash.specs.Lists.{range}
+use Rattle.std.proofs.Common.{rules, Option, Some, None, MatchOption, EachIndex, slice_index, unwrap_or}
+use Rattle.flash.proofs.Kit.{◌≡◌, sym, ◌∙◌, ◌≢◌, List, ℕ, ◌<◌, arith, length, get_or, eqb, eq-eqb, ne_eqb}
+use Rattle.flash.specs.Lists.{range, first}
 use Rattle.flash.proofs.Ranges.{none_is, first-is}
 use Rattle.flash.proofs.Searches.{first-none}
 use Rattle.steplist.proofs.originals.sent_to.Goals as goal
 
-pub loop-k-init : goal.loop-k-init
-loop-k-init c = (omega arith, λ j h. absurd (omega arith))
+module _ (list : List ℕ) (number : ℕ) where
+  -- where the first stands, if one does
+  abbrev Found : Option ℕ → Type 0
+  Found r =
+      MatchOption r (EachIndex list (λ k. slice_index list k ≢ number))
+      (λ i. (i < length list) × (slice_index list i ≡ number) × ((k : ℕ) → k < i → slice_index list k ≢ number))
 
-pub returns-then-entry-number : goal.returns-then-entry-number
-returns-then-entry-number c =
-    let l = c.loop-k in
-    let a = c.args in
-    sym (first-is (λ k. eqb (get_or a.list.now k 0) a.number) 0 (length a.list.now) 0 l.k (record {
-      low = omega arith;
-      high = omega arith;
-      passes = eq-eqb _ _ (sym c.entry.ensures ∙ c.if-entry-number.true);
-      before = λ j b h. l.invariant.1 j h;
-    }))
-
-pub loop-k-preserved : goal.loop-k-preserved
-loop-k-preserved c = (omega arith, below_more _ _ c.loop-k.invariant.1 (ne_eqb _ _ (λ e. c.if-entry-number.false (c.entry.ensures ∙ e))))
+  found : (r : Option ℕ) → Found r → unwrap_or r 0 ≡ first (λ k. eqb (get_or list k 0) number) (range 0 (length list)) 0
+  found None each =
+      sym (first-none (λ k. eqb (get_or list k 0) number) (range 0 (length list)) 0
+      (none_is (λ k. eqb (get_or list k 0) number) 0 (length list) (λ j b h. ne_eqb _ _ (each j (omega arith)))))
+  found (Some i) f =
+      sym (first-is (λ k. eqb (get_or list k 0) number) 0 (length list) 0 i (record {
+        low = omega arith;
+        high = omega (arith, f.0);
+        passes = eq-eqb _ _ f.1;
+        before = λ j b h. ne_eqb _ _ (f.2 j h);
+      }))
 
 pub returns : goal.returns
 returns c =
-    let l = c.loop-k in
     let a = c.args in
-    sym (first-none (λ k. eqb (get_or a.list.now k 0) a.number) (range 0 (length a.list.now)) 0
-    (none_is (λ k. eqb (get_or a.list.now k 0) a.number) 0 (length a.list.now) (λ j b h. l.invariant.1 j (omega arith))))
+    let told : Found a.list.now a.number c.position.result = search rules in
+    c.unwrap_or.ensures ∙ found a.list.now a.number c.position.result told

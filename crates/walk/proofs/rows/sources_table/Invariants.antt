@@ -1,11 +1,10 @@
 -- The table of sources is filled original by original.
-use Rattle.flash.proofs.Kit.{◌≡◌, ◌-◌, ◌≤◌, length}
+use Rattle.flash.proofs.Kit.{◌≡◌, ◌+◌, ◌*◌}
 use Rattle.walk.specs.inner.Rows.{sources_by}
-use Rattle.walk.proofs.TableLaws.{Counts}
 use Rattle.walk.proofs.rows.sources_table.Given as goal
 
-abbrev pub invariant-loop-k : goal.invariant-loop-k
-invariant-loop-k l = (l.sources ≡ sources_by l.m l.list l.sets l.k l.initial.sources) × (l.k ≤ length l.sets) × Counts l.m l.k l.block l.page
+abbrev pub invariant-loop-block : goal.invariant-loop-block
+invariant-loop-block l = l.sources ≡ sources_by l.m l.moved.list.now l.moved.sets.now (l.block * l.m) l.initial.sources
 
-abbrev pub decreases-loop-k : goal.decreases-loop-k
-decreases-loop-k l = length l.sets - l.k
+abbrev pub invariant-loop-page : goal.invariant-loop-page
+invariant-loop-page l = l.sources ≡ sources_by l.m l.moved.list.now l.moved.sets.now (l.block * l.m + l.page) l.fn.sources

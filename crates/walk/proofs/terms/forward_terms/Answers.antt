@@ -13,21 +13,21 @@ use Rattle.walk.proofs.terms.forward_terms.Reads as reads
 use Rattle.walk.proofs.terms.forward_terms.Tie as tie
 
 -- the block that D(pred(i)) came from, and its number
-source : (c : lts.After-wide tie.the-claims reads.Pre reads.Post tie.handed_clauses) → (1 ≤ c.wide-u.result) × (c.wide-u.result ≤ c.args.sizes.n)
+source : (c : lts.After-from tie.the-claims reads.Pre reads.Post tie.handed_clauses) → (1 ≤ c.from-u.result) × (c.from-u.result ≤ c.args.sizes.n)
 source c =
     let at : c.args.block + 1 - 1 ≡ c.args.block = omega arith in
     let B = c.requires.pages_in.1 in
     let low = rw at at (B.low (c.args.block + 1) (omega arith) (omega arith)) in
     let high = rw at at (B.high (c.args.block + 1) (omega arith) (omega arith)) in
-    rw c.wide-u.ensures (low, high)
+    rw c.from-u.ensures (low, high)
 
-number_lt : (c : lts.After-wide2 tie.the-claims reads.Pre reads.Post tie.handed_clauses)
-    → (c.wide-u.result - 1) * c.args.sizes.m + c.wide.result < 4096
+number_lt : (c : lts.After-from2 tie.the-claims reads.Pre reads.Post tie.handed_clauses)
+    → (c.from-u.result - 1) * c.args.sizes.m + c.from.result < 4096
 number_lt c =
     let z = c.args.sizes in
     let v = source c.before.before in
-    let page : c.wide.result < z.m = rw c.wide.ensures (c.requires.pages_in.0.page-lt c.wide-u.result v.0 v.1) in
-    omega (arith, slot_lt z.m (c.wide-u.result - 1) c.wide.result z.n (omega (arith, v)) page, product_le z.n z.m {c = 64} {d = 64} c.requires.n_bound.0 c.requires.n_bound.1)
+    let page : c.from.result < z.m = rw c.from.ensures (c.requires.pages_in.0.page-lt c.from-u.result v.0 v.1) in
+    omega (arith, slot_lt z.m (c.from-u.result - 1) c.from.result z.n (omega (arith, v)) page, product_le z.n z.m {c = 64} {d = 64} c.requires.n_bound.0 c.requires.n_bound.1)
 
 inside : (c : lts.After-forward_slots tie.the-claims reads.Pre reads.Post tie.handed_clauses)
     → (let a = c.args in
@@ -42,24 +42,16 @@ inside c =
 left-few : (c : lts.After-rest_left tie.the-claims reads.Pre reads.Post tie.handed_clauses) → (1 ≤ c.rest_left-left.result.count) × (c.rest_left-left.result.count ≤ c.forward_slots-count.result)
 left-few c =
     let a = c.args in
-    let number = (c.wide-u.result - 1) * a.sizes.m + c.wide.result in
+    let number = (c.from-u.result - 1) * a.sizes.m + c.from.result in
     rest-few a.sizes.m (a.block + 1) a.drops.now number c.forward_slots-count.new.slots c.forward_slots-count.result c.forward_slots-count.ensures.1
     c.rest_left-left.result c.rest_left-left.ensures
 
 pub overflow_sub-u : goal.overflow_sub-u
 overflow_sub-u c = (source c.before).0
 
-pub overflow_mul-u : goal.overflow_mul-u
-overflow_mul-u c =
-    let a = c.args in
-    omega (arith, product_le (c.wide-u.result - 1) a.sizes.m {c = 64} {d = 64} (omega (arith, source c.before)) c.requires.n_bound.1)
-
 pub bounds-pages-u : goal.bounds-pages-u
 bounds-pages-u c =
     omega (arith, source c.before.before, c.requires.pages_in.0.room, c.requires.n_bound.0)
-
-pub overflow_add-u : goal.overflow_add-u
-overflow_add-u c = omega (arith, number_lt c.before)
 
 pub rest_left-left-requires : goal.rest_left-left-requires
 rest_left-left-requires c =
@@ -89,5 +81,5 @@ returns c =
       count_le_slots_length = rw (E.0, E.1) (omega (arith, among.0, G.2), among.1 ∙ G.3, among.2);
       by_index = λ list sets marks A P Q S. forward-adds a.sizes list sets a.drops.now A marks a.block S a.set c.requires.n_bound.2 a.pages.now a.sources.now P Q
           c.requires.pages_in.2 _ c.forward_slots-count.result fits G.0 c.rest_left-left.result c.first_left.result _
-          (c.rest_left-left.ensures ∙ rw (c.wide.ensures, c.wide-u.ensures)) E.0 E.1;
+          (c.rest_left-left.ensures ∙ rw (c.from.ensures, c.from-u.ensures)) E.0 E.1;
     }

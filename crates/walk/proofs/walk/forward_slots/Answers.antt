@@ -1,6 +1,5 @@
 -- The slots of a write in the forward pass are those of `forward_by`.
 use Rattle.flash.proofs.Kit.{sym, ◌∙◌, ◌≤◌, arith, length-set, eq-eqb, ne_eqb}
-use Rattle.flash.proofs.Bounds.{product_le}
 use Rattle.walk.specs.inner.Slots.{forward_by}
 use Rattle.walk.proofs.GatherLaws.{count-is, first-put}
 use Rattle.walk.proofs.RowLaws.{walk-some}
@@ -8,16 +7,6 @@ use Rattle.walk.proofs.walk.forward_slots.Goals as goal
 use Rattle.walk.proofs.walk.forward_slots.Lts as lts
 use Rattle.walk.proofs.walk.forward_slots.Reads as reads
 use Rattle.walk.proofs.walk.forward_slots.Tie as tie
-
-pub overflow_mul-own : goal.overflow_mul-own
-overflow_mul-own c =
-    let a = c.args in
-    omega (arith, product_le a.i a.sizes.m {c = 64} {d = 64} (omega arith) (omega arith))
-
-pub overflow_add-own : goal.overflow_add-own
-overflow_add-own c =
-    let a = c.args in
-    omega (arith, c.wide.ensures, c.requires.pages_in.0.page-lt a.i (omega arith) (omega arith), product_le a.i a.sizes.m {c = 64} {d = 64} (omega arith) (omega arith))
 
 some : (c : lts.After-go_back tie.the-claims reads.Pre reads.Post tie.handed_clauses) → 1 ≤ c.go_back-count.result
 some c = rw (count-is _ _ _ _ c.go_back-count.ensures) (walk-some _ _ _ _ _ _ (omega arith))
@@ -30,11 +19,11 @@ unfolding forward_by
 returns-then-slots-count c =
     let G = c.go_back-count.ensures in
     let F = first-put _ _ _ _ G _ (some c.before.before.before.before) in
-    (F.0 ∙ sym (rw (← c.wide.ensures, eq-eqb _ _ (sym F.2 ∙ c.if-slots-count.true))), omega arith, omega arith, simp length-set G.room)
+    (F.0 ∙ sym (rw (← c.from.ensures, eq-eqb _ _ (sym F.2 ∙ c.if-slots-count.true))), omega arith, omega arith, simp length-set G.room)
 
 pub returns : goal.returns
 unfolding forward_by
 returns c =
     let G = c.go_back-count.ensures in
     let F = first-put _ _ _ _ G _ (some c.before.before.before.before) in
-    (F.1 ∙ sym (rw (← c.wide.ensures, ne_eqb _ _ (λ e. c.if-slots-count.false (F.2 ∙ e)))), some c.before.before.before.before, omega (arith, G.few), simp length-set G.room)
+    (F.1 ∙ sym (rw (← c.from.ensures, ne_eqb _ _ (λ e. c.if-slots-count.false (F.2 ∙ e)))), some c.before.before.before.before, omega (arith, G.few), simp length-set G.room)

@@ -1,9 +1,9 @@
 -- `Place::operation` meets its contract: what the place holds tells the step.
-use Rattle.flash.proofs.Kit.{◌≡◌, sym, ap, ◌∙◌, ◌<◌, arith, eqb-true}
+use Rattle.flash.proofs.Kit.{◌≡◌, sym, ap, ◌∙◌, ◌<◌, eqb-true}
 use Rattle.flash.proofs.Bools.{both}
 use Rattle.method.specs.Place.{mark_of, last_place}
 use Rattle.places.specs.declared.place.Op.TheVariants.{Write}
-use Rattle.places.specs.inner.Place.{pass_of, op_of}
+use Rattle.places.specs.inner.Place.{pass_of}
 use Rattle.places.proofs.PlaceLaws.{all_done, goes_on, writes, page-full}
 use Rattle.places.proofs.place.Place.operation.Goals as goal
 use Rattle.places.proofs.place.Place.operation.Goals.{else-backward, then-backward}
@@ -19,12 +19,6 @@ returns-then-backward-block c =
 -- a step is left
 on : (c : lts.Else1 tie.the-claims reads.Pre reads.Post) → c.args.self.at < last_place c.args.sizes
 on c = goes_on c.args.sizes c.args.self c.requires.1 c.if-backward-block.false
-
-pub letter_after-requires : goal.letter_after-requires
-letter_after-requires c = elim c.if-backward.branch [
-  | then-backward w ↦ omega arith
-  | else-backward w ↦ omega arith
-]
 
 -- the letter is that of the pass
 mark : (c : lts.After-letter_after tie.the-claims reads.Pre reads.Post)
@@ -44,6 +38,3 @@ returns-then-page-sizes c =
 pub freed-requires : goal.freed-requires
 freed-requires c =
     (c.requires.1, on c.before.before, page-full c.args.sizes c.args.self c.requires.1 c.if-page-sizes.false)
-
-pub returns : goal.returns
-returns c = (sym (ap (op_of c.args.sizes) c.freed.ensures))

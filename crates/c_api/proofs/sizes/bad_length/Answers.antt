@@ -1,9 +1,0 @@
--- `bad_length` gives 1 where sizes are out of range.
-use Rattle.flash.proofs.Kit.{sym, ◌∙◌}
-use Rattle.c_api.proofs.sizes.bad_length.Goals as goal
-
-pub returns-then-in_range : goal.returns-then-in_range
-returns-then-in_range c = rw (sym c.in_range.ensures ∙ c.if-in_range.true)
-
-pub returns-else-in_range : goal.returns-else-in_range
-returns-else-in_range c = rw (sym c.in_range.ensures ∙ c.if-in_range.false)

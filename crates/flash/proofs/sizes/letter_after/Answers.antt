@@ -1,8 +1,0 @@
--- `letter_after` meets its contract.
-use Rattle.flash.proofs.Kit.{rules}
-use Rattle.flash.specs.Geometry.{letter}
-use Rattle.flash.proofs.sizes.letter_after.Goals as goal
-
-pub returns : goal.returns
-unfolding letter
-returns c = search rules
