@@ -8,7 +8,7 @@ use Rattle.flash.specs.Wear.{refreshed}
 use Rattle.flash.specs.Refusals.{number_of}
 use Rattle.flash.specs.declared.refusal.Refusal.{Refusal}
 use Rattle.std.specs.Prelude.{Result, Ok, Err}
-use Rattle.split.proofs.Refused.{some-number}
+use Rattle.flash.proofs.Refused.{some-number}
 use Rattle.flash.proofs.Bools.{bool_cases}
 use Rattle.split.specs.Request.{Request, request_of}
 use Rattle.split.specs.Answer.{SplitAnswer, split_answer}

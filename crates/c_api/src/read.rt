@@ -40,9 +40,9 @@ pub extern "C" fn mover_read(
         original as usize,
     );
     match answer {
-        Ok(rebuilt) => {
-            *count = rebuilt.count;
-            *bytes = rebuilt.bytes;
+        Ok(summed) => {
+            *count = summed.count;
+            *bytes = summed.bytes;
             0
         }
         Err(refusal) => {

@@ -38,7 +38,7 @@ pub fn is_bad_write(pages: &[u64], m: usize, block: usize, page: usize) -> bool
     !are_blank(&pages[first + page..first + m])
 }
 
-// All pages of a block become blank. Its part is lent on, so nothing beside it can change.
+// All pages of a block become blank. Only its part is filled, so nothing beside it can change.
 pub fn erase(pages: &mut [u64], m: usize, block: usize)
     requires { block * m + m ≤ length pages.old }
     ensures { pages.new ≡ block_erased m pages.old block }

@@ -4,6 +4,7 @@ pub mod Bools
 pub mod Comparisons
 pub mod CounterLaws
 pub mod Tables
+pub mod Refused
 pub mod Searches
 pub mod Filters
 pub mod Ranges

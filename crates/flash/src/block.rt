@@ -7,7 +7,7 @@ ghost use Rattle.flash.specs.Chip.{erased, is_full, erase_block};
 use crate::ERASED;
 use crate::bytes::is_filled;
 
-// A block's bytes, or its marks, are erased. Its part is lent on, so nothing beside it can change.
+// A block's bytes, or its marks, are erased. Only its part is filled, so nothing beside it can change.
 fn erase_part(bytes: &mut [u8], size: usize, block: usize)
     requires { block * size + size ≤ length bytes.old }
     ensures { bytes.new ≡ set_part size block bytes.old (replicate size erased) }

@@ -6,7 +6,8 @@ ghost use Rattle.flash.specs.inner.Unpaired.{unpaired};
 // The spare and the most data blocks.
 pub const BLOCKS: usize = 65;
 
-// A counter for each of blocks 0 to 64; the count of the most worn block and the lowest such block. The two may be wrong: `refresh` makes them afresh.
+// A counter for each of blocks 0 to 64; the count of the most worn block and the lowest such block. The two may be wrong: `refresh` makes them
+// afresh.
 #[derive(Clone, Copy)]
 pub struct Wear {
     pub counters: [u32; BLOCKS],
@@ -64,7 +65,8 @@ impl Wear {
         }
     }
 
-    // One erase of a block more: its counter is raised in place, and the pair is kept without a look at the others. A record by value would be copied for it.
+    // One erase of a block more: its counter is raised in place, and the pair is kept without a look at the others. A record by value would be
+    // copied for it.
     pub fn rise(&mut self, block: usize)
         requires { block < 65 }
         ensures { self.new ≡ risen block self.old }

@@ -66,7 +66,8 @@ impl Text<'_> {
     // The verdict, if the record at a position decides it: else the pass goes on behind it.
     pub fn judge_at(&self, at: usize, upper: usize, size: usize) -> Option<Result<(), Refusal>>
         requires { (at ≤ length self.now.codes.now) × (upper ≤ 65535) }
-        ensures { MatchOption result (Steps self.now.codes.now at upper size) (λ verdict. Stops self.now.codes.now at upper size (number_in verdict)) }
+        ensures { MatchOption result (Steps self.now.codes.now at upper size)
+            (λ verdict. Stops self.now.codes.now at upper size (number_in verdict)) }
     {
         if at == self.codes.len() {
             return Some(Err(Refusal::BadText));

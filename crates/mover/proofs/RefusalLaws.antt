@@ -5,7 +5,7 @@ use Rattle.flash.specs.Lists.{any}
 use Rattle.flash.specs.Refusals.{number_of}
 use Rattle.flash.specs.declared.refusal.Refusal.{Refusal}
 use Rattle.flash.specs.declared.refusal.Refusal.TheVariants.{BadPlace, BadWear}
-use Rattle.split.proofs.Refused.{some-number}
+use Rattle.flash.proofs.Refused.{some-number}
 use Rattle.flash.specs.Tables.{Row, first_fit, number_or0, refusal}
 use Rattle.flash.specs.Geometry.{in_range, original_count}
 use Rattle.flash.specs.Chip.{Chip}

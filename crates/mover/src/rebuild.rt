@@ -55,7 +55,8 @@ fn lose(page: &mut [u8]) -> u8
 fn zero_slots(rows: Rows, coded: Coded, zero: &mut [usize; ZERO]) -> usize
     requires { (1 ≤ coded.change) × (coded.change ≤ rows.moved.sizes.n) × (length zero.old ≡ zero_length) }
     ensures { let M = move_in rows.entry.moved in (result ≤ zero_length) × (length zero.new ≡ zero_length)
-        × ((marks : List ℕ) (found : Reading) (k : ℕ) → k < M.sizes.n * M.sizes.m → rows.entry.set ≡ set_of M.sets k → IsCoded M.sizes marks found coded
+        × ((marks : List ℕ) (found : Reading) (k : ℕ) → k < M.sizes.n * M.sizes.m → rows.entry.set ≡ set_of M.sets k
+        → IsCoded M.sizes marks found coded
         → take result zero.new ≡ zero_here M found k) }
 {
     if coded.backward {
@@ -125,8 +126,8 @@ fn rebuild_pages(
     area: &mut [u8],
     flags: &mut [u8],
 )
-    requires { (length store.now ≡ store_len moved.sizes) × (length area.old ≡ area_length moved.sizes) × (length flags.old ≡ flags_length moved.sizes)
-        × Seen (move_in moved) told × PagesTable (move_in moved) pages.now × SourcesTable (move_in moved) sources.now }
+    requires { (length store.now ≡ store_len moved.sizes) × (length area.old ≡ area_length moved.sizes)
+        × (length flags.old ≡ flags_length moved.sizes) × Seen (move_in moved) told × PagesTable (move_in moved) pages.now × SourcesTable (move_in moved) sources.now }
     ensures { let M = move_in moved.entry in (marks : List ℕ) (found : Reading) → Sees M marks found told
         → (area.new ≡ concat_map (λ k. rebuilt_page M.sizes.p (record { store = store.entry.now; marks = marks })
         (rebuilt_from M (seen marks) found slot k)) (range 0 (original_count M.sizes)))
@@ -156,8 +157,8 @@ fn rebuild_all(
     area: &mut [u8],
     flags: &mut [u8],
 )
-    requires { (length store.now ≡ store_len moved.sizes) × (length area.old ≡ area_length moved.sizes) × (length flags.old ≡ flags_length moved.sizes)
-        × Seen (move_in moved) told }
+    requires { (length store.now ≡ store_len moved.sizes) × (length area.old ≡ area_length moved.sizes)
+        × (length flags.old ≡ flags_length moved.sizes) × Seen (move_in moved) told }
     ensures { let M = move_in moved.entry in (marks : List ℕ) (found : Reading) → Sees M marks found told
         → (area.new ≡ concat_map (λ k. rebuilt_page M.sizes.p (record { store = store.entry.now; marks = marks })
         (rebuilt_from M (seen marks) found slot k)) (range 0 (original_count M.sizes)))

@@ -9,7 +9,7 @@ use flash::refusal::Refusal;
 use flash::sizes::Sizes;
 use walk::rows::TABLE;
 
-// Numbers 1, 2, 3, 11 and 4 of a rebuild, or 0 where none of them is given. An entry of 65535 names no page here.
+// Numbers 1, 2, 3, 11 and 4 of a rebuild, or `Ok` where none of them is given. An entry of 65535 names no page here.
 pub fn rebuild_refusal(
     sizes: Sizes,
     list: &[u16],

@@ -33,7 +33,7 @@ fn set_written(m: usize, table: &[u8], backward: bool, block: usize, page: usize
 }
 
 // What is summed for a write, by the rows of its set. The block that is being filled tells what the others are full of, so that the marks are not
-// looked at.
+// looked at. Two rows and not `Rows`: in the backward pass there is no row of sources, which would have to prove its fact.
 fn row_terms(
     prepared: Prepared,
     set: usize,
@@ -63,8 +63,8 @@ fn row_terms(
     forward_terms(sizes, set, pages, sources, drops, block, slots)
 }
 
-// The same, with rows that are taken from the tables, or filled first where only few steps are taken. The rows are chosen before, so that there is one
-// call of what sums them, which is then compiled in its place.
+// The same, with rows that are taken from the tables, or filled first where only few steps are taken. The rows are chosen before, so that there is
+// one call of what sums them, which is then compiled in its place.
 fn write_terms(
     prepared: Prepared,
     other: &[u8; TABLE],

@@ -10,7 +10,7 @@ use flash::refusal::Refusal;
 use flash::sizes::Sizes;
 use flash::wear::Wear;
 
-// The place in the move, and the erases, 0 or 1.
+// The place in the move, and the erases, 0 or 1: a count, as C is told it.
 #[derive(Clone, Copy)]
 pub struct Mended {
     pub place: u32,

@@ -21,4 +21,3 @@ pub mod PathLaws
 pub mod Filling
 pub mod PathEnds
 pub mod InverseLaws
-pub mod Refused

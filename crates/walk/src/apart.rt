@@ -1,4 +1,4 @@
-// Lists of slots, each the first of an array: whether one has a slot, and the slots of either but not of both.
+// Lists of slots: whether one has a slot, and the slots of either but not of both.
 ghost use Rattle.std.specs.Prelude.{◌≡◌, not, ◌++◌, ◌+◌, ◌≤◌, eqb, length, take};
 ghost use Rattle.flash.specs.Lists.{any, filter};
 ghost use Rattle.method.specs.Rebuild.{apart};

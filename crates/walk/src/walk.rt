@@ -72,7 +72,7 @@ pub fn go_back(
 }
 
 // On from block `start` of a set, over coded pages: until the next block is one from `done` on, whose page there is the last, or is
-// `stop`. Answers how many slots there are.
+// `stop`. Answers how many slots there are. Apart from `go_back`: the passes are two rules, which go opposite ways and end differently.
 pub fn go_on(
     sizes: Sizes,
     divisor: Divisor,

@@ -66,7 +66,7 @@ pub fn forward_zero(rows: Rows, i: usize, zero: &mut [usize; ZERO]) -> usize
     with_slot((i - 1) * m + rows.set, &rest[..more], zero)
 }
 
-// When the backward pass has written block b.
+// When the backward pass has written block b. Apart from `forward_zero`: each pass sums other slots to write its page.
 pub fn backward_zero(rows: Rows, b: usize, zero: &mut [usize; ZERO]) -> usize
     requires { (1 ≤ b) × (b ≤ rows.moved.sizes.n) × (length zero.old ≡ zero_length) }
     ensures { let M = move_in rows.entry.moved in (result ≤ zero_length) × (length zero.new ≡ zero_length) × ((begun : List ℕ)

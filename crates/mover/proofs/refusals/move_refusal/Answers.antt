@@ -7,7 +7,7 @@ use Rattle.split.specs.Pins.{moves_pinned}
 use Rattle.split.specs.Split.{is_split}
 use Rattle.split.specs.Request.{Request, request_of}
 use Rattle.split.proofs.DropLaws.{completed-length, completed-accepted, undropped-completed}
-use Rattle.split.proofs.Refused.{some-number}
+use Rattle.flash.proofs.Refused.{some-number}
 use Rattle.flash.specs.Lists.{any}
 use Rattle.flash.specs.Tables.{refusal}
 use Rattle.flash.specs.Refusals.{number_of, number_in}

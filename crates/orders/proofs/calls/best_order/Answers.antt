@@ -1,7 +1,7 @@
 -- `best_order` looks for a refusal, then for the best order, and asks for its y and page.
 use Rattle.std.proofs.lemmas.Result.{err_from_is_err_and}
 use Rattle.flash.proofs.Kit.{refl, sym, ap, ◌∙◌, ℕ, arith}
-use Rattle.split.proofs.Refused.{some-number}
+use Rattle.flash.proofs.Refused.{some-number}
 use Rattle.orders.specs.Dictionary.{order_at}
 use Rattle.orders.specs.inner.Calls.{least_as}
 use Rattle.orders.proofs.RowLaws.{passed, surveyable, best-refused}

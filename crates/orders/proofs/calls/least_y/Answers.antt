@@ -1,7 +1,7 @@
 -- `least_y` looks for a refusal, then at the pages.
 use Rattle.std.proofs.lemmas.Result.{err_from_is_err_and}
 use Rattle.flash.proofs.Kit.{sym, arith}
-use Rattle.split.proofs.Refused.{some-number}
+use Rattle.flash.proofs.Refused.{some-number}
 use Rattle.orders.proofs.RowLaws.{passed, surveyable, least-refused, least-17}
 use Rattle.orders.proofs.CallLaws.{least-answered}
 use Rattle.orders.proofs.calls.least_y.Goals as goal

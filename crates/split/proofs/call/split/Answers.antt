@@ -4,7 +4,7 @@ use Rattle.std.proofs.lemmas.Result.{err_from_is_err_and}
 use Rattle.flash.proofs.Kit.{◌≢◌, refl, sym, ap, ◌∙◌, arith}
 use Rattle.flash.specs.Refusals.{number_of}
 use Rattle.split.specs.Rule.{split_by_rule}
-use Rattle.split.proofs.Refused.{some-number}
+use Rattle.flash.proofs.Refused.{some-number}
 use Rattle.split.proofs.Answers.{lent-good, accepted, answered-0, left-completed, answered-refused, left-lent}
 use Rattle.split.proofs.call.split.Goals as goal
 

@@ -2,7 +2,7 @@
 use Rattle.std.proofs.lemmas.List.{map-id}
 use Rattle.flash.proofs.Kit.{arith, sym, ap, ◌∙◌, ◌≢◌, length}
 use Rattle.flash.specs.Refusals.{number_in}
-use Rattle.split.proofs.Refused.{some-number}
+use Rattle.flash.proofs.Refused.{some-number}
 use Rattle.split.specs.Answer.{SplitAnswer}
 use Rattle.listing.proofs.InputLaws.{bounded}
 use Rattle.listing.proofs.PrintLaws.{first-printed}
