@@ -76,6 +76,17 @@ pub fn position(bytes: &[u8], value: u8) -> u8
     found
 }
 
+// The bytes of one part are put into another. Where the compiler does not see that the two lie apart, it makes `memmove` of `copy_from_slice`, a name
+// that a program for a chip need not have; of this loop, in a function of its own, it makes `memcpy`.
+pub fn copy(target: &mut [u8], source: &[u8])
+    requires { length source.now ≡ length target.old }
+    ensures { target.new ≡ source.now }
+{
+    for (i, byte) in target.iter_mut().enumerate() {
+        *byte = source[i];
+    }
+}
+
 // How many of a few bytes are not erased. They are counted in a byte, since vector instructions add as many at once as they compare.
 pub fn count_few(bytes: &[u8]) -> u8
     requires { length bytes.now ≤ 128 }

@@ -15,6 +15,14 @@ pub struct Divisor {
     ghost inverts: { reciprocal ≡ reciprocal_of by },
 }
 
+// What a page number is multiplied by, for m pages a block.
+pub fn reciprocal(m: usize) -> usize
+    requires { 1 ≤ m }
+    ensures { result ≡ reciprocal_of m }
+{
+    SCALE / m + 1
+}
+
 impl Divisor {
     pub fn new(by: usize) -> Divisor
         requires { (1 ≤ by) × (by ≤ 64) }
@@ -22,7 +30,7 @@ impl Divisor {
     {
         Divisor {
             by,
-            reciprocal: SCALE / by + 1,
+            reciprocal: reciprocal(by),
         }
     }
 

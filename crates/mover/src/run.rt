@@ -20,6 +20,7 @@ use crate::prepared::Prepared;
 use crate::refusals::move_refusal;
 use crate::step::step;
 use crate::wear::is_worn_out;
+use flash::bytes::copy;
 use flash::quotient::Divisor;
 use flash::refusal::Refusal;
 use flash::sizes::Sizes;
@@ -84,7 +85,7 @@ fn keep_last_page(sizes: Sizes, store: &[u8], at: usize, work: &mut [u8])
     let last = Place::new(sizes, at);
     let slot = last.block * sizes.m + last.page.min(sizes.m - 1);
     let start = slot * sizes.p;
-    work.copy_from_slice(&store[start..start + sizes.p]);
+    copy(work, &store[start..start + sizes.p]);
 }
 
 // Takes the steps of a run that is not refused, and tells them. The other table holds the sets by destination, as the check of the move left it.

@@ -32,8 +32,8 @@ overflow_add-start c =
     let is : c.new-last.result.block * c.args.sizes.m + c.min.result ≡ last_slot c.args.sizes c.args.at = rw (c.min.ensures, T.0, T.1) in
     rw is (omega (arith, last-inside _ c.requires.0 _ c.requires.1))
 
-pub slice_bounds-copy_from_slice-end : goal.slice_bounds-copy_from_slice-end
-slice_bounds-copy_from_slice-end c =
+pub slice_bounds-copy-end : goal.slice_bounds-copy-end
+slice_bounds-copy-end c =
     let T = last-told _ c.requires.0 _ c.requires.1 _ c.new-last.ensures in
     let is : c.new-last.result.block * c.args.sizes.m + c.min.result ≡ last_slot c.args.sizes c.args.at = rw (c.min.ensures, T.0, T.1) in
     rw is (omega (arith, last-inside _ c.requires.0 _ c.requires.1, c.requires.2))
@@ -45,4 +45,4 @@ returns c =
     let T = last-told _ c.requires.0 _ c.requires.1 _ c.new-last.ensures in
     let is : c.new-last.result.block * c.args.sizes.m + c.min.result ≡ last_slot c.args.sizes c.args.at = rw (c.min.ensures, T.0, T.1) in
     let e : last_slot c.args.sizes c.args.at * P + P - last_slot c.args.sizes c.args.at * P ≡ P = omega arith in
-    rw (c.copy_from_slice.ensures.after, is, e)
+    rw (c.copy.ensures, is, e)
